@@ -1,0 +1,3 @@
+pub mod Counts
+pub mod Host
+pub mod Items
