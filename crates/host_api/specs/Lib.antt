@@ -1,3 +1,15 @@
+pub mod Contents
 pub mod Counts
+pub mod Crash
+pub mod Disk
+pub mod Edge
+pub mod Entries
+pub mod Front
 pub mod Host
 pub mod Items
+pub mod Memory
+pub mod Outcome
+pub mod Past
+pub mod PastLaws
+pub mod Reading
+pub mod Replayed

@@ -1,6 +1,11 @@
 ghost use Rattle.std.specs.Prelude.{◌≡◌, ℕ, ◌+◌, ◌^◌, ◌≤◌, Bool, List, ◌++◌, length, slice_range, IsTrue, IfOk, OnOk};
 ghost use Rattle.host_api.specs.Counts.{Counts};
 
+use std::alloc::{AllocError, AllocFailed};
+
+// the most bytes that a file may have
+pub(crate) const FILE_LIMIT: u64 = 1 << 62;
+
 /// A call on the output or on a file failed, and the host counted it.
 #[derive(Clone, Copy, Debug, PartialEq, Eq)]
 pub struct Failed;
@@ -8,6 +13,18 @@ pub struct Failed;
 /// No memory was found.
 #[derive(Clone, Copy, Debug, PartialEq, Eq)]
 pub struct NoMemory;
+
+impl From<AllocError> for NoMemory {
+    fn from(_error: AllocError) -> NoMemory {
+        NoMemory
+    }
+}
+
+impl<T: Drop> From<AllocFailed<T>> for NoMemory {
+    fn from(_error: AllocFailed<T>) -> NoMemory {
+        NoMemory
+    }
+}
 
 /// One of the two journal files.
 #[derive(Clone, Copy, Debug, PartialEq, Eq)]

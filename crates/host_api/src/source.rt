@@ -1,8 +1,21 @@
-ghost use Rattle.std.specs.Prelude.{ℕ, Bool, List, IsTrue, IfOk, OnErr};
+ghost use Rattle.std.specs.Prelude.{◌≡◌, ◌<◌, ℕ, Bool, List, length, take, slice_index, IsTrue, MatchOption, IfOk, OnErr};
 ghost use Rattle.host_api.specs.Items.{split, item_of, Next, IsSuffix};
 ghost use Rattle.host_api.specs.Counts.{SourceCounts};
+ghost use Rattle.host_api.specs.Reading.{IsLine};
 
-use std::alloc::Global;
+use std::alloc::{AllocError, Global};
+
+// the most bytes that a line may have
+pub(crate) const LINE_LIMIT: usize = 4_194_304;
+// the most bytes that one call skips
+pub(crate) const SKIP_LIMIT: usize = 4_294_967_296;
+
+// where the first newline is
+pub(crate) fn newline_in(text: &[u8]) -> Option<usize>
+    ensures { MatchOption result (IsLine text.now) (λ i. (i < length text.now) × IsLine (take i text.now) × (slice_index text.now i ≡ 10)) }
+{
+    text.iter().position(|byte| *byte == b'\n')
+}
 
 /// What a call of [`Source::line`] found.
 #[derive(Clone, Copy, Debug, PartialEq, Eq)]
@@ -22,6 +35,17 @@ pub enum SourceFault {
     Failed,
     /// There was no memory for the line.
     NoMemory,
+}
+
+impl From<AllocError> for SourceFault {
+    ghost use Rattle.std.specs.Prelude.{◌≡◌};
+    ghost use Rattle.host_api.specs.declared.source.SourceFault.TheVariants as fault;
+
+    ghost from_gives = { λ _ e. e ≡ fault.NoMemory };
+
+    fn from(_error: AllocError) -> SourceFault {
+        SourceFault::NoMemory
+    }
 }
 
 /// Lines, one at a time.

@@ -1,0 +1,425 @@
+#!/usr/bin/env python3
+"""Reads and writes journal files, from the description in docs/FORMATS.md alone.
+
+    journal_reader.py read FILE0 FILE1            says what the two files give (a missing file has no bytes)
+    journal_reader.py compare [--program P] [--pairs N] [--seed S]
+                                                  N random pairs of damaged files: does the program say the same?
+
+It shares nothing with the program: it is another reader of the same description, so that a mistake in one of them shows.
+"""
+import argparse
+import json
+import os
+import random
+import struct
+import sys
+import tempfile
+
+sys.dont_write_bytecode = True
+sys.path.insert(0, os.path.dirname(os.path.abspath(__file__)))
+from client import NAME_FRONT, find_program, get_line, run_lines  # noqa: E402
+
+MAGIC = b"FSJRNL1"
+OPEN = 1
+HEADER = 16
+FIRST_SECOND, LAST_SECOND = -62135596800, 253402300799
+
+
+class Foreign(Exception):
+    """The file is neither blank nor a journal file."""
+
+
+class NoCommit(Exception):
+    """The bytes spell no commit."""
+
+
+# ---- the files ----------------------------------------------------------------------------------------------------
+
+def is_blank(content):
+    return len(content) < HEADER or content[0] != OPEN
+
+
+def records(content):
+    """The payloads, and the place of the first closed gate."""
+    payloads, at = [], HEADER
+    while True:
+        if at >= len(content):
+            raise Foreign
+        if content[at] != OPEN:
+            return payloads, at
+        front = content[at + 1:at + 9]
+        if len(front) < 8:
+            raise Foreign
+        length = int.from_bytes(front, "big")
+        if length > len(content) - (at + 9):
+            raise Foreign
+        payloads.append(content[at + 9:at + 9 + length])
+        at += 9 + length
+
+
+def read_file(content):
+    """None where it is blank; else its generation, its payloads and the place of its first closed gate."""
+    if is_blank(content):
+        return None
+    generation = int.from_bytes(content[8:16], "big")
+    if content[1:8] != MAGIC or generation == 0:
+        raise Foreign
+    return (generation, *records(content))
+
+
+def read_pair(contents):
+    """What the two files give: ("foreign", file), ("blank",), or ("counts", file, generation, payloads, end)."""
+    read = []
+    for number, content in enumerate(contents):
+        try:
+            read.append(read_file(content))
+        except Foreign:
+            return ("foreign", number)
+    zero, one = read
+    if zero is None and one is None:
+        return ("blank",)
+    counting = 0 if one is None or zero is not None and zero[0] >= one[0] else 1
+    return ("counts", counting, *read[counting])
+
+
+def formatted(content):
+    """A blank first file, once a store was made of it. What stood behind its 17 bytes is left."""
+    fresh = bytes([OPEN]) + MAGIC + (1).to_bytes(8, "big") + b"\0"
+    return fresh + content[len(fresh):]
+
+
+def appended(content, payload):
+    """A journal file with one record more."""
+    _, _, end = read_file(content)
+    piece = len(payload).to_bytes(8, "big") + payload + b"\0"
+    return content[:end] + bytes([OPEN]) + piece + content[end + 1 + len(piece):]
+
+
+# ---- the commits --------------------------------------------------------------------------------------------------
+
+def spell_text(text):
+    return len(text).to_bytes(8, "big") + text
+
+
+def spell_enqueue(batch, seconds, nanos, key, fields):
+    """The bytes of an Enqueue commit. The key is a list of segments, the fields are pairs of a name and a number."""
+    parts = [b"\1\1", batch.to_bytes(8, "big"), struct.pack(">qI", seconds, nanos), (1).to_bytes(8, "big"), b"\1"]
+    parts += [len(key).to_bytes(8, "big"), *map(spell_text, key)]
+    parts += [len(fields).to_bytes(8, "big")]
+    parts += [spell_text(name) + b"\2" + struct.pack(">q", number) for name, number in fields]
+    return b"".join(parts) + b"\0" + bytes(8) + b"\0"
+
+
+class Reader:
+    def __init__(self, content):
+        self.content, self.at = content, 0
+
+    def take(self, count):
+        if count > len(self.content) - self.at:
+            raise NoCommit
+        self.at += count
+        return self.content[self.at - count:self.at]
+
+    def number(self):
+        return int.from_bytes(self.take(8), "big")
+
+    def byte(self, wanted):
+        if self.take(1)[0] != wanted:
+            raise NoCommit
+
+    def text(self):
+        text = self.take(self.number())
+        try:
+            text.decode("utf-8")
+        except UnicodeDecodeError:
+            raise NoCommit
+        return text
+
+
+def is_reserved(name):
+    return len(name) >= 4 and name.startswith(b"__") and name.endswith(b"__")
+
+
+def is_field_name(name):
+    return 1 <= len(name) <= 1500 and not is_reserved(name)
+
+
+def is_segment(name):
+    return is_field_name(name) and b"/" not in name and name not in (b".", b"..")
+
+
+def read_list(reader, item):
+    found = []
+    for _ in range(reader.number()):
+        found.append(item())
+    return found
+
+
+def read_field(reader):
+    name = reader.text()
+    reader.byte(2)
+    return name, struct.unpack(">q", reader.take(8))[0]
+
+
+def read_enqueue(payload):
+    """The batch's number, the key and the fields of an Enqueue commit."""
+    reader = Reader(payload)
+    reader.byte(1)
+    reader.byte(1)
+    batch = reader.number()
+    seconds, nanos = struct.unpack(">qI", reader.take(12))
+    if not FIRST_SECOND <= seconds <= LAST_SECOND or nanos >= 1_000_000_000 or reader.number() != 1:
+        raise NoCommit
+    reader.byte(1)
+    key = read_list(reader, reader.text)
+    if not key or len(key) % 2 or not all(map(is_segment, key)):
+        raise NoCommit
+    fields = read_list(reader, lambda: read_field(reader))
+    names = [name for name, _ in fields]
+    if not all(map(is_field_name, names)) or any(a >= b for a, b in zip(names, names[1:])):
+        raise NoCommit
+    reader.byte(0)
+    if reader.number() != 0:
+        raise NoCommit
+    reader.byte(0)
+    if reader.at != len(payload):
+        raise NoCommit
+    return batch, tuple(key), fields
+
+
+def read_store(contents):
+    """The documents of the store that the two files are, by key; None where they are none."""
+    found = read_pair(contents)
+    if found[0] == "foreign":
+        return None
+    documents = {}
+    if found[0] == "counts":
+        _, _, generation, payloads, _ = found
+        if generation != 1:
+            return None
+        for number, payload in enumerate(payloads, 1):
+            try:
+                batch, key, fields = read_enqueue(payload)
+            except NoCommit:
+                return None
+            if batch != number:
+                return None
+            documents[key] = fields
+    return documents
+
+
+# ---- random damage ------------------------------------------------------------------------------------------------
+
+NAMES = [b"a", b"b", b"kitchen", b"r2"]
+
+
+def random_store(chance):
+    """The first file of a store of a few batches."""
+    content = formatted(b"")
+    for batch in range(1, chance.choice([0, 0, 1, 1, 2, 3, 5]) + 1):
+        names = sorted(chance.sample([b"m", b"n", b"size", b"x1"], chance.randint(0, 3)))
+        fields = [(name, chance.choice([0, 1, -1, 2**63 - 1, -2**63, chance.randint(-999, 999)])) for name in names]
+        key = [b"rooms", chance.choice(NAMES)]
+        content = appended(content, spell_enqueue(batch, 1714521600 + batch, 0, key, fields))
+    return content
+
+
+def noise(chance, most):
+    return bytes(chance.choice([0, 1, 255, chance.randrange(256)]) for _ in range(chance.randint(0, most)))
+
+
+def torn_append(chance, content):
+    """A crash inside an append: any bytes may stand in what was being written, at any length between."""
+    found = read_pair((content, b""))
+    if found[0] != "counts":
+        return content
+    end = found[4]
+    piece = bytearray(appended(content, spell_enqueue(len(found[3]) + 1, 1714521600, 0, [b"rooms", b"a"], [(b"n", 7)])))
+    if chance.random() < 0.5:
+        piece[end] = chance.choice([0, 2, 255, 1])
+        return bytes(piece)
+    piece[end] = content[end]
+    for at in range(end + 1, len(piece)):
+        if chance.random() < 0.3:
+            piece[at] = chance.randrange(256)
+    return bytes(piece[:chance.randint(len(content), len(piece))])
+
+
+def cut(chance, content):
+    return content[:chance.randint(0, len(content))]
+
+
+def change_byte(chance, content):
+    if not content:
+        return content
+    at = chance.randrange(len(content))
+    return content[:at] + bytes([chance.choice([0, 1, 2, 255, chance.randrange(256)])]) + content[at + 1:]
+
+
+def change_range(chance, content):
+    at = chance.randint(0, len(content))
+    piece = noise(chance, 20)
+    return content[:at] + piece + content[at + len(piece):]
+
+
+def grow(chance, content):
+    return content + noise(chance, 40)
+
+
+def change_generation(chance, content):
+    generation = chance.choice([0, 1, 2, 3, 2**63, 2**64 - 1])
+    return content[:8] + generation.to_bytes(8, "big") + content[16:]
+
+
+def change_length(chance, content):
+    if len(content) < HEADER + 9:
+        return content
+    length = chance.choice([0, 1, 97, 98, 96, 2**32, 2**63 - 1, 2**64 - 1, chance.randint(0, 300)])
+    return content[:HEADER + 1] + length.to_bytes(8, "big") + content[HEADER + 9:]
+
+
+def add_payload(chance, content):
+    """A record in the grammar whose payload is often no commit, or not the next one."""
+    try:
+        payload = spell_enqueue(chance.choice([1, 2, 3, 2**64 - 1]), chance.choice([0, FIRST_SECOND, FIRST_SECOND - 1, LAST_SECOND, LAST_SECOND + 1]),
+                                chance.choice([0, 999_999_999, 1_000_000_000]),
+                                chance.choice([[b"rooms", b"a"], [b"rooms"], [], [b"r", b"a", b"s", b"b"], [b"rooms", b"__x__"], [b"rooms", b".."], [b"a/b", b"c"], [b"rooms", b"\xff"]]),
+                                chance.choice([[], [(b"n", 1)], [(b"n", 1), (b"m", 2)], [(b"n", 1), (b"n", 2)], [(b"__n__", 1)], [(b"", 1)], [(b"m", 1), (b"n", 2)]]))
+        if chance.random() < 0.3:
+            payload = chance.choice([change_byte, cut, grow])(chance, payload)
+        return appended(content, payload)
+    except (Foreign, TypeError):
+        return content
+
+
+def closed_header(chance, content):
+    return bytes([chance.choice([0, 2, 255])]) + content[1:]
+
+
+DAMAGES = [cut, change_byte, change_range, grow, change_generation, change_length, add_payload, closed_header,
+           torn_append, torn_append]
+
+
+def damaged(chance):
+    content = random_store(chance)
+    for _ in range(chance.choice([0, 1, 1, 1, 2, 3])):
+        content = chance.choice(DAMAGES)(chance, content)
+    return content
+
+
+def random_pair(chance):
+    kind = chance.random()
+    if kind < 0.6:
+        return damaged(chance), b""
+    if kind < 0.7:
+        return chance.choice([b"", noise(chance, 30), closed_header(chance, damaged(chance))]), damaged(chance)
+    if kind < 0.75:
+        return noise(chance, 60), noise(chance, 60)
+    return damaged(chance), damaged(chance)
+
+
+# ---- the comparison -----------------------------------------------------------------------------------------------
+
+def wanted_answers(documents):
+    lines = []
+    for name in NAMES:
+        fields = documents.get((b"rooms", name))
+        body = {"exists": fields is not None, "name": NAME_FRONT + "rooms/" + name.decode(),
+                "state": "unknown" if fields is None else "pending"}
+        if fields:
+            body["fields"] = {key.decode(): {"integerValue": str(number)} for key, number in fields}
+        lines.append({"document": body})
+    return lines
+
+
+def put_files(folder, contents):
+    for number, content in enumerate(contents):
+        path = os.path.join(folder, "journal.%d" % number)
+        if content or number == 0:
+            with open(path, "wb") as file:
+                file.write(content)
+        elif os.path.exists(path):
+            os.remove(path)
+
+
+def get_files(folder):
+    contents = []
+    for number in (0, 1):
+        path = os.path.join(folder, "journal.%d" % number)
+        contents.append(open(path, "rb").read() if os.path.exists(path) else b"")
+    return tuple(contents)
+
+
+def disagreement(program, folder, contents):
+    """Runs the program over the pair; says where it and this reader differ, or None."""
+    put_files(folder, contents)
+    status, output = run_lines(program, folder, [get_line("rooms/" + name.decode()) for name in NAMES])
+    documents = read_store(contents)
+    left = get_files(folder)
+    if documents is None:
+        if status != 7 or output:
+            return "no store, but the status is %d with %d bytes of output" % (status, len(output))
+        return None if left == contents else "no store, and its files were changed"
+    if status != 0:
+        return "a store, but the status is %d" % status
+    if [json.loads(line) for line in output.splitlines()] != wanted_answers(documents):
+        return "a store, but the answers are %s" % output.decode("utf-8", "replace")
+    kept = (formatted(contents[0]), contents[1]) if read_pair(contents)[0] == "blank" else contents
+    return None if left == kept else "a store, but its files became %s" % [content.hex() for content in left]
+
+
+def compare(program, pairs, seed):
+    chance, counts = random.Random(seed), {}
+    with tempfile.TemporaryDirectory(prefix="journal-reader-", dir="/dev/shm" if os.path.isdir("/dev/shm") else None) as folder:
+        for number in range(1, pairs + 1):
+            contents = random_pair(chance)
+            found = read_pair(contents)
+            kind = "foreign %d" % found[1] if found[0] == "foreign" else found[0]
+            if kind == "counts":
+                kind = "no store's payloads" if read_store(contents) is None else "file %d, %d payloads" % (found[1], len(found[3]))
+            counts[kind] = counts.get(kind, 0) + 1
+            wrong = disagreement(program, folder, contents)
+            if wrong:
+                print("pair %d of seed %d: %s" % (number, seed, wrong))
+                print("  journal.0 %s\n  journal.1 %s" % (contents[0].hex(), contents[1].hex()))
+                return 1
+    for kind in sorted(counts):
+        print("%7d  %s" % (counts[kind], kind))
+    print("%d pairs of files, seed %d: the program and this reader agree on all" % (pairs, seed))
+    return 0
+
+
+def show(paths):
+    contents = [open(path, "rb").read() if os.path.exists(path) else b"" for path in paths]
+    found = read_pair(contents)
+    if found[0] != "counts":
+        print(*found)
+        return 0
+    _, counting, generation, payloads, end = found
+    print("file %d counts, generation %d, %d payloads, first closed gate at byte %d" % (counting, generation, len(payloads), end))
+    for payload in payloads:
+        try:
+            batch, key, fields = read_enqueue(payload)
+            print(batch, "/".join(part.decode() for part in key), {name.decode(): number for name, number in fields})
+        except NoCommit:
+            print("no commit:", payload.hex())
+    return 0
+
+
+def main():
+    parser = argparse.ArgumentParser(description=__doc__.split("\n")[0])
+    verbs = parser.add_subparsers(dest="verb", required=True)
+    reading = verbs.add_parser("read")
+    reading.add_argument("files", nargs=2)
+    comparing = verbs.add_parser("compare")
+    comparing.add_argument("--program")
+    comparing.add_argument("--pairs", type=int, default=10000)
+    comparing.add_argument("--seed", type=int, default=1)
+    words = parser.parse_args()
+    if words.verb == "read":
+        return show(words.files)
+    return compare(find_program(words.program), words.pairs, words.seed)
+
+
+if __name__ == "__main__":
+    sys.exit(main())

@@ -1,0 +1,38 @@
+//! `fsclient`: the offline core of a Cloud Firestore client, over a folder, the standard input and the standard output.
+#![tactic(auto)]
+
+mod usage;
+mod words;
+
+use client_run::{Status, run_client};
+use host_api::{FileHost, StdSource};
+use std::io::BufReader;
+use std::process::ExitCode;
+
+use crate::usage::print_usage;
+use crate::words::{folder_of, words_of};
+
+/// Runs what the words ask for over the folder that they name, the standard input and the standard output.
+fn run<R: Files + Print + Input + Env + AllocGlobal + Clone + Drop>(rt: &R) -> Status {
+    let words = match words_of(rt) {
+        Ok(words) => words,
+        Err(status) => return status,
+    };
+    let (Ok(reader), Ok(handle)) = (BufReader::new(rt.alloc(), rt.reader()), rt.clone()) else {
+        return Status::NoMemory;
+    };
+    let Some(folder) = folder_of(rt.alloc(), words.as_slice()) else {
+        return Status::NoMemory;
+    };
+    let mut source = StdSource::new(reader);
+    let mut host = FileHost::new(handle, folder);
+    run_client(rt.alloc(), words.as_slice(), &mut source, &mut host)
+}
+
+fn main(rt: HostRuntime) -> ExitCode {
+    let status = run(&rt);
+    if status == Status::Usage {
+        let _ = print_usage(&rt);
+    }
+    ExitCode::from(status as u8)
+}

@@ -1,0 +1,32 @@
+use client_run::Status;
+use std::alloc::Global;
+use std::env;
+use std::io::ErrorKind;
+
+/// The words behind the program's name.
+///
+/// # Errors
+/// `Usage` where a word isn't UTF-8; or `NoMemory`.
+pub fn words_of<R: Env + AllocGlobal>(rt: &R) -> Result<Vec<String>, Status> {
+    let mut given = match env::args(rt) {
+        Ok(given) => given,
+        Err(error) if error.kind() == ErrorKind::OutOfMemory => return Err(Status::NoMemory),
+        Err(_) => return Err(Status::Usage),
+    };
+    let _ = given.next();
+    let mut words = Vec::new(rt.alloc());
+    for word in given {
+        if words.push(word).is_err() {
+            return Err(Status::NoMemory);
+        }
+    }
+    Ok(words)
+}
+
+/// The folder that the words name: the second one, or else nothing.
+pub fn folder_of(alloc: Global, words: &[String]) -> Option<String> {
+    match words.get(1) {
+        Some(folder) => String::from_str(alloc, folder.as_str()).ok(),
+        None => Some(String::new(alloc)),
+    }
+}

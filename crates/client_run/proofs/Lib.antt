@@ -1,0 +1,14 @@
+pub mod Began
+pub mod Committed
+pub mod Entries
+pub mod Lines
+pub mod Named
+pub mod Numerals
+pub mod Printed
+pub mod Replayed
+pub mod Served
+pub mod Spelled
+pub mod Wording
+pub mod OneReading
+pub mod Opened
+pub mod Handled

@@ -1,0 +1,56 @@
+-- What an opening finds.
+use Rattle.std.specs.declared.alloc.Global.{Global}
+use Rattle.mutations.specs.declared.Batch.{Batch}
+use Rattle.std.proofs.Common.{◌+◌, length, ◌≡◌, Bool, ℕ, List, [], ◌∷◌, map, Vec, IsTrue, Result, Ok, Err, IfErr, refl, sym, ap, subst, ◌∙◌}
+use Rattle.host_api.specs.declared.host.FileId.{FileId}
+use Rattle.host_api.specs.declared.host.FileId.TheVariants.{Zero, One}
+use Rattle.host_api.specs.Host.{Files, View}
+use Rattle.disk_journal.specs.File.{AreBlank, Gives, IsForeign, IsFirstForeign}
+use Rattle.disk_journal.specs.Steps.{Opens}
+use Rattle.disk_journal.specs.Opening.{IsCause}
+use Rattle.disk_journal.specs.declared.fault.OpenFault.{OpenFault}
+use Rattle.disk_journal.specs.declared.fault.OpenFault.TheVariants as fault
+use Rattle.disk_journal.proofs.Pairs.{gives_once, none_foreign}
+use Rattle.disk_journal.proofs.Openings.{blank_gives}
+use Rattle.client_run.specs.State.{State, start, Replays, FindsState}
+use Rattle.client_run.specs.Store.{IsNoStore, Refuses}
+
+foreign_of : (file : FileId) (files : Files) → IsFirstForeign file files → IsForeign (files file)
+foreign_of Zero files is = is
+foreign_of One files is = is.1
+
+not_blank_of : (file : FileId) (files : Files) → IsForeign (files file) → AreBlank files → ⊥
+not_blank_of Zero files foreign are = foreign.not_blank are.0
+not_blank_of One files foreign are = foreign.not_blank are.1
+
+-- a foreign file is no store, and stays
+foreign_refuses : (file : FileId) (old new : View) → IsFirstForeign file old.bytes → Opens old new → IsNoStore old.bytes × (new.bytes ≡ old.bytes)
+foreign_refuses file old new is opens =
+    let foreign = foreign_of file old.bytes is in
+    (λ s finds. none_foreign old.bytes 1 finds.payloads file finds.gives foreign, opens.kept (not_blank_of file old.bytes foreign))
+
+pub journal_refuses : (tells : Bool) (f : OpenFault) (old new : View) → IsTrue tells → IsCause tells f old new → Opens old new → Refuses f old new
+journal_refuses tells fault.DiskFault old new told cause opens = tt
+journal_refuses tells (fault.NotAStore file) old new told cause opens = foreign_refuses file old new (cause told) opens
+journal_refuses tells fault.NoMemory old new told cause opens = tt
+
+-- another generation than 1 is no store
+pub generation_refuses : (old new : View) (g : ℕ) (ps : List (List ℕ)) → Gives old.bytes g ps → (g ≡ 1 → ⊥) → (AreBlank old.bytes → g ≡ 1) → Opens old new → IsNoStore old.bytes × (new.bytes ≡ old.bytes)
+generation_refuses old new g ps gives other first opens =
+    (λ s finds. other (gives_once old.bytes g ps 1 finds.payloads gives finds.gives).0, opens.kept (λ are. other (first are)))
+
+-- payloads that lead nowhere are no store
+pub payloads_refuse : (old new : View) (g : ℕ) (ps : List (List ℕ)) → Gives old.bytes g ps → ((s : State) → Replays start ps s → ⊥) → Opens old new → IsNoStore old.bytes × (new.bytes ≡ old.bytes)
+payloads_refuse old new g ps gives none opens =
+    (λ s finds. none s (subst (λ (l : List (List ℕ)). Replays start l s) (sym (gives_once old.bytes g ps 1 finds.payloads gives finds.gives).1) finds.replays),
+    opens.kept (λ are. none start (subst (λ (l : List (List ℕ)). Replays start l start) (sym (blank_gives old.bytes g ps are gives).1) refl)))
+
+-- what a replay finds, in the words of an opening
+pub none_found : (ps qs : List (Vec ℕ Global)) → ps ≡ qs → ((s : State) → Replays start (map (λ p. p.items) ps) s → ⊥) → (s : State) → Replays start (map (λ p. p.items) qs) s → ⊥
+none_found ps qs same none s leads = none s (subst (λ (l : List (Vec ℕ Global)). Replays start (map (λ p. p.items) l) s) (sym same) leads)
+
+pub some_found : (ps qs : List (Vec ℕ Global)) (batches : List Batch) (n : ℕ) → ps ≡ qs → n ≡ length qs → Replays start (map (λ p. p.items) ps) (record { number = length ps; batches = batches; next_batch = length ps + 1 })
+    → Replays start (map (λ p. p.items) qs) (record { number = n; batches = batches; next_batch = n + 1 })
+some_found ps qs batches n same count leads =
+    subst (λ (k : ℕ). Replays start (map (λ p. p.items) qs) (record { number = k; batches = batches; next_batch = k + 1 })) (sym count)
+    (subst (λ (l : List (Vec ℕ Global)). Replays start (map (λ p. p.items) l) (record { number = length l; batches = batches; next_batch = length l + 1 })) same leads)

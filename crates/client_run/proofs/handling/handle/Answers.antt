@@ -1,0 +1,18 @@
+use Rattle.std.proofs.lemmas.Result.{IfOk-weaker}
+use Rattle.client_run.proofs.Handled.{turned_nothing}
+use Rattle.client_run.proofs.handling.handle.Goals as goal
+
+pub returns-in_default-clause-files : goal.returns-in_default-clause-files
+returns-in_default-clause-files g c = λ told payloads is past line. turned_nothing _ _ is
+
+pub returns-in_default-print_document-clause-files : goal.returns-in_default-print_document-clause-files
+returns-in_default-print_document-clause-files g c = λ told payloads is past line. turned_nothing _ _ is
+
+pub returns-in-Line-Write-clause-state : goal.returns-in-Line-Write-clause-state
+returns-in-Line-Write-clause-state g c = rw (c.in-Line-Write.is, c.in-Line-Write.field-0-is) (IfOk-weaker c.handle_write.result _ _ (λ next h past. h c.args.root.now past) c.handle_write.ensures.state)
+
+pub returns-in-Line-Write-clause-out : goal.returns-in-Line-Write-clause-out
+returns-in-Line-Write-clause-out g c = λ told past line. rw (c.in-Line-Write.is, c.in-Line-Write.field-0-is) (c.handle_write.ensures.out told c.args.root.now past)
+
+pub returns-in-Line-Write-clause-files : goal.returns-in-Line-Write-clause-files
+returns-in-Line-Write-clause-files g c = λ told payloads is past line. rw (c.in-Line-Write.is, c.in-Line-Write.field-0-is) (c.handle_write.ensures.files told payloads is c.args.root.now past)

@@ -1,0 +1,10 @@
+pub mod Grammar
+pub mod Output
+pub mod Reading
+pub mod Run
+pub mod State
+pub mod Store
+pub mod Trees
+pub mod Turn
+pub mod Turned
+pub mod Words

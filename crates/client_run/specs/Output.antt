@@ -1,0 +1,67 @@
+-- The lines that are written: compact JSON, members in the order of their names, each line with its newline.
+use Rattle.std.specs.Prelude.{ℕ, ◌+◌, Bool, true, false, List, [], ◌∷◌, ◌++◌, codes, Option, Some, None, fold}
+use Rattle.std.specs.Fmt.{signed_decimal}
+use Rattle.serde_json.specs.Data.{Data, boolean, number, unsigned, string, object, Members, no_members, put}
+use Rattle.serde_json.specs.Written.{compact_text}
+use Rattle.document_keys.specs.Names.{Root, name_text}
+use Rattle.value_model.specs.declared.value.Value.{Value}
+use Rattle.value_model.specs.declared.value.Value.TheVariants.{Integer}
+use Rattle.value_model.specs.declared.fields.Field.{Field}
+use Rattle.client_run.specs.Trees.{one, two, three, four}
+use Rattle.client_run.specs.declared.refusal.Refusal.{Refusal}
+use Rattle.client_run.specs.declared.refusal.Refusal.TheVariants.{LineTooLong, BadLine, Unsupported}
+
+-- a tree as a line
+unfoldable pub line_of : Data → List ℕ
+line_of d = compact_text d ++ 10 ∷ []
+
+abbrev pub count : ℕ → Data
+count n = number (unsigned n)
+
+-- `{"ok":{"batch":B,"commit":N}}`
+abbrev pub ok_tree : ℕ → ℕ → Data
+ok_tree batch commit = one (codes "ok") (two (codes "batch") (count batch) (codes "commit") (count commit))
+
+abbrev pub too_long_tree : ℕ → Data
+too_long_tree line = one (codes "refused") (three (codes "cause") (string (codes "LineTooLong")) (codes "line") (count line) (codes "number") (count 11))
+
+abbrev pub bad_line_tree : ℕ → Data
+bad_line_tree line = one (codes "refused") (four (codes "cause") (string (codes "BadLine")) (codes "line") (count line) (codes "member") (string []) (codes "number") (count 1))
+
+abbrev pub unsupported_tree : ℕ → List ℕ → Data
+unsupported_tree line name = one (codes "refused") (four (codes "cause") (string (codes "Unsupported")) (codes "line") (count line) (codes "member") (string name) (codes "number") (count 3))
+
+-- what a refusal prints at this line of the run, from 1
+abbrev pub refused_tree : ℕ → Refusal → Data
+refused_tree line LineTooLong = too_long_tree line
+refused_tree line BadLine = bad_line_tree line
+refused_tree line (Unsupported member) = unsupported_tree line member
+
+-- a value: a whole number as a text
+abbrev pub value_tree : Value → Data
+value_tree (Integer z) = one (codes "integerValue") (string (signed_decimal z))
+
+-- the members of fields, put one after another
+abbrev pub put_field : Members → Field → Members
+put_field members field = put field.name (value_tree field.value) members
+
+unfoldable pub fields_tree : List Field → Data
+fields_tree fields = object (fold put_field no_members fields)
+
+-- a document that isn't there
+abbrev pub missing_tree : List ℕ → Data
+missing_tree name = one (codes "document") (three (codes "exists") (boolean false) (codes "name") (string name) (codes "state") (string (codes "unknown")))
+
+-- a document without fields, which a pending write names
+abbrev pub empty_tree : List ℕ → Data
+empty_tree name = one (codes "document") (three (codes "exists") (boolean true) (codes "name") (string name) (codes "state") (string (codes "pending")))
+
+-- a document with these fields, which a pending write names
+abbrev pub found_tree : List ℕ → Data → Data
+found_tree name fields = one (codes "document") (four (codes "exists") (boolean true) (codes "fields") fields (codes "name") (string name) (codes "state") (string (codes "pending")))
+
+-- `{"document":{..}}`: `fields` stands only where the document exists and has some
+abbrev pub document_tree : Root → List (List ℕ) → Option (List Field) → Data
+document_tree root key None = missing_tree (name_text root key)
+document_tree root key (Some []) = empty_tree (name_text root key)
+document_tree root key (Some (field ∷ fields)) = found_tree (name_text root key) (fields_tree (field ∷ fields))

@@ -1,0 +1,49 @@
+-- The durable state, what a commit does to it, and the states that payloads and files stand for.
+use Rattle.std.specs.Prelude.{◌≡◌, ℕ, ◌+◌, ◌<◌, List, [], ◌∷◌, ◌++◌, Bool, Option, Some, None, fold, nat_eq, if◌then◌else◌}
+use Rattle.std.specs.Cmp.Lexicographic.{pointwise}
+use Rattle.host_api.specs.Host.{Files}
+use Rattle.disk_journal.specs.File.{Gives}
+use Rattle.value_model.specs.declared.fields.Field.{Field}
+use Rattle.mutations.specs.declared.Batch.{Batch}
+use Rattle.record_codec.specs.declared.commit.Commit.{Commit}
+use Rattle.record_codec.specs.declared.commit.Commit.TheVariants.{Enqueue}
+use Rattle.record_codec.specs.Spelling.{spelling, HasSpelling}
+
+-- the number of commits, the pending batches in order, and the id of the next batch
+pub record State : Type 0 where
+  pub number : ℕ
+  pub batches : List Batch
+  pub next_batch : ℕ
+
+abbrev pub start : State
+start = record { number = 0; batches = []; next_batch = 1 }
+
+-- a batch joins the pending ones under the next id
+abbrev pub Fits : State → Commit → Type 0
+Fits s (Enqueue batch) = (batch.id ≡ s.next_batch) × (s.number < 9223372036854775807)
+
+abbrev pub committed : State → Commit → State
+committed s (Enqueue batch) = record { number = s.number + 1; batches = s.batches ++ batch ∷ []; next_batch = s.next_batch + 1 }
+
+-- The payloads, one after another, spell commits that fit, and lead from one state to the other.
+abbrev pub Replays : State → List (List ℕ) → State → Type 0
+Replays s [] t = t ≡ s
+Replays s (payload ∷ payloads) t = (commit : Commit) × HasSpelling commit × (payload ≡ spelling commit) × Fits s commit × Replays (committed s commit) payloads t
+
+-- The state that two files give: their payloads lead to it. The generation is 1, since no payload is a checkpoint.
+pub record FindsState (files : Files) (s : State) : Type 0 where
+  pub payloads : List (List ℕ)
+  pub gives : Gives files 1 payloads
+  pub replays : Replays start payloads s
+
+-- two keys are equal
+abbrev pub same_key : List (List ℕ) → List (List ℕ) → Bool
+same_key = pointwise (pointwise nat_eq)
+
+-- a document after a batch: an update of its key replaces all fields
+abbrev pub after_batch : List (List ℕ) → Option (List Field) → Batch → Option (List Field)
+after_batch key document batch = if same_key batch.write.key key then Some batch.write.fields else document
+
+-- the document of a key: nothing, and then every pending batch, in order
+unfoldable pub local_document : List Batch → List (List ℕ) → Option (List Field)
+local_document batches key = fold (after_batch key) None batches

@@ -1,0 +1,44 @@
+-- What an open store stands for.
+use Rattle.std.specs.Prelude.{◌≡◌, ℕ, List, [], ◌∷◌, ◌++◌, Result, IfOk}
+use Rattle.host_api.specs.Counts.{Rises}
+use Rattle.host_api.specs.Host.{Files, View, Spans}
+use Rattle.disk_journal.specs.Steps.{GivesBeforeOrAfter}
+use Rattle.disk_journal.specs.Place.{IsOpen}
+use Rattle.disk_journal.specs.declared.fault.OpenFault.{OpenFault}
+use Rattle.disk_journal.specs.declared.fault.OpenFault.TheVariants as fault
+use Rattle.client_run.specs.State.{State, start, Replays, FindsState}
+use Rattle.client_run.specs.declared.local_store.LocalStore.{LocalStore}
+use Rattle.client_run.specs.declared.committing.StoreFault.{StoreFault}
+use Rattle.client_run.specs.declared.committing.StoreFault.TheVariants as store_fault
+
+abbrev pub state_of : LocalStore → State
+state_of store = record { number = store.number; batches = store.pending.items; next_batch = store.next_batch }
+
+-- The journal is open with these payloads, and they lead to the store's state.
+pub record IsStored (store : LocalStore) (payloads : List (List ℕ)) (v : View) : Type 0 where
+  pub open_with : IsOpen store.journal payloads v
+  pub generation : store.journal.generation ≡ 1
+  pub replays : Replays start payloads (state_of store)
+
+-- two files that are no store: they give no state
+abbrev pub IsNoStore : Files → Type 0
+IsNoStore files = (s : State) → FindsState files s → ⊥
+
+-- A refusal of the files has its cause in them, and leaves each byte as it was.
+abbrev pub Refuses : OpenFault → View → View → Type 0
+Refuses fault.DiskFault old new = Unit {0}
+Refuses (fault.NotAStore file) old new = IsNoStore old.bytes × (new.bytes ≡ old.bytes)
+Refuses fault.NoMemory old new = Unit {0}
+
+-- A commit whose payload this is: what a read gives, and what a crash now or at any moment of the call may have left,
+-- gives the payloads with the new one or without it, and after an `Ok` with it.
+pub record Commits (payloads : List (List ℕ)) (payload : List ℕ) (result : Result LocalStore StoreFault) (old new : View) : Type 0 where
+  pub done : IfOk result (λ next. IsStored next (payloads ++ payload ∷ []) new)
+  pub bytes : GivesBeforeOrAfter 1 payloads payload new.bytes
+  pub crash : (c : Files) → new.may_leave c → GivesBeforeOrAfter 1 payloads payload c
+  pub time : Spans old new (λ o c. (o ≡ old.out) × GivesBeforeOrAfter 1 payloads payload c)
+
+-- a disk fault rose its count
+abbrev pub IsStoreCause : StoreFault → View → View → Type 0
+IsStoreCause store_fault.DiskFault old new = Rises old.disk_faults new.disk_faults
+IsStoreCause store_fault.NoMemory old new = Unit {0}

@@ -1,0 +1,17 @@
+-- JSON objects with one to four members.
+use Rattle.std.specs.Prelude.{ℕ, List}
+use Rattle.serde_json.specs.Data.{Data, object, Members, no_members, member}
+
+-- an object with this member alone
+abbrev pub one : List ℕ → Data → Data
+one name d = object (member name d no_members)
+
+-- an object with these two members alone
+abbrev pub two : List ℕ → Data → List ℕ → Data → Data
+two first d second e = object (member first d (member second e no_members))
+
+abbrev pub three : List ℕ → Data → List ℕ → Data → List ℕ → Data → Data
+three a x b y c z = object (member a x (member b y (member c z no_members)))
+
+abbrev pub four : List ℕ → Data → List ℕ → Data → List ℕ → Data → List ℕ → Data → Data
+four a x b y c z d w = object (member a x (member b y (member c z (member d w no_members))))

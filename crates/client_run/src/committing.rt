@@ -1,0 +1,79 @@
+ghost use Rattle.std.specs.Prelude.{◌≡◌, ℕ, ◌+◌, ◌^◌, ◌≤◌, ◌<◌, List, length, IsTrue, IfOk, IfErr};
+ghost use Rattle.std.specs.Vec.{vec_len, vec_capacity};
+ghost use Rattle.host_api.specs.Host.{KeepsOut};
+ghost use Rattle.record_codec.specs.Spelling.{spelling, HasSpelling};
+ghost use Rattle.client_run.specs.State.{Fits, committed};
+ghost use Rattle.client_run.specs.Store.{IsStored, Commits, IsStoreCause, state_of};
+
+use disk_journal::Frame;
+use document_keys::NoMemory;
+use host_api::Host;
+use record_codec::{Commit, encode};
+use std::alloc::Global;
+
+use crate::local_store::LocalStore;
+use crate::opening::enqueued;
+
+/// Why a commit wasn't made.
+#[derive(Clone, Copy, Debug, PartialEq, Eq)]
+pub enum StoreFault {
+    /// The disk failed, and the host counted it. The commit may have been made.
+    DiskFault,
+    /// No memory was found. Nothing was written.
+    NoMemory,
+}
+
+/// The frame of the commit's payload.
+fn frame_of(alloc: Global, commit: &Commit) -> Result<Frame, NoMemory>
+    ensures { IfOk result (λ frame. frame ≡ spelling commit.now) }
+{
+    let payload = encode(alloc, commit)?;
+    match Frame::make(alloc, payload.as_slice()) {
+        Ok(frame) => Ok(frame),
+        Err(_) => Err(NoMemory),
+    }
+}
+
+impl LocalStore {
+    /// Makes the commit: its record is on the disk before the state changes. All memory is taken before the first call
+    /// of the host. The store is consumed, and after a failure there is none, so that nothing is written behind what may
+    /// have been torn.
+    ///
+    /// # Errors
+    /// `DiskFault` only where the count of disk faults rose; `NoMemory`.
+    pub fn commit<H: Host>(self, alloc: Global, host: &mut H, commit: Commit) -> Result<LocalStore, StoreFault>
+        requires stored { IsTrue H.tells_files → (payloads : List (List ℕ)) × IsStored self payloads (H.view host.old) }
+        requires fits { Fits (state_of self) commit }
+        requires has_spelling { HasSpelling commit }
+        ensures state { IfOk result (λ store. state_of store ≡ committed (state_of self) commit) }
+        ensures files { IsTrue H.tells_files → (payloads : List (List ℕ)) → IsStored self payloads (H.view host.old) → Commits payloads (spelling commit) result (H.view host.old) (H.view host.new) }
+        ensures out { KeepsOut (H.view host.old) (H.view host.new) }
+        ensures later { (H.view host.old).disk_faults ≤ (H.view host.new).disk_faults }
+        ensures cause { IfErr result (λ fault. IsStoreCause fault (H.view host.old) (H.view host.new)) }
+    {
+        let Ok(frame) = frame_of(alloc, &commit) else {
+            return Err(StoreFault::NoMemory);
+        };
+        let LocalStore {
+            journal,
+            number,
+            next_batch,
+            mut pending,
+        } = self;
+        let Ok(()) = pending.reserve(1) else {
+            return Err(StoreFault::NoMemory);
+        };
+        let Ok(journal) = journal.append(host, &frame) else {
+            return Err(StoreFault::DiskFault);
+        };
+        let Ok(()) = pending.push(enqueued(commit)) else {
+            unreachable!();
+        };
+        Ok(LocalStore {
+            journal,
+            number: number + 1,
+            next_batch: next_batch + 1,
+            pending,
+        })
+    }
+}

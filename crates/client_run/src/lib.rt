@@ -1,0 +1,30 @@
+//! The run of a client: lines in, answers out, a journal between.
+#![tactic(auto)]
+
+mod client;
+mod committing;
+mod event;
+mod handling;
+mod laws;
+mod line;
+mod local_store;
+mod lookup;
+mod members;
+mod names;
+mod numbers;
+mod opening;
+mod printing;
+mod reading;
+mod refusal;
+mod running;
+mod serving;
+mod status;
+#[cfg(test)]
+mod tests;
+mod tree;
+mod words;
+
+pub use client::run_client;
+pub use laws::one_reading;
+pub use running::run_within;
+pub use status::Status;

@@ -1,0 +1,145 @@
+ghost use Rattle.std.specs.Prelude.{◌≡◌, ℕ, ◌++◌, List, [], ◌∷◌, true, false, IfOk, Option, Some, None, codes, option_copied};
+ghost use Rattle.std.specs.String.{string_bytes};
+ghost use Rattle.serde_json.specs.View.{view};
+ghost use Rattle.serde_json.specs.Written.{has_float};
+ghost use Rattle.serde_json.specs.Data.{string};
+ghost use Rattle.document_keys.specs.Names.{Root, name_text};
+ghost use Rattle.client_run.specs.Trees.{one};
+ghost use Rattle.client_run.specs.Output.{line_of, ok_tree, too_long_tree, bad_line_tree, unsupported_tree, refused_tree, fields_tree, value_tree, missing_tree, empty_tree, found_tree, document_tree};
+
+use document_keys::{Database, DocumentKey, NoMemory};
+use serde_json::{Map, Value as Json, json};
+use std::alloc::{AllocError, Global};
+use value_model::{Field, Fields, Value};
+
+use crate::refusal::Refusal;
+
+/// The tree as a line, with its newline.
+#[tactic(auto, unfolding(crate::specs::Output::line_of))]
+fn print_line(alloc: Global, json: &Json) -> Result<String, NoMemory>
+    requires { has_float (view json.now) ≡ false }
+    ensures { IfOk result (λ line. string_bytes line ≡ line_of (view json.now)) }
+{
+    let mut line = json.to_string(alloc)?;
+    line.push('\n')?;
+    Ok(line)
+}
+
+fn ok_json(alloc: Global, batch: u64, commit: u64) -> Result<Json, AllocError>
+    ensures { IfOk result (λ json. view json ≡ ok_tree batch commit) }
+{
+    json!(in alloc; {"ok": {"batch": batch, "commit": commit}})
+}
+
+/// The answer of a write.
+pub fn print_ok(alloc: Global, batch: u64, commit: u64) -> Result<String, NoMemory>
+    ensures { IfOk result (λ line. string_bytes line ≡ line_of (ok_tree batch commit)) }
+{
+    let json = ok_json(alloc, batch, commit)?;
+    print_line(alloc, &json)
+}
+
+fn too_long_json(alloc: Global, line: u64) -> Result<Json, AllocError>
+    ensures { IfOk result (λ json. view json ≡ too_long_tree line) }
+{
+    json!(in alloc; {"refused": {"cause": "LineTooLong", "line": line, "number": 11u64}})
+}
+
+fn bad_line_json(alloc: Global, line: u64) -> Result<Json, AllocError>
+    ensures { IfOk result (λ json. view json ≡ bad_line_tree line) }
+{
+    json!(in alloc; {"refused": {"cause": "BadLine", "line": line, "member": "", "number": 1u64}})
+}
+
+fn unsupported_json(alloc: Global, line: u64, name: &str) -> Result<Json, AllocError>
+    ensures { IfOk result (λ json. view json ≡ unsupported_tree line name.now) }
+{
+    json!(in alloc; {"refused": {"cause": "Unsupported", "line": line, "member": name, "number": 3u64}})
+}
+
+/// The answer of a refused line, which is this line of the run, from 1.
+pub fn print_refusal(alloc: Global, line: u64, refusal: &Refusal) -> Result<String, NoMemory>
+    ensures { IfOk result (λ text. string_bytes text ≡ line_of (refused_tree line refusal.now)) }
+{
+    let json = match refusal {
+        Refusal::LineTooLong => too_long_json(alloc, line)?,
+        Refusal::BadLine => bad_line_json(alloc, line)?,
+        Refusal::Unsupported(member) => unsupported_json(alloc, line, member.as_str())?,
+    };
+    print_line(alloc, &json)
+}
+
+fn integer_json(alloc: Global, text: &str) -> Result<Json, AllocError>
+    ensures { IfOk result (λ json. view json ≡ one (codes "integerValue") (string text.now)) }
+{
+    json!(in alloc; {"integerValue": text})
+}
+
+/// The tree of a value.
+fn value_json(alloc: Global, value: &Value) -> Result<Json, NoMemory>
+    ensures { IfOk result (λ json. view json ≡ value_tree value.now) }
+{
+    match value {
+        Value::Integer(number) => {
+            let text = number.to_string(alloc)?;
+            Ok(integer_json(alloc, text.as_str())?)
+        }
+    }
+}
+
+/// The tree of fields.
+#[tactic(auto, unfolding(crate::specs::Output::fields_tree))]
+fn fields_json(alloc: Global, fields: &[Field]) -> Result<Json, NoMemory>
+    ensures digits { IfOk result (λ json. has_float (view json) ≡ false) }
+    ensures tree { IfOk result (λ json. view json ≡ fields_tree fields.now) }
+{
+    let mut members = Map::new(alloc);
+    for field in fields {
+        let name = String::from_str(alloc, field.name.as_str())?;
+        members.insert(name, value_json(alloc, &field.value)?)?;
+    }
+    Ok(Json::Object(members))
+}
+
+fn missing_json(alloc: Global, name: &str) -> Result<Json, AllocError>
+    ensures { IfOk result (λ json. view json ≡ missing_tree name.now) }
+{
+    json!(in alloc; {"document": {"exists": false, "name": name, "state": "unknown"}})
+}
+
+fn empty_json(alloc: Global, name: &str) -> Result<Json, AllocError>
+    ensures { IfOk result (λ json. view json ≡ empty_tree name.now) }
+{
+    json!(in alloc; {"document": {"exists": true, "name": name, "state": "pending"}})
+}
+
+fn found_json(alloc: Global, name: &str, fields: Json) -> Result<Json, AllocError>
+    ensures { IfOk result (λ json. view json ≡ found_tree name.now (view fields)) }
+{
+    json!(in alloc; {"document": {"exists": true, "fields": fields, "name": name, "state": "pending"}})
+}
+
+fn document_json(alloc: Global, name: &str, fields: &Fields) -> Result<Json, NoMemory>
+    ensures digits { IfOk result (λ json. has_float (view json) ≡ false) }
+    ensures tree { IfOk result (λ json. (root : Root) (key : List (List ℕ)) → name.now ≡ name_text root key → view json ≡ document_tree root key (Some fields.now)) }
+{
+    let fields = fields.as_slice();
+    if fields.is_empty() {
+        return Ok(empty_json(alloc, name)?);
+    }
+    let fields = fields_json(alloc, fields)?;
+    Ok(found_json(alloc, name, fields)?)
+}
+
+/// The answer of a get, for the document as it stands with the pending writes.
+pub fn print_document(alloc: Global, root: &Database, key: &DocumentKey, document: Option<&Fields>) -> Result<String, NoMemory>
+    ensures { IfOk result (λ line. string_bytes line ≡ line_of (document_tree root.now key.now (option_copied document.entry))) }
+{
+    let name = key.print(alloc, root)?;
+    let Some(fields) = document else {
+        let json = missing_json(alloc, name.as_str())?;
+        return print_line(alloc, &json);
+    };
+    let json = document_json(alloc, name.as_str(), fields)?;
+    print_line(alloc, &json)
+}

@@ -1,0 +1,9 @@
+pub mod Held
+pub mod Lists
+pub mod Files
+pub mod Formats
+pub mod Appending
+pub mod Openings
+pub mod Pairs
+pub mod Parts
+pub mod Once

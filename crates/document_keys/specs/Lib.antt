@@ -1,0 +1,7 @@
+pub mod Faults
+pub mod KeySet
+pub mod Laws
+pub mod Names
+pub mod Order
+pub mod Paths
+pub mod Reader

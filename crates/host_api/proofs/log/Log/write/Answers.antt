@@ -1,0 +1,14 @@
+use Rattle.std.proofs.Common.{ap, ℕ, List}
+use Rattle.host_api.specs.Past as past
+use Rattle.host_api.proofs.Notes.{grows_noted, kept_write, pushed}
+use Rattle.host_api.proofs.log.Log.write.Goals as goal
+
+pub invariant_of-self-2 : goal.invariant_of-self-2
+invariant_of-self-2 c =
+    let notes = pushed _ _ _ _ _ c.reserve.ensures.items c.push_reserved.ensures.items (ap (λ (p : List ℕ). past.write c.args.file c.args.at p c.args.done) c.in_ok-copy.ensures) in
+    kept_write _ _ _ _ _ _ _ _ _ notes c.requires.within c.self.invariant c.in_ok-put.ensures.ok
+
+pub returns-clause-ok : goal.returns-clause-ok
+returns-clause-ok c =
+    let notes = pushed _ _ _ _ _ c.reserve.ensures.items c.push_reserved.ensures.items (ap (λ (p : List ℕ). past.write c.args.file c.args.at p c.args.done) c.in_ok-copy.ensures) in
+    rw (← c.self.view_is) (grows_noted _ _ _ c.self.invariant.numbered notes)

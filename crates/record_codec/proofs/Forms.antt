@@ -1,0 +1,57 @@
+-- Reading one part after another, for any kind of part.
+use Rattle.std.proofs.Common.{◌≡◌, ℕ, ◌+◌, ◌<◌, List, [], ◌∷◌, ◌++◌, length, refl, sym, ap, subst, ◌∙◌, append_assoc, arith}
+use Rattle.std.specs.List.{AllByRecursion, flat_map}
+use Rattle.std.proofs.lemmas.List.{append-nil, length-append}
+use Rattle.std.proofs.lemmas.List.Concat.{flat_map-append}
+use Rattle.record_codec.specs.Reading.{Begins, BeginsNone, AreMany}
+use Rattle.record_codec.proofs.Wide.{IsUnique}
+
+-- what was read is what any spelling at the front is of
+pub next : {X : Type 0} (spell : X → List ℕ) (Fits : X → Type 0) → IsUnique spell Fits → (bytes : List ℕ) (a : X) (rest : List ℕ) → Begins spell Fits bytes a rest
+    → (b : X) (more : List ℕ) → Fits b → bytes ≡ spell b ++ more → (a ≡ b) × (rest ≡ more)
+next spell Fits unique bytes a rest first b more fits e = unique a b rest more first.fits fits (sym first.parts ∙ e)
+
+-- a narrower kind of the same spelling
+pub narrower_none : {X : Type 0} (spell : X → List ℕ) (Fits Narrow : X → Type 0) → ((x : X) → Narrow x → Fits x) → (bytes : List ℕ) → BeginsNone spell Fits bytes → BeginsNone spell Narrow bytes
+narrower_none spell Fits Narrow wider bytes none x rest b = none x rest (record { parts = b.parts; fits = wider x b.fits })
+
+pub narrower_other : {X : Type 0} (spell : X → List ℕ) (Fits Narrow : X → Type 0) → ((x : X) → Narrow x → Fits x) → IsUnique spell Fits → (bytes : List ℕ) (a : X) (rest : List ℕ) → Begins spell Fits bytes a rest → ¬ (Narrow a) → BeginsNone spell Narrow bytes
+narrower_other spell Fits Narrow wider unique bytes a rest first not x more b =
+    let same = next spell Fits unique bytes a rest first x more (wider x b.fits) b.parts in
+    not (subst Narrow (sym same.0) b.fits)
+
+-- ---- lists
+
+all_push : {X : Type 0} (Fits : X → Type 0) (xs : List X) (x : X) → AllByRecursion Fits xs → Fits x → AllByRecursion Fits (xs ++ x ∷ [])
+all_push Fits [] x all one = (one, tt)
+all_push Fits (y ∷ xs) x all one = (all.0, all_push Fits xs x all.1 one)
+
+pub many_starts : {X : Type 0} (spell : X → List ℕ) (Fits : X → Type 0) (bytes : List ℕ) → Begins (flat_map spell) (AreMany Fits 0) bytes [] bytes
+many_starts spell Fits bytes = record { parts = refl; fits = record { len = refl; each = tt } }
+
+pub many_more : {X : Type 0} (spell : X → List ℕ) (Fits : X → Type 0) (bytes : List ℕ) (i : ℕ) (xs : List X) (rest : List ℕ) (x : X) (more : List ℕ)
+    → Begins (flat_map spell) (AreMany Fits i) bytes xs rest → Begins spell Fits rest x more → Begins (flat_map spell) (AreMany Fits (i + 1)) bytes (xs ++ x ∷ []) more
+many_more spell Fits bytes i xs rest x more before one =
+    let longer : flat_map spell (xs ++ x ∷ []) ≡ flat_map spell xs ++ spell x = flat_map-append spell xs (x ∷ []) ∙ ap (λ (t : List ℕ). flat_map spell xs ++ t) (append-nil (spell x)) in
+    record {
+      parts = before.parts ∙ ap (λ (t : List ℕ). flat_map spell xs ++ t) one.parts ∙ sym (append_assoc (flat_map spell xs) (spell x) more) ∙ ap (λ (t : List ℕ). t ++ more) (sym longer);
+      fits = record { len = omega (arith, before.fits.len, length-append xs (x ∷ [])); each = all_push Fits xs x before.fits.each one.fits };
+    }
+
+many_next : {X : Type 0} (spell : X → List ℕ) (Fits : X → Type 0) → IsUnique spell Fits → (xs ys : List X) (rest more : List ℕ) → AllByRecursion Fits xs → AllByRecursion Fits ys → length xs < length ys
+    → flat_map spell xs ++ rest ≡ flat_map spell ys ++ more → (y : X) × (after : List ℕ) × Begins spell Fits rest y after
+many_next spell Fits unique xs [] rest more fit_x fit_y less e = absurd (omega (arith, less))
+many_next spell Fits unique [] (y ∷ ys) rest more fit_x fit_y less e = (y, flat_map spell ys ++ more, record { parts = e ∙ append_assoc (spell y) (flat_map spell ys) more; fits = fit_y.0 })
+many_next spell Fits unique (x ∷ xs) (y ∷ ys) rest more fit_x fit_y less e =
+    let one = unique x y (flat_map spell xs ++ rest) (flat_map spell ys ++ more) fit_x.0 fit_y.0 (sym (append_assoc (spell x) (flat_map spell xs) rest) ∙ e ∙ append_assoc (spell y) (flat_map spell ys) more) in
+    many_next spell Fits unique xs ys rest more fit_x.1 fit_y.1 (omega (arith, less)) one.1
+
+pub many_none : {X : Type 0} (spell : X → List ℕ) (Fits : X → Type 0) → IsUnique spell Fits → (bytes : List ℕ) (count i : ℕ) (xs : List X) (rest : List ℕ) → i < count
+    → Begins (flat_map spell) (AreMany Fits i) bytes xs rest → BeginsNone spell Fits rest → BeginsNone (flat_map spell) (AreMany Fits count) bytes
+many_none spell Fits unique bytes count i xs rest less before none ys more b =
+    let one = many_next spell Fits unique xs ys rest more before.fits.each b.fits.each (omega (arith, less, before.fits.len, b.fits.len)) (sym before.parts ∙ b.parts) in
+    none one.0 one.1 one.2
+
+pub many_done : {X : Type 0} (spell : X → List ℕ) (Fits : X → Type 0) (bytes : List ℕ) (count i : ℕ) (xs : List X) (rest : List ℕ) → count ≡ i
+    → Begins (flat_map spell) (AreMany Fits i) bytes xs rest → Begins (flat_map spell) (AreMany Fits count) bytes xs rest
+many_done spell Fits bytes count i xs rest same all = rw same all

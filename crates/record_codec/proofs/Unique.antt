@@ -1,0 +1,159 @@
+-- No spelling is a front of another's: what two fronts of one list have spelled is one value.
+use Rattle.std.proofs.Common.{◌≡◌, ℕ, ◌^◌, ◌<◌, List, [], ◌∷◌, ◌++◌, length, refl, sym, ap, ◌∙◌, append_assoc, arith, FitsSigned}
+use Rattle.std.specs.Int.{w32, w64, to_be_bytes, cast_unsigned}
+use Rattle.std.specs.List.{AllByRecursion, flat_map}
+use Rattle.std.proofs.lemmas.Int.{ints}
+use Rattle.std.proofs.lemmas.List.Elements.{recursion_from_All}
+use Rattle.value_model.specs.Time.{IsMoment}
+use Rattle.value_model.specs.declared.timestamp.Timestamp.{Timestamp}
+use Rattle.value_model.specs.declared.value.Value.TheVariants.{Integer}
+use Rattle.value_model.specs.declared.fields.Field.{Field}
+use Rattle.mutations.specs.declared.Write.{Write}
+use Rattle.mutations.specs.declared.Batch.{Batch}
+use Rattle.record_codec.specs.declared.commit.Commit.{Commit}
+use Rattle.record_codec.specs.declared.commit.Commit.TheVariants.{Enqueue}
+use Rattle.record_codec.specs.Spelling.{number, text, key, time, value, field, fields, write, batch, spelling, IsNameText, IsSegmentText, IsSpelledValue, IsSpelledField, IsSpelledKey, AreSpelledFields, IsSpelledWrite, IsSpelledBatch, HasSpelling}
+use Rattle.record_codec.proofs.Wide.{IsUnique, fronts, unique_wide, wide32, unique_number, unique_signed}
+
+-- ---- how a spelling goes on
+
+pub text_on : (t s : List ℕ) → text t ++ s ≡ number (length t) ++ (t ++ s)
+unfolding text
+text_on t s = append_assoc (number (length t)) t s
+
+pub key_on : (k : List (List ℕ)) (s : List ℕ) → key k ++ s ≡ number (length k) ++ (flat_map text k ++ s)
+unfolding key
+key_on k s = append_assoc (number (length k)) (flat_map text k) s
+
+pub time_on : (t : Timestamp) (s : List ℕ) → time t ++ s ≡ number (cast_unsigned w64 t.seconds) ++ (to_be_bytes w32 t.nanos ++ s)
+unfolding time
+time_on t s = append_assoc (number (cast_unsigned w64 t.seconds)) (to_be_bytes w32 t.nanos) s
+
+pub field_on : (f : Field) (s : List ℕ) → field f ++ s ≡ text f.name ++ (value f.value ++ s)
+unfolding field
+field_on f s = append_assoc (text f.name) (value f.value) s
+
+pub fields_on : (fs : List Field) (s : List ℕ) → fields fs ++ s ≡ number (length fs) ++ (flat_map field fs ++ s)
+unfolding fields
+fields_on fs s = append_assoc (number (length fs)) (flat_map field fs) s
+
+-- no mask, no transform and no precondition
+abbrev pub plain : List ℕ
+plain = 0 ∷ (number 0 ++ 0 ∷ [])
+
+pub write_on : (w : Write) (s : List ℕ) → write w ++ s ≡ 1 ∷ (key w.key ++ (fields w.fields ++ (plain ++ s)))
+unfolding write
+write_on w s = ap (λ (r : List ℕ). 1 ∷ r) (append_assoc (key w.key) (fields w.fields ++ plain) s ∙ ap (λ (r : List ℕ). key w.key ++ r) (append_assoc (fields w.fields) plain s))
+
+pub batch_on : (b : Batch) (s : List ℕ) → batch b ++ s ≡ number b.id ++ (time b.at ++ (number 1 ++ (write b.write ++ s)))
+unfolding batch
+batch_on b s =
+    append_assoc (number b.id) (time b.at ++ (number 1 ++ write b.write)) s
+    ∙ ap (λ (r : List ℕ). number b.id ++ r) (append_assoc (time b.at) (number 1 ++ write b.write) s
+    ∙ ap (λ (r : List ℕ). time b.at ++ r) (append_assoc (number 1) (write b.write) s))
+
+-- ---- texts, and what follows one another
+
+-- a text of a length that eight bytes have
+abbrev pub IsShort : List ℕ → Type 0
+IsShort t = length t < 2 ^ 64
+
+pub unique_text : IsUnique text IsShort
+unique_text a b s t short_a short_b e =
+    let n = unique_number (length a) (length b) (a ++ s) (b ++ t) short_a short_b (sym (text_on a s) ∙ e ∙ text_on b t) in
+    fronts a b s t n.0 n.1
+
+pub unique_narrower : {X : Type 0} (spell : X → List ℕ) (Fits Narrow : X → Type 0) → ((x : X) → Narrow x → Fits x) → IsUnique spell Fits → IsUnique spell Narrow
+unique_narrower spell Fits Narrow wider unique a b s t fits_a fits_b e = unique a b s t (wider a fits_a) (wider b fits_b) e
+
+pub unique_many : {X : Type 0} (spell : X → List ℕ) (Fits : X → Type 0) → IsUnique spell Fits → (xs ys : List X) (s t : List ℕ) → length xs ≡ length ys → AllByRecursion Fits xs → AllByRecursion Fits ys
+    → flat_map spell xs ++ s ≡ flat_map spell ys ++ t → (xs ≡ ys) × (s ≡ t)
+unique_many spell Fits unique [] [] s t same fit_a fit_b e = (refl, e)
+unique_many spell Fits unique [] (b ∷ ys) s t same fit_a fit_b e = absurd (omega (arith, same))
+unique_many spell Fits unique (a ∷ xs) [] s t same fit_a fit_b e = absurd (omega (arith, same))
+unique_many spell Fits unique (a ∷ xs) (b ∷ ys) s t same fit_a fit_b e =
+    let one = unique a b (flat_map spell xs ++ s) (flat_map spell ys ++ t) fit_a.0 fit_b.0 (sym (append_assoc (spell a) (flat_map spell xs) s) ∙ e ∙ append_assoc (spell b) (flat_map spell ys) t) in
+    let others = unique_many spell Fits unique xs ys s t (omega (arith, same)) fit_a.1 fit_b.1 one.1 in
+    ((λ i. one.0 i ∷ others.0 i), others.1)
+
+-- ---- keys
+
+pub short_segment : (s : List ℕ) → IsSegmentText s → IsShort s
+short_segment s fits = omega (arith, fits.segment.long.most)
+
+pub unique_segment : IsUnique text IsSegmentText
+unique_segment = unique_narrower text IsShort IsSegmentText short_segment unique_text
+
+pub segment_texts : (k : List (List ℕ)) → IsSpelledKey k → AllByRecursion IsSegmentText k
+segment_texts k fits = recursion_from_All IsSegmentText k (λ i d below. record { utf8 = fits.texts i d below; segment = fits.names.segments i d below })
+
+pub unique_key : IsUnique key IsSpelledKey
+unique_key a b s t fits_a fits_b e =
+    let n = unique_number (length a) (length b) (flat_map text a ++ s) (flat_map text b ++ t) fits_a.many fits_b.many (sym (key_on a s) ∙ e ∙ key_on b t) in
+    unique_many text IsSegmentText unique_segment a b s t n.0 (segment_texts a fits_a) (segment_texts b fits_b) n.1
+
+-- ---- times
+
+pub moment_fits : (t : Timestamp) → IsMoment t → FitsSigned w64 t.seconds
+moment_fits t m = omega (arith, ints, m.seconds.0, m.seconds.1)
+
+pub nanos_below : (t : Timestamp) → IsMoment t → t.nanos < 2 ^ 32
+nanos_below t m = omega (arith, m.nanos)
+
+pub unique_time : IsUnique time IsMoment
+unique_time a b s t fits_a fits_b e =
+    let n = unique_signed a.seconds b.seconds (to_be_bytes w32 a.nanos ++ s) (to_be_bytes w32 b.nanos ++ t) (moment_fits a fits_a) (moment_fits b fits_b) (sym (time_on a s) ∙ e ∙ time_on b t) in
+    let m = unique_wide w32 (2 ^ 32) wide32 a.nanos b.nanos s t (nanos_below a fits_a) (nanos_below b fits_b) n.1 in
+    ((λ i. record { seconds = n.0 i; nanos = m.0 i }), m.1)
+
+-- ---- fields
+
+pub short_name : (s : List ℕ) → IsNameText s → IsShort s
+short_name s fits = omega (arith, fits.field.long.most)
+
+pub unique_name : IsUnique text IsNameText
+unique_name = unique_narrower text IsShort IsNameText short_name unique_text
+
+pub unique_value : IsUnique value IsSpelledValue
+unique_value (Integer a) (Integer b) s t fits_a fits_b e =
+    let n = unique_signed a b s t fits_a fits_b cc in
+    (ap Integer n.0, n.1)
+
+pub unique_field : IsUnique field IsSpelledField
+unique_field a b s t fits_a fits_b e =
+    let n = unique_name a.name b.name (value a.value ++ s) (value b.value ++ t) fits_a.name fits_b.name (sym (field_on a s) ∙ e ∙ field_on b t) in
+    let v = unique_value a.value b.value s t fits_a.value fits_b.value n.1 in
+    ((λ i. record { name = n.0 i; value = v.0 i }), v.1)
+
+pub unique_fields : IsUnique fields AreSpelledFields
+unique_fields a b s t fits_a fits_b e =
+    let n = unique_number (length a) (length b) (flat_map field a ++ s) (flat_map field b ++ t) fits_a.many fits_b.many (sym (fields_on a s) ∙ e ∙ fields_on b t) in
+    unique_many field IsSpelledField unique_field a b s t n.0 (recursion_from_All IsSpelledField a fits_a.each) (recursion_from_All IsSpelledField b fits_b.each) n.1
+
+-- ---- commits
+
+behind : (x y : ℕ) (s t : List ℕ) → x ∷ s ≡ y ∷ t → s ≡ t
+behind x y s t e = cc
+
+pub unique_write : IsUnique write IsSpelledWrite
+unique_write a b s t fits_a fits_b e =
+    let from_key = behind 1 1 _ _ (sym (write_on a s) ∙ e ∙ write_on b t) in
+    let k = unique_key a.key b.key (fields a.fields ++ (plain ++ s)) (fields b.fields ++ (plain ++ t)) fits_a.key fits_b.key from_key in
+    let f = unique_fields a.fields b.fields (plain ++ s) (plain ++ t) fits_a.fields fits_b.fields k.1 in
+    ((λ i. record { key = k.0 i; fields = f.0 i }), (fronts plain plain s t refl f.1).1)
+
+pub unique_batch : IsUnique batch IsSpelledBatch
+unique_batch a b s t fits_a fits_b e =
+    let n = unique_number a.id b.id (time a.at ++ (number 1 ++ (write a.write ++ s))) (time b.at ++ (number 1 ++ (write b.write ++ t))) fits_a.id fits_b.id (sym (batch_on a s) ∙ e ∙ batch_on b t) in
+    let m = unique_time a.at b.at (number 1 ++ (write a.write ++ s)) (number 1 ++ (write b.write ++ t)) fits_a.at fits_b.at n.1 in
+    let w = unique_write a.write b.write s t fits_a.write fits_b.write (fronts (number 1) (number 1) (write a.write ++ s) (write b.write ++ t) refl m.1).1 in
+    ((λ i. record { id = n.0 i; at = m.0 i; write = w.0 i }), w.1)
+
+pub unique_commit : IsUnique spelling HasSpelling
+unfolding spelling
+unique_commit (Enqueue a) (Enqueue b) s t fits_a fits_b e =
+    let same = unique_batch a b s t fits_a fits_b (behind 1 1 (batch a ++ s) (batch b ++ t) (behind 1 1 (1 ∷ (batch a ++ s)) (1 ∷ (batch b ++ t)) e)) in
+    (ap Enqueue same.0, same.1)
+
+pub one_value : (a b : Commit) → HasSpelling a → HasSpelling b → spelling a ≡ spelling b → a ≡ b
+one_value a b fits_a fits_b e = (unique_commit a b [] [] fits_a fits_b (ap (λ (bytes : List ℕ). bytes ++ []) e)).0

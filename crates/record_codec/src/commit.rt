@@ -1,0 +1,50 @@
+ghost use Rattle.std.specs.Prelude.{◌≡◌, IfOk, IfSome, IfNone};
+ghost use Rattle.record_codec.specs.declared.commit.Commit.{Commit as CommitData};
+ghost use Rattle.record_codec.specs.Spelling.{spelling, HasSpelling};
+
+use crate::commits::commit_of;
+use crate::fault::ReadError;
+use crate::writing::put_commit;
+use document_keys::NoMemory;
+use mutations::Batch;
+use std::alloc::Global;
+
+/// One step of the durable state.
+#[derive(Debug, Drop)]
+pub enum Commit {
+    /// A batch joins the pending ones.
+    Enqueue(Batch),
+}
+
+/// The commit's one spelling.
+///
+/// # Errors
+/// `NoMemory`
+pub fn encode(alloc: Global, commit: &Commit) -> Result<Vec<u8>, NoMemory>
+    ensures { IfOk result (λ bytes. bytes.items ≡ spelling commit.now) }
+{
+    let mut bytes = Vec::new(alloc);
+    put_commit(&mut bytes, commit)?;
+    Ok(bytes)
+}
+
+/// The commit that the bytes spell, all of them; `None` exactly where they spell none.
+///
+/// # Errors
+/// `NoMemory`
+pub fn decode(alloc: Global, bytes: &[u8]) -> Result<Option<Commit>, NoMemory>
+    ensures found { IfOk result (λ found. IfSome found (λ commit. HasSpelling commit × (bytes.now ≡ spelling commit))) }
+    ensures none { IfOk result (λ found. IfNone found ((commit : CommitData) → HasSpelling commit → bytes.now ≡ spelling commit → ⊥)) }
+{
+    match commit_of(alloc, bytes) {
+        Ok((commit, rest)) => {
+            if rest.is_empty() {
+                Ok(Some(commit))
+            } else {
+                Ok(None)
+            }
+        }
+        Err(ReadError::NotSpelled) => Ok(None),
+        Err(ReadError::Memory) => Err(NoMemory),
+    }
+}

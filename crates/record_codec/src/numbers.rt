@@ -1,0 +1,46 @@
+ghost use Rattle.std.specs.Prelude.{◌≡◌, ◌≢◌, ◌<◌, ◌^◌, List, ℕ, ◌++◌, MatchResult, FitsSigned};
+ghost use Rattle.std.specs.Int.{w32, w64, to_be_bytes, cast_unsigned};
+ghost use Rattle.value_model.specs.Time.{IsMoment};
+ghost use Rattle.record_codec.specs.Spelling.{number, time};
+ghost use Rattle.record_codec.specs.Reading.{Reads};
+
+use crate::fault::ReadError;
+use value_model::Timestamp;
+
+/// What follows the front, if the bytes begin with it.
+pub(crate) fn after<'a>(bytes: &'a [u8], front: &[u8]) -> Result<&'a [u8], ReadError>
+    ensures { MatchResult result (λ rest. bytes.now ≡ front.now ++ rest.now) (λ _. (rest : List ℕ) → bytes.now ≢ front.now ++ rest) }
+{
+    match bytes.strip_prefix(front) {
+        Some(rest) => Ok(rest),
+        None => Err(ReadError::NotSpelled),
+    }
+}
+
+/// A number of eight bytes, and what follows it.
+pub(crate) fn u64_of(bytes: &[u8]) -> Result<(u64, &[u8]), ReadError>
+    ensures { Reads number (λ n. n < 2 ^ 64) bytes.now (λ x. (x.0, x.1.now)) result }
+{
+    match bytes.split_first_chunk::<8>() {
+        Some((front, rest)) => Ok((u64::from_be_bytes(*front), rest)),
+        None => Err(ReadError::NotSpelled),
+    }
+}
+
+/// A number of four bytes, and what follows it.
+pub(crate) fn u32_of(bytes: &[u8]) -> Result<(u32, &[u8]), ReadError>
+    ensures { Reads (to_be_bytes w32) (λ n. n < 2 ^ 32) bytes.now (λ x. (x.0, x.1.now)) result }
+{
+    match bytes.split_first_chunk::<4>() {
+        Some((front, rest)) => Ok((u32::from_be_bytes(*front), rest)),
+        None => Err(ReadError::NotSpelled),
+    }
+}
+
+/// A number of eight bytes with a sign, and what follows it.
+pub(crate) fn i64_of(bytes: &[u8]) -> Result<(i64, &[u8]), ReadError>
+    ensures { Reads (λ z. number (cast_unsigned w64 z)) (FitsSigned w64) bytes.now (λ x. (x.0, x.1.now)) result }
+{
+    let (n, rest) = u64_of(bytes)?;
+    Ok((n.cast_signed(), rest))
+}

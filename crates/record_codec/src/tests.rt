@@ -1,0 +1,107 @@
+use super::*;
+use std::alloc::Global;
+use std::test::*;
+use value_model::{Timestamp, Value};
+
+/// An update of `rooms/a` with the field `n` of 1, at 2024-05-01T00:00:01Z.
+const PAYLOAD: [u8; 97] = [
+    1, 1, 0, 0, 0, 0, 0, 0, 0, 1, 0, 0, 0, 0, 0x66, 0x31, 0x86, 1, 0, 0, 0, 0, 0, 0, 0, 0, 0, 0, 0,
+    1, 1, 0, 0, 0, 0, 0, 0, 0, 2, 0, 0, 0, 0, 0, 0, 0, 5, 0x72, 0x6f, 0x6f, 0x6d, 0x73, 0, 0, 0, 0,
+    0, 0, 0, 1, 0x61, 0, 0, 0, 0, 0, 0, 0, 1, 0, 0, 0, 0, 0, 0, 0, 1, 0x6e, 2, 0, 0, 0, 0, 0, 0, 0,
+    1, 0, 0, 0, 0, 0, 0, 0, 0, 0, 0,
+];
+
+/// The payload with other bytes in place of those between the two.
+fn changed(alloc: Global, from: usize, to: usize, bytes: &[u8]) -> Result<Vec<u8>, Fail> {
+    let (front, _) = PAYLOAD.split_at_checked(from).ok_or("a place within")?;
+    let (_, back) = PAYLOAD.split_at_checked(to).ok_or("a place within")?;
+    let mut all = Vec::from_slice(alloc, front)?;
+    all.extend_from_slice(bytes)?;
+    all.extend_from_slice(back)?;
+    Ok(all)
+}
+
+#[test]
+fn both_ways(rt: HostRuntime) -> Result<(), Fail> {
+    let read = decode(rt.alloc(), &PAYLOAD).ok().ok_or("memory")?;
+    let commit = read.ok_or("the bytes are a commit")?;
+    let written = encode(rt.alloc(), &commit).ok().ok_or("memory")?;
+    assert_eq!(rt; written.as_slice(), PAYLOAD.as_slice());
+    let Commit::Enqueue(batch) = commit;
+    assert_eq!(rt; batch.id, 1);
+    assert_eq!(rt;
+        batch.at,
+        Timestamp {
+            seconds: 1_714_521_601,
+            nanos: 0
+        }
+    );
+    assert_eq!(rt; batch.write.key.len(), 2);
+    assert_eq!(rt; batch.write.key.segment(0), Some("rooms"));
+    assert_eq!(rt; batch.write.key.segment(1), Some("a"));
+    for field in batch.write.fields.as_slice() {
+        assert_eq!(rt; field.name.as_str(), "n");
+        assert_eq!(rt; field.value, Value::Integer(1));
+    }
+    Ok(())
+}
+
+#[test]
+fn damaged(rt: HostRuntime) -> Result<(), Fail> {
+    let rows: [(&str, usize, usize, &[u8]); 17] = [
+        ("another format", 0, 1, &[2]),
+        ("another kind", 1, 2, &[2]),
+        (
+            "a second too early",
+            10,
+            18,
+            &[0xff, 0xff, 0xff, 0xf1, 0x88, 0x6e, 0x08, 0xff],
+        ),
+        ("a second of nanoseconds", 18, 22, &[0x3b, 0x9a, 0xca, 0]),
+        ("two writes", 29, 30, &[2]),
+        ("another write", 30, 31, &[2]),
+        (
+            "one segment",
+            38,
+            61,
+            &[1, 0, 0, 0, 0, 0, 0, 0, 5, 0x72, 0x6f, 0x6f, 0x6d, 0x73],
+        ),
+        ("a slash", 60, 61, &[0x2f]),
+        ("no UTF-8", 60, 61, &[0xff]),
+        ("more fields than bytes", 61, 62, &[0xff]),
+        (
+            "a reserved name",
+            76,
+            78,
+            &[5, 0x5f, 0x5f, 0x6e, 0x5f, 0x5f],
+        ),
+        ("another value", 78, 79, &[1]),
+        (
+            "a name twice",
+            68,
+            87,
+            &[
+                2, 0, 0, 0, 0, 0, 0, 0, 1, 0x6e, 2, 0, 0, 0, 0, 0, 0, 0, 1, 0, 0, 0, 0, 0, 0, 0, 1,
+                0x6e, 2, 0, 0, 0, 0, 0, 0, 0, 1,
+            ],
+        ),
+        (
+            "names that descend",
+            68,
+            87,
+            &[
+                2, 0, 0, 0, 0, 0, 0, 0, 1, 0x6e, 2, 0, 0, 0, 0, 0, 0, 0, 1, 0, 0, 0, 0, 0, 0, 0, 1,
+                0x6d, 2, 0, 0, 0, 0, 0, 0, 0, 1,
+            ],
+        ),
+        ("a mask", 87, 88, &[1]),
+        ("a byte less", 96, 97, &[]),
+        ("a byte more", 97, 97, &[0]),
+    ];
+    for (what, from, to, bytes) in rows {
+        let payload = changed(rt.alloc(), from, to, bytes)?;
+        let read = decode(rt.alloc(), &payload).ok().ok_or("memory")?;
+        assert!(rt; read.is_none(), "{what}");
+    }
+    Ok(())
+}

@@ -1,0 +1,122 @@
+ghost use Rattle.std.specs.Prelude.{◌≡◌, ◌++◌, OnOk};
+ghost use Rattle.std.specs.Int.{w64, cast_unsigned};
+ghost use Rattle.record_codec.specs.Spelling.{number, text, key, time, value, field, fields, write, batch, spelling};
+
+use crate::commit::Commit;
+use crate::commits::{ENQUEUE, FORMAT, PLAIN, UPDATE};
+use crate::fields::INTEGER;
+use document_keys::{DocumentKey, NoMemory};
+use mutations::{Batch, Write};
+use value_model::{Field, Fields, Timestamp, Value};
+
+fn put_number(out: &mut Vec<u8>, n: u64) -> Result<(), NoMemory>
+    ensures { OnOk result (out.new.items ≡ out.old.items ++ number n) }
+{
+    out.extend_from_slice(&n.to_be_bytes())?;
+    Ok(())
+}
+
+fn put_signed(out: &mut Vec<u8>, n: i64) -> Result<(), NoMemory>
+    ensures { OnOk result (out.new.items ≡ out.old.items ++ number (cast_unsigned w64 n)) }
+{
+    out.extend_from_slice(&n.to_be_bytes())?;
+    Ok(())
+}
+
+#[tactic(auto, unfolding(crate::specs::Spelling::text))]
+fn put_text(out: &mut Vec<u8>, content: &str) -> Result<(), NoMemory>
+    ensures { OnOk result (out.new.items ≡ out.old.items ++ text content.now) }
+{
+    put_number(out, content.len() as u64)?;
+    out.extend_from_slice(content.as_bytes())?;
+    Ok(())
+}
+
+#[tactic(auto, unfolding(crate::specs::Spelling::key))]
+fn put_key(out: &mut Vec<u8>, name: &DocumentKey) -> Result<(), NoMemory>
+    ensures { OnOk result (out.new.items ≡ out.old.items ++ key name.now) }
+{
+    let count = name.len();
+    put_number(out, count)?;
+    for i in 0..count {
+        if let Some(segment) = name.segment(i) {
+            put_text(out, segment)?;
+        }
+    }
+    Ok(())
+}
+
+#[tactic(auto, unfolding(crate::specs::Spelling::time))]
+fn put_time(out: &mut Vec<u8>, at: Timestamp) -> Result<(), NoMemory>
+    ensures { OnOk result (out.new.items ≡ out.old.items ++ time at) }
+{
+    put_signed(out, at.seconds)?;
+    out.extend_from_slice(&at.nanos.to_be_bytes())?;
+    Ok(())
+}
+
+fn put_value(out: &mut Vec<u8>, content: Value) -> Result<(), NoMemory>
+    ensures { OnOk result (out.new.items ≡ out.old.items ++ value content) }
+{
+    match content {
+        Value::Integer(n) => {
+            out.push(INTEGER)?;
+            put_signed(out, n)
+        }
+    }
+}
+
+#[tactic(auto, unfolding(crate::specs::Spelling::field))]
+fn put_field(out: &mut Vec<u8>, entry: &Field) -> Result<(), NoMemory>
+    ensures { OnOk result (out.new.items ≡ out.old.items ++ field entry.now) }
+{
+    put_text(out, entry.name.as_str())?;
+    put_value(out, entry.value)
+}
+
+#[tactic(auto, unfolding(crate::specs::Spelling::fields))]
+fn put_fields(out: &mut Vec<u8>, content: &Fields) -> Result<(), NoMemory>
+    ensures { OnOk result (out.new.items ≡ out.old.items ++ fields content.now) }
+{
+    let entries = content.as_slice();
+    put_number(out, entries.len() as u64)?;
+    for entry in entries {
+        put_field(out, entry)?;
+    }
+    Ok(())
+}
+
+#[tactic(auto, unfolding(crate::specs::Spelling::write))]
+fn put_write(out: &mut Vec<u8>, update: &Write) -> Result<(), NoMemory>
+    ensures { OnOk result (out.new.items ≡ out.old.items ++ write update.now) }
+{
+    out.push(UPDATE)?;
+    put_key(out, &update.key)?;
+    put_fields(out, &update.fields)?;
+    out.extend_from_slice(&PLAIN)?;
+    Ok(())
+}
+
+#[tactic(auto, unfolding(crate::specs::Spelling::batch))]
+fn put_batch(out: &mut Vec<u8>, pending: &Batch) -> Result<(), NoMemory>
+    ensures { OnOk result (out.new.items ≡ out.old.items ++ batch pending.now) }
+{
+    put_number(out, pending.id)?;
+    put_time(out, pending.at)?;
+    put_number(out, 1)?;
+    put_write(out, &pending.write)
+}
+
+/// Appends the commit's spelling.
+#[tactic(auto, unfolding(crate::specs::Spelling::spelling))]
+pub(crate) fn put_commit(out: &mut Vec<u8>, commit: &Commit) -> Result<(), NoMemory>
+    ensures { OnOk result (out.new.items ≡ out.old.items ++ spelling commit.now) }
+{
+    out.push(FORMAT)?;
+    match commit {
+        Commit::Enqueue(pending) => {
+            out.push(ENQUEUE)?;
+            put_batch(out, pending)
+        }
+    }
+}

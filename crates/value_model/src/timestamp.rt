@@ -1,0 +1,111 @@
+ghost use Rattle.std.specs.Prelude.{◌≡◌, ◌<◌, pos, ◌≤ℤ◌, length, IfSome};
+ghost use Rattle.jiff_core.specs.Calendar.{IsEpochDay};
+ghost use Rattle.jiff_core.specs.Date.{epoch_day};
+ghost use Rattle.value_model.specs.Time.{pair_of, day_of, date_of, second_of, IsDay};
+
+use jiff::civil;
+use jiff::civil::Date;
+
+/// A moment: seconds since 1970-01-01T00:00:00Z, from year 1 to year 9999 (-62,135,596,800 to 253,402,300,799), and
+/// nanoseconds below 1,000,000,000.
+#[derive(Clone, Copy, Debug, PartialEq, Eq)]
+pub struct Timestamp {
+    pub seconds: i64,
+    pub nanos: u32,
+}
+
+impl Timestamp {
+    ghost use Rattle.value_model.specs.Time.{time_of, IsMoment};
+
+    /// Reads `YYYY-MM-DDTHH:MM:SSZ` (RFC 3339, of which this is the form in UTC without a fraction): a real date of the
+    /// years 0001 to 9999, an hour to 23, a minute and a second to 59. `None` exactly where the text isn't of the form.
+    #[tactic(auto, unfolding(crate::specs::Time::time_of))]
+    pub fn read(text: &str) -> Option<Timestamp>
+        ensures value { result ≡ time_of text.now }
+        ensures moment { IfSome result IsMoment }
+    {
+        let bytes = text.as_bytes();
+        if bytes.len() != 20 || bytes[4] != b'-' || bytes[7] != b'-' || bytes[10] != b'T' {
+            return None;
+        }
+        if bytes[13] != b':' || bytes[16] != b':' || bytes[19] != b'Z' {
+            return None;
+        }
+        let day = day_number(bytes)?;
+        let second = second_of_day(bytes)?;
+        Some(Timestamp {
+            seconds: day * 86_400 + second as i64,
+            nanos: 0,
+        })
+    }
+}
+
+/// The day number of the date that the first ten bytes spell: 0 for 1970-01-01.
+#[tactic(auto, unfolding(crate::specs::Time::day_of))]
+fn day_number(bytes: &[u8]) -> Option<i64>
+    requires { length bytes.now ≡ 20 }
+    ensures value { result ≡ day_of bytes.now }
+    ensures bound { IfSome result IsDay }
+{
+    let century = pair(bytes[0], bytes[1])?;
+    let year = pair(bytes[2], bytes[3])?;
+    let month = pair(bytes[5], bytes[6])?;
+    let day = pair(bytes[8], bytes[9])?;
+    day_of_date(100 * century as u16 + year as u16, month, day)
+}
+
+/// The day number of a date, where the calendar has it.
+fn day_of_date(year: u16, month: u8, day: u8) -> Option<i64>
+    requires year { year < 10000 }
+    requires month { month < 100 }
+    requires day { day < 100 }
+    ensures value { result ≡ date_of year month day }
+    ensures bound { IfSome result IsDay }
+{
+    if year == 0 {
+        return None;
+    }
+    match Date::new(year as i16, month as i8, day as i8) {
+        Ok(date) => Some(day_number_of(date)),
+        Err(_) => None,
+    }
+}
+
+/// The days since 1970-01-01.
+fn day_number_of(date: Date) -> i64
+    ensures value { result ≡ epoch_day date }
+    ensures bound { IsEpochDay result }
+    ensures late { pos 1 ≤ℤ date.year → IsDay result }
+{
+    let seconds = date.duration_since(civil::date(1970, 1, 1)).as_secs();
+    seconds / 86_400
+}
+
+/// The second of the day that the time of day behind the `T` spells.
+#[tactic(auto, unfolding(crate::specs::Time::second_of))]
+fn second_of_day(bytes: &[u8]) -> Option<u32>
+    requires { length bytes.now ≡ 20 }
+    ensures value { result ≡ second_of bytes.now }
+    ensures bound { IfSome result (λ second. second < 86400) }
+{
+    let hour = pair(bytes[11], bytes[12])?;
+    let minute = pair(bytes[14], bytes[15])?;
+    let second = pair(bytes[17], bytes[18])?;
+    if hour < 24 && minute < 60 && second < 60 {
+        Some(3600 * hour as u32 + 60 * minute as u32 + second as u32)
+    } else {
+        None
+    }
+}
+
+/// The number that two digits spell.
+fn pair(tens: u8, ones: u8) -> Option<u8>
+    ensures value { result ≡ pair_of tens ones }
+    ensures bound { IfSome result (λ n. n < 100) }
+{
+    if tens.is_ascii_digit() && ones.is_ascii_digit() {
+        Some(10 * (tens - b'0') + (ones - b'0'))
+    } else {
+        None
+    }
+}
