@@ -6,6 +6,8 @@ mod words;
 
 use client_run::{Status, run_client};
 use host_api::{FileHost, StdSource};
+use std::env::Env;
+use std::fs::Files;
 use std::io::BufReader;
 use std::process::ExitCode;
 
@@ -18,7 +20,11 @@ fn run<R: Files + Print + Input + Env + AllocGlobal + Clone + Drop>(rt: &R) -> S
         Ok(words) => words,
         Err(status) => return status,
     };
-    let (Ok(reader), Ok(handle)) = (BufReader::new(rt.alloc(), rt.reader()), rt.clone()) else {
+    let Ok(reader) = BufReader::new(rt.alloc(), rt.reader()) else {
+        return Status::NoMemory;
+    };
+    let handle: Result<R, _> = rt.clone();
+    let Ok(handle) = handle else {
         return Status::NoMemory;
     };
     let Some(folder) = folder_of(rt.alloc(), words.as_slice()) else {

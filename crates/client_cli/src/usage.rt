@@ -1,5 +1,6 @@
 use clap::{Arg, ArgAction, Command};
 use std::alloc::{AllocError, Global};
+use std::io::Eprint;
 
 /// The usage text.
 fn usage(alloc: Global) -> Result<String, AllocError> {
@@ -12,7 +13,7 @@ fn usage(alloc: Global) -> Result<String, AllocError> {
 }
 
 /// Prints the usage to the standard error. Where its text finds no memory nothing is printed.
-pub fn print_usage<R: Print + AllocGlobal>(rt: &R) -> Option<()> {
+pub fn print_usage<R: Eprint + AllocGlobal>(rt: &R) -> Option<()> {
     let text = usage(rt.alloc()).ok()?;
     eprint!(rt; "{text}").ok()
 }

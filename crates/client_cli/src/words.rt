@@ -1,6 +1,7 @@
 use client_run::Status;
 use std::alloc::Global;
 use std::env;
+use std::env::Env;
 use std::io::ErrorKind;
 
 /// The words behind the program's name.
