@@ -4,15 +4,14 @@
 mod usage;
 mod words;
 
+use crate::usage::print_usage;
+use crate::words::{folder_of, words_of};
 use client_run::{Status, run_client};
 use host_api::{FileHost, StdSource};
 use std::env::Env;
 use std::fs::Files;
 use std::io::BufReader;
 use std::process::ExitCode;
-
-use crate::usage::print_usage;
-use crate::words::{folder_of, words_of};
 
 /// Runs what the words ask for over the folder that they name, the standard input and the standard output.
 fn run<R: Files + Print + Input + Env + AllocGlobal + Clone + Drop>(rt: &R) -> Status {

@@ -4,9 +4,7 @@ use std::io::Eprint;
 
 /// The usage text.
 fn usage(alloc: Global) -> Result<String, AllocError> {
-    let folder = Arg::new(alloc, "DIR")
-        .required(true)
-        .action(ArgAction::Set);
+    let folder = Arg::new(alloc, "DIR").required(true).action(ArgAction::Set);
     let run = Command::new(alloc, "run").arg(folder)?;
     let mut program = Command::new(alloc, "fsclient").subcommand(run)?;
     program.render_long_help()

@@ -36,6 +36,7 @@ time t = number (cast_unsigned w64 t.seconds) ++ to_be_bytes w32 t.nanos
 abbrev pub value : Value → List ℕ
 value (Integer z) = 2 ∷ number (cast_unsigned w64 z)
 
+-- the name, and the value
 unfoldable pub field : Field → List ℕ
 field f = text f.name ++ value f.value
 
@@ -74,30 +75,35 @@ pub record IsSegmentText (name : List ℕ) : Type 0 where
 abbrev pub IsSpelledValue : Value → Type 0
 IsSpelledValue (Integer z) = FitsSigned w64 z
 
+-- a field that has a spelling
 pub record IsSpelledField (f : Field) : Type 0 where
   pub name : IsNameText f.name
   pub value : IsSpelledValue f.value
 
+-- a key of UTF-8 segments, whose number eight bytes have
 pub record IsSpelledKey (segments : List (List ℕ)) : Type 0 where
   pub names : IsKey segments
   pub texts : All IsUtf8 segments
   pub many : length segments < 2 ^ 64
 
+-- fields that each have a spelling, strictly ascending by name, whose number eight bytes have
 pub record AreSpelledFields (fs : List Field) : Type 0 where
   pub each : All IsSpelledField fs
   pub many : length fs < 2 ^ 64
   pub ascending : IsAscending fs
 
--- what has a spelling
+-- an update that has a spelling
 pub record IsSpelledWrite (w : Write) : Type 0 where
   pub key : IsSpelledKey w.key
   pub fields : AreSpelledFields w.fields
 
+-- a batch that has a spelling: its id fits eight bytes, and its time is one of the years 1 to 9999
 pub record IsSpelledBatch (b : Batch) : Type 0 where
   pub id : b.id < 2 ^ 64
   pub at : IsMoment b.at
   pub write : IsSpelledWrite b.write
 
+-- what has a spelling
 abbrev pub HasSpelling : Commit → Type 0
 HasSpelling (Enqueue b) = IsSpelledBatch b
 

@@ -20,12 +20,12 @@ pub fn no_front()
     ensures { (a b : CommitData) (x y : List ℕ) → HasSpelling a → HasSpelling b → spelling a ++ x ≡ spelling b ++ y → (a ≡ b) × (x ≡ y) }
 {}
 
-/// A text is UTF-8.
+/// A text is UTF-8. Nothing is done when it runs.
 fn show_text(_content: &str)
     ensures { IsUtf8 _content.now }
 {}
 
-/// A number is one of 64 bits.
+/// A whole number is one of 64 bits. Nothing is done when it runs.
 fn show_value(content: Value)
     ensures { IsSpelledValue content }
 {
@@ -34,7 +34,7 @@ fn show_value(content: Value)
     }
 }
 
-/// A key has a spelling.
+/// A key has a spelling: its segments are UTF-8.
 fn show_key(name: &DocumentKey)
     ensures { IsSpelledKey name.now }
 {
@@ -67,8 +67,8 @@ fn show_batch(pending: &Batch)
     show_fields(&pending.write.fields);
 }
 
-/// A commit has a spelling if its time lies in the years 1 to 9999 and its fields have names of fields. Nothing is done
-/// when it runs.
+/// A commit has a spelling if its time lies in the years 1 to 9999 and its fields have names of fields. It looks at the
+/// parts and changes nothing.
 pub fn show_spelling(commit: &Commit)
     requires { IsSound commit.now }
     ensures { HasSpelling commit.now }

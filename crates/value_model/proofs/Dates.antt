@@ -29,7 +29,7 @@ date_found y m d month day year r positive small_y small_m small_d fits year_is 
     let same_day : day ≡ d = omega (arith, ints, day_is, day_pos) in
     let same_year : year ≡ pos y = year_is ∙ year_pos in
     ap Some (to_z-of_z w64 r fits) ∙ found y m d r positive (rw same_month at month_in)
-        (rw (same_year, same_month, same_day) at day_in) (rw (same_year, same_month, same_day) at is)
+    (rw (same_year, same_month, same_day) at day_in) (rw (same_year, same_month, same_day) at is)
 
 -- 0001-01-01, the first day of the years that times have
 first_date : Date
@@ -42,10 +42,11 @@ pub late_day : (d : Date) → pos 1 ≤ℤ d.year → neg_ℤ (pos 719162) ≤�
 unfolding first_date
 late_day d year =
     elim (cases_date d first_date) [
-    | inl before ↦ absurd (elim before [
-      | inl lt ↦ omega (arith, signed_arith, lt)
-      | inr (same, inl lt) ↦ omega (arith, lt, d.month_in.0)
-      | inr (same, inr lt) ↦ omega (arith, lt.1, d.day_in.0) ])
-    | inr (inl after) ↦ omega (arith, signed_arith, days_from_civil-first, epoch_day-lt first_date d after)
-    | inr (inr same) ↦ omega (arith, signed_arith, days_from_civil-first, epoch_day_same d first_date same.0 same.1 same.2)
+      | inl before ↦ absurd (elim before [
+        | inl lt ↦ omega (arith, signed_arith, lt)
+        | inr (same, inl lt) ↦ omega (arith, lt, d.month_in.0)
+        | inr (same, inr lt) ↦ omega (arith, lt.1, d.day_in.0)
+      ])
+      | inr (inl after) ↦ omega (arith, signed_arith, days_from_civil-first, epoch_day-lt first_date d after)
+      | inr (inr same) ↦ omega (arith, signed_arith, days_from_civil-first, epoch_day_same d first_date same.0 same.1 same.2)
     ]

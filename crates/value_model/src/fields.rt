@@ -1,11 +1,10 @@
 ghost use Rattle.std.specs.Prelude.{◌≡◌, ℕ, ◌+◌, ◌<◌, length, IfOk, IfSome, IfNone, IsTrue, ◌↔◌};
 
+use crate::order::is_ascending;
+use crate::value::Value;
 use document_keys::{NoMemory, Text};
 use std::alloc::Global;
 use std::marker::Model;
-
-use crate::order::is_ascending;
-use crate::value::Value;
 
 /// A field of a document: its name and its value.
 #[derive(Debug, Drop)]
