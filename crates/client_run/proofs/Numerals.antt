@@ -17,8 +17,8 @@ small (negsuc n) fits = omega (arith, ints, fits)
 pub parsed : {E : Type 0} (text : List ℕ) (z : ℤ) (found : Result ℤ E) → (text ≡ codes "-0" → ⊥) → SpellsInteger text z → ParsesSigned w64 10 text found → (found ≡ Ok z) × (text ≡ signed_decimal z)
 parsed text z found other spelled parses =
     elim spelled.is [
-    | inl plain ↦ (parse-signed_decimal w64 z text found spelled.fits (small z spelled.fits) plain parses, plain)
-    | inr minus ↦ absurd (other minus.0)
+      | inl plain ↦ (parse-signed_decimal w64 z text found spelled.fits (small z spelled.fits) plain parses, plain)
+      | inr minus ↦ absurd (other minus.0)
     ]
 
 -- texts that were found different are different
@@ -43,6 +43,7 @@ not_minus_zero (pos n) fits is = elim (zero_or n) [ inl none ↦ cc (ap decimal 
   where
     below : FitsSigned w64 (pos n) → n < 2 ^ 64
     below h = omega (arith, ints, h)
+
     zero_or : (n : ℕ) → (n ≡ 0) ⊎ (0 < n)
     zero_or zero = inl refl
     zero_or (suc n) = inr (omega arith)
@@ -55,10 +56,12 @@ not_minus_zero (negsuc n) fits is =
 pub spells_one_integer : (text : List ℕ) (y z : ℤ) → SpellsInteger text y → SpellsInteger text z → y ≡ z
 spells_one_integer text y z first second =
     elim first.is [
-    | inl a ↦ elim second.is [
-      | inl b ↦ signed_decimal_injective y z (small y first.fits) (small z second.fits) (sym a ∙ b)
-      | inr b ↦ absurd (not_minus_zero y first.fits (sym a ∙ b.0)) ]
-    | inr a ↦ elim second.is [
-      | inl b ↦ absurd (not_minus_zero z second.fits (sym b ∙ a.0))
-      | inr b ↦ a.1 ∙ sym b.1 ]
+      | inl a ↦ elim second.is [
+        | inl b ↦ signed_decimal_injective y z (small y first.fits) (small z second.fits) (sym a ∙ b)
+        | inr b ↦ absurd (not_minus_zero y first.fits (sym a ∙ b.0))
+      ]
+      | inr a ↦ elim second.is [
+        | inl b ↦ absurd (not_minus_zero z second.fits (sym b ∙ a.0))
+        | inr b ↦ a.1 ∙ sym b.1
+      ]
     ]

@@ -41,9 +41,10 @@ generation_refuses old new g ps gives other first opens =
 
 -- payloads that lead nowhere are no store
 pub payloads_refuse : (old new : View) (g : ℕ) (ps : List (List ℕ)) → Gives old.bytes g ps → ((s : State) → Replays start ps s → ⊥) → Opens old new → IsNoStore old.bytes × (new.bytes ≡ old.bytes)
-payloads_refuse old new g ps gives none opens =
-    (λ s finds. none s (subst (λ (l : List (List ℕ)). Replays start l s) (sym (gives_once old.bytes g ps 1 finds.payloads gives finds.gives).1) finds.replays),
-    opens.kept (λ are. none start (subst (λ (l : List (List ℕ)). Replays start l start) (sym (blank_gives old.bytes g ps are gives).1) refl)))
+payloads_refuse old new g ps gives none opens = (
+  λ s finds. none s (subst (λ (l : List (List ℕ)). Replays start l s) (sym (gives_once old.bytes g ps 1 finds.payloads gives finds.gives).1) finds.replays),
+  opens.kept (λ are. none start (subst (λ (l : List (List ℕ)). Replays start l start) (sym (blank_gives old.bytes g ps are gives).1) refl)),
+)
 
 -- what a replay finds, in the words of an opening
 pub none_found : (ps qs : List (Vec ℕ Global)) → ps ≡ qs → ((s : State) → Replays start (map (λ p. p.items) ps) s → ⊥) → (s : State) → Replays start (map (λ p. p.items) qs) s → ⊥

@@ -34,9 +34,9 @@ put_no_float k d no_members none rest = neither (has_float d) false none refl
 put_no_float k d (member l e ms) none rest =
     let tail = right_of (has_float e) (members_have_float ms) rest in
     elim (slice_cmp nat_cmp k l) as (λ o. members_have_float (match_ordering o (member k d (member l e ms)) (member l d ms) (member l e (put k d ms))) ≡ false) [
-    | Less ↦ neither (has_float d) _ none rest
-    | Equal ↦ neither (has_float d) (members_have_float ms) none tail
-    | Greater ↦ neither (has_float e) (members_have_float (put k d ms)) (left_of (has_float e) (members_have_float ms) rest) (put_no_float k d ms none tail)
+      | Less ↦ neither (has_float d) _ none rest
+      | Equal ↦ neither (has_float d) (members_have_float ms) none tail
+      | Greater ↦ neither (has_float e) (members_have_float (put k d ms)) (left_of (has_float e) (members_have_float ms) rest) (put_no_float k d ms none tail)
     ]
 
 value_no_float : (v : Value) → has_float (value_tree v) ≡ false

@@ -10,9 +10,6 @@ use Rattle.record_codec.specs.Spelling.{spelling, HasSpelling}
 use Rattle.record_codec.proofs.Unique.{one_value}
 use Rattle.client_run.specs.State.{State, start, Fits, committed, Replays}
 
-
-
-
 -- one payload more
 pub replays_push : (s : State) (ps : List (List ℕ)) (t : State) (p : List ℕ) (c : Commit) → Replays s ps t → HasSpelling c → p ≡ spelling c → Fits t c → Replays s (ps ++ p ∷ []) (committed t c)
 replays_push s [] t p c here has is fits = (c, has, is, subst (λ (u : State). Fits u c) here fits, ap (λ u. committed u c) here)
@@ -72,7 +69,7 @@ pub leads_on : (payloads : List (Vec ℕ Global)) (i : ℕ) (payload : Vec ℕ G
     → Replays start (bytes_of (take (i + 1) payloads)) (record { number = i + 1; batches = new; next_batch = i + 1 + 1 })
 leads_on payloads i payload batch old new below item few has is id pushed so_far =
     let more : bytes_of (take (i + 1) payloads) ≡ bytes_of (take i payloads) ++ payload.items ∷ [] =
-        ap bytes_of (take_more payloads i payload below) ∙ map-append (λ p. p.items) (take i payloads) (get_or payloads i payload ∷ []) ∙ ap (λ (q : Vec ℕ Global). bytes_of (take i payloads) ++ q.items ∷ []) (sym item) in
+    ap bytes_of (take_more payloads i payload below) ∙ map-append (λ p. p.items) (take i payloads) (get_or payloads i payload ∷ []) ∙ ap (λ (q : Vec ℕ Global). bytes_of (take i payloads) ++ q.items ∷ []) (sym item) in
     let led = replays_push start (bytes_of (take i payloads)) (record { number = i; batches = old; next_batch = i + 1 }) payload.items (Enqueue batch) so_far has is (id, omega arith) in
     subst (λ (l : List (List ℕ)). Replays start l (record { number = i + 1; batches = new; next_batch = i + 1 + 1 })) (sym more) (subst (λ (b : List Batch). Replays start (bytes_of (take i payloads) ++ payload.items ∷ []) (record { number = i + 1; batches = b; next_batch = i + 1 + 1 })) (sym pushed) led)
 

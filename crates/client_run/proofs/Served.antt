@@ -135,19 +135,22 @@ served_more {root} {items} {s} {payloads} {done = done} {store = store} {next = 
 pub stops_within : {root : Root} {items : List Item} {s : State} {payloads : List (List ℕ)} {tells_out tells_files : Bool} {done : ℕ} {rest more : List Item} {store : LocalStore} {old mid new : View} (budget : ℕ) (how : Status) (reading : Reading) (it : Serving root items s payloads tells_out tells_files done rest store old mid)
     → Nexts root items it.readings reading more → Handles root done reading store (Err how) tells_out tells_files mid new → done < budget → Blames how mid new → Ran root items s payloads tells_out tells_files budget how old new
 stops_within {root} {items} {s} {done = done} {old = old} budget DiskFault reading it nexts handles below blames = record {
-  readings = it.readings; read = it.read;
+  readings = it.readings;
+  read = it.read;
   ends = (omega (arith, nexts.below), omega (arith, below, it.count));
   output = λ told. handles.out told (run root s [] it.readings) (past_length root s it.readings done it.count) ∙ it.wrote told;
   kept = λ told which. ⊎_elim (λ same. cc) (λ same. cc) which;
 }
 stops_within {root} {items} {s} {done = done} {old = old} budget NoMemory reading it nexts handles below blames = record {
-  readings = it.readings; read = it.read;
+  readings = it.readings;
+  read = it.read;
   ends = (omega (arith, nexts.below), omega (arith, below, it.count));
   output = λ told. handles.out told (run root s [] it.readings) (past_length root s it.readings done it.count) ∙ it.wrote told;
   kept = λ told which. ⊎_elim (λ same. cc) (λ same. cc) which;
 }
 stops_within {root} {items} {s} {done = done} {old = old} {mid = mid} {new = new} budget SinkFault reading it nexts handles below blames = record {
-  readings = it.readings; read = it.read;
+  readings = it.readings;
+  read = it.read;
   ends = (nexts.below, omega (arith, below, it.count));
   output = λ told. record {
     reading = reading;

@@ -18,7 +18,8 @@ dash byte = Prim.search rules
 pub are_run_words : (words : List (String Global)) (a b : String Global) (folder : List ℕ) → words ≡ a ∷ b ∷ [] → string_bytes a ≡ codes "run" → folder ≡ string_bytes b → 0 < length folder
     → IsTrue (not (slice_index folder 0 == 45)) ↔ AreRun (map string_bytes words)
 are_run_words words a b folder are run is some =
-    let texts : map string_bytes words ≡ codes "run" ∷ folder ∷ [] = ap (map string_bytes) are ∙ (λ i. run i ∷ sym is i ∷ []) in
-    ((λ yes. record { folder = folder; are = texts; some = some; plain = (dash (slice_index folder 0)).0 yes }),
-     (λ run. let same : run.folder ≡ folder = let e : codes "run" ∷ run.folder ∷ [] ≡ codes "run" ∷ folder ∷ [] = sym run.are ∙ texts in cc in
-         (dash (slice_index folder 0)).1 (subst (λ (f : List ℕ). slice_index f 0 ≢ 45) same run.plain)))
+    let texts : map string_bytes words ≡ codes "run" ∷ folder ∷ [] = ap (map string_bytes) are ∙ (λ i. run i ∷ sym is i ∷ []) in (
+      (λ yes. record { folder = folder; are = texts; some = some; plain = (dash (slice_index folder 0)).0 yes }),
+      (λ run. let same : run.folder ≡ folder = let e : codes "run" ∷ run.folder ∷ [] ≡ codes "run" ∷ folder ∷ [] = sym run.are ∙ texts in cc in
+          (dash (slice_index folder 0)).1 (subst (λ (f : List ℕ). slice_index f 0 ≢ 45) same run.plain)),
+    )

@@ -6,12 +6,11 @@ ghost use Rattle.client_run.specs.State.{State, FindsState};
 ghost use Rattle.client_run.specs.Store.{IsNoStore};
 ghost use Rattle.client_run.specs.Run.{Ran, Faults, LeavesForeign, IsRefusal};
 
-use host_api::{Host, Source};
-use std::alloc::Global;
-
 use crate::running::run_within;
 use crate::status::Status;
 use crate::words::{are_run, default_database};
+use host_api::{Host, Source};
+use std::alloc::Global;
 
 /// What the program does for its words, which leave out its name: `run DIR` runs the lines of the source over the store that
 /// the host keeps, for the database `projects/demo/databases/(default)`, at most 4,294,967,296 of them. The host stands for
@@ -22,7 +21,12 @@ use crate::words::{are_run, default_database};
 /// or written then. `NotAStore` exactly where the files, being read, aren't those of a store: nothing is changed then.
 /// `SourceFault`, `DiskFault` and `SinkFault` only where that count rose; `Budget` exactly where 4,294,967,296 lines were
 /// handled; or `NoMemory`.
-pub fn run_client<S: Source, H: Host>(alloc: Global, words: &[String], source: &mut S, host: &mut H) -> Status
+pub fn run_client<S: Source, H: Host>(
+    alloc: Global,
+    words: &[String],
+    source: &mut S,
+    host: &mut H,
+) -> Status
     ensures usage { (result ≡ Status.Usage → AreRun (map string_bytes words.now) → ⊥) × ((AreRun (map string_bytes words.now) → ⊥) → result ≡ Status.Usage) }
     ensures untouched { result ≡ Status.Usage → (source.new ≡ source.old) × (host.new ≡ host.old) }
     ensures run { IsTrue S.tells → IsTrue H.tells_files → AreRun (map string_bytes words.now) → (s : State) → (finds : FindsState (H.view host.old).bytes s)

@@ -5,14 +5,13 @@ ghost use Rattle.record_codec.specs.Spelling.{spelling, HasSpelling};
 ghost use Rattle.client_run.specs.State.{Fits, committed};
 ghost use Rattle.client_run.specs.Store.{IsStored, Commits, IsStoreCause, state_of};
 
+use crate::local_store::LocalStore;
+use crate::opening::enqueued;
 use disk_journal::Frame;
 use document_keys::NoMemory;
 use host_api::Host;
 use record_codec::{Commit, encode};
 use std::alloc::Global;
-
-use crate::local_store::LocalStore;
-use crate::opening::enqueued;
 
 /// Why a commit wasn't made.
 #[derive(Clone, Copy, Debug, PartialEq, Eq)]
@@ -41,7 +40,12 @@ impl LocalStore {
     ///
     /// # Errors
     /// `DiskFault` only where the count of disk faults rose; `NoMemory`.
-    pub fn commit<H: Host>(self, alloc: Global, host: &mut H, commit: Commit) -> Result<LocalStore, StoreFault>
+    pub fn commit<H: Host>(
+        self,
+        alloc: Global,
+        host: &mut H,
+        commit: Commit,
+    ) -> Result<LocalStore, StoreFault>
         requires stored { IsTrue H.tells_files → (payloads : List (List ℕ)) × IsStored self payloads (H.view host.old) }
         requires fits { Fits (state_of self) commit }
         requires has_spelling { HasSpelling commit }

@@ -9,19 +9,18 @@ ghost use Rattle.client_run.specs.Turned.{IsSpelledReading, Turned, Wrote, Blame
 ghost use Rattle.client_run.specs.declared.event.Event.TheVariants as event;
 ghost use Rattle.client_run.specs.declared.reading.Reading.TheVariants as reading_of;
 
-use document_keys::Database;
-use host_api::Host;
-use mutations::{Batch, Write};
-use record_codec::Commit;
-use std::alloc::Global;
-use value_model::Timestamp;
-
 use crate::committing::StoreFault;
 use crate::event::Event;
 use crate::local_store::LocalStore;
 use crate::printing::{print_document, print_ok, print_refusal};
 use crate::reading::Reading;
 use crate::status::Status;
+use document_keys::Database;
+use host_api::Host;
+use mutations::{Batch, Write};
+use record_codec::Commit;
+use std::alloc::Global;
+use value_model::Timestamp;
 
 /// Answers a line that makes no commit.
 fn answer<H: Host>(host: &mut H, store: LocalStore, output: &str) -> Result<LocalStore, Status>
@@ -40,7 +39,13 @@ fn answer<H: Host>(host: &mut H, store: LocalStore, output: &str) -> Result<Loca
 
 /// Commits a write, and then answers it. The answer is made before the commit.
 #[tactic(auto, unfolding(crate::specs::Turn::turn))]
-fn handle_write<H: Host>(alloc: Global, host: &mut H, store: LocalStore, at: Timestamp, write: Write) -> Result<LocalStore, Status>
+fn handle_write<H: Host>(
+    alloc: Global,
+    host: &mut H,
+    store: LocalStore,
+    at: Timestamp,
+    write: Write,
+) -> Result<LocalStore, Status>
     requires stored { IsTrue H.tells_files → (payloads : List (List ℕ)) × IsStored store payloads (H.view host.old) }
     requires moment { IsMoment at }
     requires spelled { IsSpelledWrite write }
@@ -70,7 +75,14 @@ fn handle_write<H: Host>(alloc: Global, host: &mut H, store: LocalStore, at: Tim
 /// Handles one line: what it commits is on the disk before its answer goes out, in one call of `emit`. `line` is its
 /// number in the run, from 1.
 #[tactic(auto, unfolding(crate::specs::Turn::turn))]
-pub fn handle<H: Host>(alloc: Global, root: &Database, host: &mut H, store: LocalStore, line: u64, reading: Reading) -> Result<LocalStore, Status>
+pub fn handle<H: Host>(
+    alloc: Global,
+    root: &Database,
+    host: &mut H,
+    store: LocalStore,
+    line: u64,
+    reading: Reading,
+) -> Result<LocalStore, Status>
     requires stored { IsTrue H.tells_files → (payloads : List (List ℕ)) × IsStored store payloads (H.view host.old) }
     requires spelled { IsSpelledReading reading }
     ensures state { IfOk result (λ next. (past : Past) → state_of next ≡ after (state_of store) (turn root.now (state_of store) past reading).commit) }

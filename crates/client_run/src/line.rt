@@ -4,14 +4,13 @@ ghost use Rattle.serde_json.specs.View.{view};
 ghost use Rattle.client_run.specs.Turned.{IsSpelledReading};
 ghost use Rattle.client_run.specs.Reading.{only_name as only_name_of, Reads};
 
+use crate::reading::Reading;
+use crate::refusal::Refusal;
+use crate::tree::read_event;
 use document_keys::{Database, NoMemory, Text};
 use host_api::Line;
 use serde_json::Value as Json;
 use std::alloc::Global;
-
-use crate::reading::Reading;
-use crate::refusal::Refusal;
-use crate::tree::read_event;
 
 /// The name of the only member, or the empty text.
 fn only_name(json: &Json) -> &str
@@ -52,7 +51,12 @@ fn read_line(alloc: Global, root: &Database, text: &[u8]) -> Result<Reading, NoM
 }
 
 /// What the item that a source gave is.
-pub fn read_item(alloc: Global, root: &Database, line: Line, text: &[u8]) -> Result<Reading, NoMemory>
+pub fn read_item(
+    alloc: Global,
+    root: &Database,
+    line: Line,
+    text: &[u8],
+) -> Result<Reading, NoMemory>
     requires { line ≢ Line.End }
     ensures is { IfOk result (λ reading. Reads root.now (item_of line text.now) reading) }
     ensures spelled { IfOk result IsSpelledReading }

@@ -1,10 +1,9 @@
 ghost use Rattle.std.specs.Prelude.{◌≡◌, option_copied};
 ghost use Rattle.client_run.specs.State.{local_document};
 
+use crate::local_store::LocalStore;
 use document_keys::DocumentKey;
 use value_model::Fields;
-
-use crate::local_store::LocalStore;
 
 impl LocalStore {
     /// The fields of the key's document as it stands with the pending writes, lent; `None` exactly where there is none.

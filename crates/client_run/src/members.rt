@@ -26,7 +26,11 @@ pub fn only_member<'a>(json: &'a Value, name: &str) -> Option<&'a Value>
 }
 
 /// The values of both members, where the value is an object that has these two members, in this order, and no other.
-pub fn both_members<'a>(json: &'a Value, first: &str, second: &str) -> Option<(&'a Value, &'a Value)>
+pub fn both_members<'a>(
+    json: &'a Value,
+    first: &str,
+    second: &str,
+) -> Option<(&'a Value, &'a Value)>
     ensures { MatchOption result
         ((d e : Data) → view json.now ≢ two first.now d second.now e)
         (λ v. view json.now ≡ two first.now (view v.0.now) second.now (view v.1.now)) }

@@ -2,11 +2,10 @@ ghost use Rattle.std.specs.Prelude.{◌↔◌, ℕ, List, IsTrue, IfOk, MatchOpt
 ghost use Rattle.serde_json.specs.View.{view};
 ghost use Rattle.client_run.specs.Grammar.{IsPlain, IsPlainField, IsPlainKey, SpellsName};
 
+use crate::members::text_of;
 use document_keys::{Database, DocumentKey, NameFault, NoMemory};
 use serde_json::Value;
 use std::alloc::Global;
-
-use crate::members::text_of;
 
 /// Whether the text has 1 to 20 letters and digits of ASCII, and nothing else.
 pub fn is_plain(text: &str) -> bool
@@ -15,7 +14,9 @@ pub fn is_plain(text: &str) -> bool
     if text.is_empty() || text.len() > 20 {
         return false;
     }
-    text.as_bytes().iter().all(|byte| byte.is_ascii_alphanumeric())
+    text.as_bytes()
+        .iter()
+        .all(|byte| byte.is_ascii_alphanumeric())
 }
 
 /// Whether the text is a letter and then at most 19 letters and digits of ASCII.
@@ -44,7 +45,11 @@ fn is_plain_key(key: &DocumentKey) -> bool
 }
 
 /// The key that the string names under the root, where both parts of its path are plain.
-pub fn read_name(alloc: Global, root: &Database, json: &Value) -> Result<Option<DocumentKey>, NoMemory>
+pub fn read_name(
+    alloc: Global,
+    root: &Database,
+    json: &Value,
+) -> Result<Option<DocumentKey>, NoMemory>
     ensures { IfOk result (λ found. MatchOption found
         ((key : List (List ℕ)) → SpellsName root.now (view json.now) key → ⊥)
         (λ key. SpellsName root.now (view json.now) key)) }

@@ -6,14 +6,13 @@ ghost use Rattle.disk_journal.specs.Steps.{Opens};
 ghost use Rattle.client_run.specs.State.{State, start, Replays};
 ghost use Rattle.client_run.specs.Store.{IsStored, Refuses};
 
+use crate::local_store::LocalStore;
 use disk_journal::{Journal, OpenFault};
 use document_keys::NoMemory;
 use host_api::Host;
 use mutations::Batch;
 use record_codec::{Commit, decode};
 use std::alloc::Global;
-
-use crate::local_store::LocalStore;
 
 /// The batch that a commit puts into the state.
 pub fn enqueued(commit: Commit) -> Batch

@@ -7,12 +7,11 @@ ghost use Rattle.document_keys.specs.Names.{Root, name_text};
 ghost use Rattle.client_run.specs.Trees.{one};
 ghost use Rattle.client_run.specs.Output.{line_of, ok_tree, too_long_tree, bad_line_tree, unsupported_tree, refused_tree, fields_tree, value_tree, missing_tree, empty_tree, found_tree, document_tree};
 
+use crate::refusal::Refusal;
 use document_keys::{Database, DocumentKey, NoMemory};
 use serde_json::{Map, Value as Json, json};
 use std::alloc::{AllocError, Global};
 use value_model::{Field, Fields, Value};
-
-use crate::refusal::Refusal;
 
 /// The tree as a line, with its newline.
 #[tactic(auto, unfolding(crate::specs::Output::line_of))]
@@ -132,7 +131,12 @@ fn document_json(alloc: Global, name: &str, fields: &Fields) -> Result<Json, NoM
 }
 
 /// The answer of a get, for the document as it stands with the pending writes.
-pub fn print_document(alloc: Global, root: &Database, key: &DocumentKey, document: Option<&Fields>) -> Result<String, NoMemory>
+pub fn print_document(
+    alloc: Global,
+    root: &Database,
+    key: &DocumentKey,
+    document: Option<&Fields>,
+) -> Result<String, NoMemory>
     ensures { IfOk result (λ line. string_bytes line ≡ line_of (document_tree root.now key.now (option_copied document.entry))) }
 {
     let name = key.print(alloc, root)?;

@@ -4,14 +4,13 @@ ghost use Rattle.client_run.specs.State.{State, FindsState};
 ghost use Rattle.client_run.specs.Store.{IsNoStore};
 ghost use Rattle.client_run.specs.Run.{Ran, Faults, LeavesForeign, IsRefusal};
 
+use crate::local_store::LocalStore;
+use crate::serving::serve;
+use crate::status::Status;
 use disk_journal::OpenFault;
 use document_keys::Database;
 use host_api::{Host, Source};
 use std::alloc::Global;
-
-use crate::local_store::LocalStore;
-use crate::serving::serve;
-use crate::status::Status;
 
 /// A run of at most `budget` lines over the database `root`: the store is opened, and then each line is read, and what it
 /// commits is on the disk before its answer goes out.
@@ -20,7 +19,13 @@ use crate::status::Status;
 /// `NotAStore` exactly where the files, being read, aren't those of a store: nothing is changed then, and nothing is
 /// written. `SourceFault`, `DiskFault` and `SinkFault` only where that count rose; `Budget` exactly where as many lines
 /// were handled as the budget allows; `Done` exactly at the end of the source before that; or `NoMemory`.
-pub fn run_within<S: Source, H: Host>(alloc: Global, root: Database, source: &mut S, host: &mut H, budget: u64) -> Status
+pub fn run_within<S: Source, H: Host>(
+    alloc: Global,
+    root: Database,
+    source: &mut S,
+    host: &mut H,
+    budget: u64,
+) -> Status
     requires budget { 1 ≤ budget }
     ensures run { IsTrue S.tells → IsTrue H.tells_files → (s : State) → (finds : FindsState (H.view host.old).bytes s)
         → Ran root (split (S.left source.old)) s finds.payloads H.tells_out H.tells_files budget result (H.view host.old) (H.view host.new) }

@@ -3,17 +3,23 @@ ghost use Rattle.host_api.specs.Items.{split};
 ghost use Rattle.client_run.specs.Store.{IsStored, state_of};
 ghost use Rattle.client_run.specs.Run.{Ran, Faults, IsServed};
 
-use document_keys::Database;
-use host_api::{Host, Line, Source, SourceFault};
-use std::alloc::Global;
-
 use crate::handling::handle;
 use crate::line::read_item;
 use crate::local_store::LocalStore;
 use crate::status::Status;
+use document_keys::Database;
+use host_api::{Host, Line, Source, SourceFault};
+use std::alloc::Global;
 
 /// Reads and handles the lines of the source, one after another, at most as many as the budget.
-pub fn serve<S: Source, H: Host>(alloc: Global, root: &Database, source: &mut S, host: &mut H, store: LocalStore, budget: u64) -> Status
+pub fn serve<S: Source, H: Host>(
+    alloc: Global,
+    root: &Database,
+    source: &mut S,
+    host: &mut H,
+    store: LocalStore,
+    budget: u64,
+) -> Status
     requires stored { IsTrue H.tells_files → (payloads : List (List ℕ)) × IsStored store payloads (H.view host.old) }
     ensures run { IsTrue S.tells → (payloads : List (List ℕ)) → (IsTrue H.tells_files → IsStored store payloads (H.view host.old))
         → Ran root.now (split (S.left source.old)) (state_of store) payloads H.tells_out H.tells_files budget result (H.view host.old) (H.view host.new) }

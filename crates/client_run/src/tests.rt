@@ -3,12 +3,18 @@ use document_keys::Database;
 use host_api::{CrashPick, FileId, MemHost, MemSource};
 use std::test::Fail;
 
-const WRITE: &str = r#"{"write":{"at":"2024-05-01T00:00:01Z","writes":[{"update":{"name":"projects/demo/databases/(default)/documents/rooms/a","fields":{"n":{"integerValue":"1"}}}}]}}"#;
-const GET: &str =
-    r#"{"get":{"name":"projects/demo/databases/(default)/documents/rooms/a"}}"#;
+const WRITE: &str =
+    r#"{"write":{"at":"2024-05-01T00:00:01Z","writes":[{"update":{"name":"projects/demo/databases/(default)/documents/rooms/a","fields":{"n":{"integerValue":"1"}}}}]}}"#;
+
+const GET: &str = r#"{"get":{"name":"projects/demo/databases/(default)/documents/rooms/a"}}"#;
+
 const OK: &str = "{\"ok\":{\"batch\":1,\"commit\":1}}\n";
-const PENDING: &str = "{\"document\":{\"exists\":true,\"fields\":{\"n\":{\"integerValue\":\"1\"}},\"name\":\"projects/demo/databases/(default)/documents/rooms/a\",\"state\":\"pending\"}}\n";
-const MISSING: &str = "{\"document\":{\"exists\":false,\"name\":\"projects/demo/databases/(default)/documents/rooms/a\",\"state\":\"unknown\"}}\n";
+
+const PENDING: &str =
+    "{\"document\":{\"exists\":true,\"fields\":{\"n\":{\"integerValue\":\"1\"}},\"name\":\"projects/demo/databases/(default)/documents/rooms/a\",\"state\":\"pending\"}}\n";
+
+const MISSING: &str =
+    "{\"document\":{\"exists\":false,\"name\":\"projects/demo/databases/(default)/documents/rooms/a\",\"state\":\"unknown\"}}\n";
 
 // a host over these two files
 fn host_over(rt: &HostRuntime, zero: &[u8], one: &[u8], failing: &[u64]) -> Result<MemHost, Fail> {
@@ -169,7 +175,7 @@ fn crashes(rt: HostRuntime) -> Result<(), Fail> {
     let mut host = host_over(&rt, &[], &[], &[])?;
     assert_eq!(rt; run_lines(&rt, &[WRITE], &mut host)?, Status::Done);
     // the last two calls are the second sync of the append, and the answer
-    let reported = host.calls() - 1;
+    let reported = host.calls().saturating_sub(1);
     for calls in 0..=host.calls() {
         let short = survives(&rt, &host, calls, 0)?;
         let long = survives(&rt, &host, calls, u64::MAX)?;

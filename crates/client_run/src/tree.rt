@@ -11,16 +11,15 @@ ghost use Rattle.record_codec.specs.Spelling.{IsSpelledWrite};
 ghost use Rattle.client_run.specs.Turned.{IsSpelledEvent};
 ghost use Rattle.client_run.specs.declared.event.Event.{Event as EventData};
 
+use crate::event::Event;
+use crate::members::{both_members, only_item, only_member, text_of};
+use crate::names::{is_plain_field, read_name};
+use crate::numbers::read_integer;
 use document_keys::{Database, DocumentKey, NoMemory, Text};
 use mutations::Write;
 use serde_json::Value as Json;
 use std::alloc::Global;
 use value_model::{Field, Fields, Timestamp, Value};
-
-use crate::event::Event;
-use crate::members::{both_members, only_item, only_member, text_of};
-use crate::names::{is_plain_field, read_name};
-use crate::numbers::read_integer;
 
 /// The value that a tree spells.
 fn read_value(alloc: Global, json: &Json) -> Result<Option<Value>, NoMemory>
@@ -99,7 +98,11 @@ pub fn read_write(alloc: Global, root: &Database, json: &Json) -> Result<Option<
 }
 
 /// The local write time and the write that a `write` line spells.
-fn read_write_line(alloc: Global, root: &Database, json: &Json) -> Result<Option<(Timestamp, Write)>, NoMemory>
+fn read_write_line(
+    alloc: Global,
+    root: &Database,
+    json: &Json,
+) -> Result<Option<(Timestamp, Write)>, NoMemory>
     ensures spelled { IfOk result (λ found. IfSome found (λ line. IsMoment line.0 × IsSpelledWrite line.1)) }
     ensures is { IfOk result (λ found. MatchOption found
         ((at : TimestampData) (write : WriteData) → SpellsWriteLine root.now (view json.now) at write → ⊥)
@@ -127,7 +130,11 @@ fn read_write_line(alloc: Global, root: &Database, json: &Json) -> Result<Option
 }
 
 /// The key of the document that a `get` line asks for.
-fn read_get_line(alloc: Global, root: &Database, json: &Json) -> Result<Option<DocumentKey>, NoMemory>
+fn read_get_line(
+    alloc: Global,
+    root: &Database,
+    json: &Json,
+) -> Result<Option<DocumentKey>, NoMemory>
     ensures { IfOk result (λ found. MatchOption found
         ((key : List (List ℕ)) → SpellsGetLine root.now (view json.now) key → ⊥)
         (λ key. SpellsGetLine root.now (view json.now) key)) }

@@ -13,7 +13,7 @@ pub returns-then-batch-len : goal.returns-then-batch-len
 returns-then-batch-len c =
     let found = spelled_as _ _ _ c.enqueued-batch.ensures (rw c.in-Some.is at c.in_ok-commit.ensures.found) in
     stuck _ c.loop-payload.payload-index c.payload-item.result _ c.loop-payload-test.true c.payload-item.is c.loop-payload.invariant.replays
-        (other_id (record { number = c.loop-payload.payload-index; batches = c.loop-payload.batches.items; next_batch = c.loop-payload.payload-index + 1 }) c.enqueued-batch.result _ found.0 (sym c.as_slice.ensures.value ∙ found.1) (λ same. c.if-batch-len.true (omega (arith, same, c.len.ensures, c.loop-payload.invariant.count))))
+    (other_id (record { number = c.loop-payload.payload-index; batches = c.loop-payload.batches.items; next_batch = c.loop-payload.payload-index + 1 }) c.enqueued-batch.result _ found.0 (sym c.as_slice.ensures.value ∙ found.1) (λ same. c.if-batch-len.true (omega (arith, same, c.len.ensures, c.loop-payload.invariant.count))))
 
 pub loop-payload-preserved : goal.loop-payload-preserved
 loop-payload-preserved c =

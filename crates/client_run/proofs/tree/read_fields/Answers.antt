@@ -18,7 +18,7 @@ returns-in_default-2-clause-is c =
     let next = rest_more deref_pair c.loop-name.name-iterator c.next.new.self c.next.result (c.in-Some.name, c.in-Some.value) c.in-Some.is c.next.ensures.steps in
     let none = rw c.in_default-2.is at c.in_ok-field.ensures in
     no_field _ _ (map deref_pair c.loop-name.yielded) c.next.new.self (deref_pair (c.in-Some.name, c.in-Some.value)) is (sym c.into_iter-name-iterator.ensures.into_iter_gives.0 ∙ so_far ∙ ap (λ l. map deref_pair c.loop-name.yielded ++ l) next)
-        (λ field s. none field (subst (λ (n : List ℕ). SpellsField (n, view c.in-Some.value.now) field) (sym c.as_str.ensures.value) s))
+    (λ field s. none field (subst (λ (n : List ℕ). SpellsField (n, view c.in-Some.value.now) field) (sym c.as_str.ensures.value) s))
 
 pub loop-name-preserved : goal.loop-name-preserved
 loop-name-preserved c =
@@ -32,5 +32,5 @@ returns-clause-is c =
     let is : view c.args.json.now ≡ object (members_view c.in-Object.map.entries) = ap view c.in-Object.is ∙ view-Object c.in-Object.map in
     let all = iter_end deref_pair c.in-Object.map.entries c.loop-name.yielded c.into_iter-name-iterator.result c.loop-name.name-iterator c.next.new.self c.next.result c.into_iter-name-iterator.ensures.into_iter_gives.0 c.loop-name.yielded_by c.in-None.is c.next.ensures.steps in
     let each : AllZip SpellsField (map shown c.in-Object.map.entries) c.loop-name.entries.items =
-        subst (λ (l : List (List ℕ × Data)). AllZip SpellsField l c.loop-name.entries.items) (seen_all deref_pair c.loop-name.yielded ∙ ap (map shown) all.0) c.loop-name.invariant.2 in
+    subst (λ (l : List (List ℕ × Data)). AllZip SpellsField l c.loop-name.entries.items) (seen_all deref_pair c.loop-name.yielded ∙ ap (map shown) all.0) c.loop-name.invariant.2 in
     fields_found _ _ _ c.from_entries.result is each c.from_entries.ensures.some c.from_entries.ensures.none
