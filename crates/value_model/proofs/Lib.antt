@@ -1,6 +1,11 @@
+pub mod ByRank
 pub mod Checked
 pub mod Dates
 pub mod Days
+pub mod Exact
+pub mod Loops
 pub mod Named
 pub mod Parts
+pub mod RefNames
+pub mod Scalars
 pub mod Sizes

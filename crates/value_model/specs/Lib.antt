@@ -3,6 +3,7 @@ pub mod Data
 pub mod Falls
 pub mod Fields
 pub mod Named
+pub mod Order
 pub mod Storable
 pub mod Time
 pub mod View

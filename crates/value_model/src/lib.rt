@@ -4,6 +4,7 @@
 mod bytes;
 mod fields;
 mod names;
+mod order;
 mod reference;
 #[cfg(test)]
 mod tests;
