@@ -3,6 +3,7 @@ pub mod Checked
 pub mod Dates
 pub mod Days
 pub mod Exact
+pub mod Lawful
 pub mod Loops
 pub mod Named
 pub mod Parts

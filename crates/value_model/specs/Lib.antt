@@ -2,6 +2,7 @@ pub mod Codes
 pub mod Data
 pub mod Falls
 pub mod Fields
+pub mod Laws
 pub mod Named
 pub mod Order
 pub mod Storable

@@ -3,6 +3,7 @@
 
 mod bytes;
 mod fields;
+mod laws;
 mod names;
 mod order;
 mod reference;
@@ -13,6 +14,7 @@ mod value;
 
 pub use bytes::Bytes;
 pub use fields::{Field, Fields};
+pub use laws::{pending_times_stand, ties_are_equal, values_are_ordered};
 pub use reference::RefName;
 pub use timestamp::Timestamp;
 pub use value::{Kind, Value};
