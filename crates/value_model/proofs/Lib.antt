@@ -7,6 +7,7 @@ pub mod Lawful
 pub mod Loops
 pub mod Named
 pub mod Parts
+pub mod Places
 pub mod RefNames
 pub mod Scalars
 pub mod Sizes

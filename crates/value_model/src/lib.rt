@@ -2,9 +2,11 @@
 #![tactic(auto)]
 
 mod bytes;
+mod entries;
 mod fields;
 mod laws;
 mod names;
+mod nesting;
 mod order;
 mod reference;
 #[cfg(test)]
