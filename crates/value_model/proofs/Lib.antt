@@ -2,6 +2,7 @@ pub mod ByRank
 pub mod Checked
 pub mod Dates
 pub mod Days
+pub mod Depths
 pub mod Exact
 pub mod Lawful
 pub mod Loops
