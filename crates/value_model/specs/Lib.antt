@@ -1,5 +1,6 @@
 pub mod Codes
 pub mod Data
+pub mod Documents
 pub mod Falls
 pub mod Fields
 pub mod Laws

@@ -2,21 +2,32 @@
 #![tactic(auto)]
 
 mod bytes;
+mod document;
+mod documents;
 mod entries;
 mod fields;
 mod laws;
+mod message;
 mod names;
 mod nesting;
 mod order;
 mod reference;
+mod target_ids;
 #[cfg(test)]
 mod tests;
 mod timestamp;
 mod value;
 
 pub use bytes::Bytes;
+pub use document::{DocState, Document, Entry, RpcStatus, Seal};
+pub use documents::{DocRef, Documents};
 pub use fields::{Field, Fields};
 pub use laws::{pending_times_stand, ties_are_equal, values_are_ordered};
+pub use message::{
+    ChangeKind, DocumentChange, DocumentDelete, DocumentRemove, ExistenceFilter, ListenResponse,
+    TargetChange,
+};
 pub use reference::RefName;
+pub use target_ids::TargetIds;
 pub use timestamp::Timestamp;
 pub use value::{Kind, Value};
