@@ -6,6 +6,7 @@ pub mod Depths
 pub mod Exact
 pub mod Lawful
 pub mod Loops
+pub mod Mapped
 pub mod Named
 pub mod Parts
 pub mod Places

@@ -27,13 +27,13 @@ reversed_greater Less e = cc
 reversed_greater Equal e = cc
 reversed_greater Greater e = refl
 
-compared_below : (m n : List ℕ) → TextBefore m n → slice_cmp nat_cmp n m ≡ Greater
+pub compared_below : (m n : List ℕ) → TextBefore m n → slice_cmp nat_cmp n m ≡ Greater
 compared_below m n before = texts_compute.total.antisymm n m ∙ ap ordering_reverse (texts_compute.less m n before)
 
-below_from : (m n : List ℕ) → slice_cmp nat_cmp m n ≡ Greater → TextBefore n m
+pub below_from : (m n : List ℕ) → slice_cmp nat_cmp m n ≡ Greater → TextBefore n m
 below_from m n e = texts_compute.below n m (texts_compute.total.antisymm n m ∙ reversed_greater (slice_cmp nat_cmp m n) e)
 
-compared_same : (m n : List ℕ) → m ≡ n → slice_cmp nat_cmp n m ≡ Equal
+pub compared_same : (m n : List ℕ) → m ≡ n → slice_cmp nat_cmp n m ≡ Equal
 compared_same m n e = ap (λ k. slice_cmp nat_cmp n k) e ∙ tied_itself texts_compute.total n
 
 -- ---- the search

@@ -1,7 +1,8 @@
 -- Laws of values and their order.
-use Rattle.std.specs.Prelude.{◌≡◌, ◌↔◌, ◌⊎◌, ℕ, List}
+use Rattle.std.specs.Prelude.{◌≡◌, ◌≢◌, ◌↔◌, ◌⊎◌, ℕ, List, Some, None}
 use Rattle.value_model.specs.declared.timestamp.Timestamp.{Timestamp}
-use Rattle.value_model.specs.Data.{Data, time, pending, text}
+use Rattle.value_model.specs.Data.{Data, Entries, time, pending, text}
+use Rattle.value_model.specs.Fields.{AreFields, field, with_field, without_field}
 use Rattle.value_model.specs.Order.{Before}
 
 -- values are in a strict order, in which of two values one is before the other or they are the same
@@ -25,3 +26,12 @@ pub record TiesAreEqual : Type 0 where
 pub record PendingTimesStand : Type 0 where
   pub after_times : (at t : Timestamp) → Before (time t) (pending at)
   pub before_texts : (at : Timestamp) (s : List ℕ) → Before (pending at) (text s)
+
+-- fields are a finite map: what is put at a name stands there, what is taken away doesn't, no other name is touched, and
+-- fields with the same values at all names are the same
+pub record FieldsAreAMap : Type 0 where
+  pub put_here : (fields : Entries) (name : List ℕ) (value : Data) → field (with_field fields name value) name ≡ Some value
+  pub put_elsewhere : (fields : Entries) (name : List ℕ) (value : Data) (other : List ℕ) → other ≢ name → field (with_field fields name value) other ≡ field fields other
+  pub removed_here : (fields : Entries) (name : List ℕ) → AreFields fields → field (without_field fields name) name ≡ None
+  pub removed_elsewhere : (fields : Entries) (name other : List ℕ) → other ≢ name → field (without_field fields name) other ≡ field fields other
+  pub alike : (fields others : Entries) → AreFields fields → AreFields others → ((name : List ℕ) → field fields name ≡ field others name) → fields ≡ others

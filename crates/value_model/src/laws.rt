@@ -1,6 +1,6 @@
-//! Laws of values and their order. Nothing is done when they run.
+//! Laws of values, their order, and fields. Nothing is done when they run.
 
-ghost use Rattle.value_model.specs.Laws.{ValuesAreOrdered, TiesAreEqual, PendingTimesStand};
+ghost use Rattle.value_model.specs.Laws.{ValuesAreOrdered, TiesAreEqual, PendingTimesStand, FieldsAreAMap};
 
 /// Values are in a strict total order.
 pub fn values_are_ordered()
@@ -15,4 +15,9 @@ pub fn ties_are_equal()
 /// A pending time stands after every timestamp and before every text.
 pub fn pending_times_stand()
     ensures { PendingTimesStand }
+{}
+
+/// Fields are a finite map from names to values.
+pub fn fields_are_a_map()
+    ensures { FieldsAreAMap }
 {}

@@ -22,7 +22,7 @@ pub use bytes::Bytes;
 pub use document::{DocState, Document, Entry, RpcStatus, Seal};
 pub use documents::{DocRef, Documents};
 pub use fields::{Field, Fields};
-pub use laws::{pending_times_stand, ties_are_equal, values_are_ordered};
+pub use laws::{fields_are_a_map, pending_times_stand, ties_are_equal, values_are_ordered};
 pub use message::{
     ChangeKind, DocumentChange, DocumentDelete, DocumentRemove, ExistenceFilter, ListenResponse,
     TargetChange,

@@ -68,18 +68,18 @@ fn compare_values(left: &[Value], right: &[Value]) -> Ordering
 
 /// The order of maps of these fields.
 #[cycle(compare)]
-fn compare_fields(left: &[Field], right: &[Field]) -> Ordering
-    ensures { RanksValues result (Data.map_of (fields_data left.now)) (Data.map_of (fields_data right.now)) }
+fn compare_fields(fields: &[Field], others: &[Field]) -> Ordering
+    ensures { RanksValues result (Data.map_of (fields_data fields.now)) (Data.map_of (fields_data others.now)) }
 {
-    for i in 0..left.len().min(right.len()) {
-        let names = left[i].name.cmp(&right[i].name);
+    for i in 0..fields.len().min(others.len()) {
+        let names = fields[i].name.cmp(&others[i].name);
         if names.is_ne() {
             return names;
         }
-        let values = left[i].value.compare(&right[i].value);
+        let values = fields[i].value.compare(&others[i].value);
         if values.is_ne() {
             return values;
         }
     }
-    left.len().cmp(&right.len())
+    fields.len().cmp(&others.len())
 }

@@ -50,7 +50,7 @@ pub order::compare_values-compare-order-requires : goal.order::compare_values-co
 order::compare_values-compare-order-requires t c = let within = item_below c.args.left.now c.loop-i.i c.index-left-i.result (omega arith) in search rules
 
 pub order::compare_fields-compare-values-requires : goal.order::compare_fields-compare-values-requires
-order::compare_fields-compare-values-requires t c = let within = field_below c.args.left.now c.loop-i.i c.index-left-i-in-loop-i.result (omega arith) in search rules
+order::compare_fields-compare-values-requires t c = let within = field_below c.args.fields.now c.loop-i.i c.index-fields-i-in-loop-i.result (omega arith) in search rules
 
 pub order::compare_values-returns-then-is_ne : goal.order::compare_values-returns-then-is_ne
 order::compare_values-returns-then-is_ne t c = values_apart c.args.left.now c.args.right.now c.loop-i.i c.index-left-i.result c.index-right-i.result c.compare-order.result c.loop-i.invariant (omega arith) (omega arith) c.index-left-i.is c.index-right-i.is c.compare-order.ensures (sym c.is_ne.ensures ∙ c.if-is_ne.true)
@@ -59,15 +59,15 @@ pub order::compare_values-returns : goal.order::compare_values-returns
 order::compare_values-returns t c = values_end c.args.left.now c.args.right.now c.loop-i.i c.cmp.result c.loop-i.invariant (omega arith) c.cmp.ensures
 
 pub order::compare_fields-returns : goal.order::compare_fields-returns
-order::compare_fields-returns t c = fields_end c.args.left.now c.args.right.now c.loop-i.i c.cmp.result c.loop-i.invariant (omega arith) c.cmp.ensures
+order::compare_fields-returns t c = fields_end c.args.fields.now c.args.others.now c.loop-i.i c.cmp.result c.loop-i.invariant (omega arith) c.cmp.ensures
 
 pub order::compare_fields-returns-then-is_ne : goal.order::compare_fields-returns-then-is_ne
-order::compare_fields-returns-then-is_ne t c = names_apart c.args.left.now c.args.right.now c.loop-i.i c.index-left-i.result c.index-right-i.result c.cmp-names.result c.loop-i.invariant (omega arith) (omega arith) c.cmp-names.ensures (sym c.is_ne.ensures ∙ c.if-is_ne.true)
+order::compare_fields-returns-then-is_ne t c = names_apart c.args.fields.now c.args.others.now c.loop-i.i c.index-fields-i.result c.index-others-i.result c.cmp-names.result c.loop-i.invariant (omega arith) (omega arith) c.cmp-names.ensures (sym c.is_ne.ensures ∙ c.if-is_ne.true)
 
 pub order::compare_fields-returns-then-is_ne-2 : goal.order::compare_fields-returns-then-is_ne-2
-order::compare_fields-returns-then-is_ne-2 t c = fields_differ c.args.left.now c.args.right.now c.loop-i.i c.index-left-i.result c.index-right-i.result c.index-left-i-in-loop-i.result c.index-right-i-in-loop-i.result c.cmp-names.result c.compare-values.result c.loop-i.invariant (omega arith) (omega arith)
+order::compare_fields-returns-then-is_ne-2 t c = fields_differ c.args.fields.now c.args.others.now c.loop-i.i c.index-fields-i.result c.index-others-i.result c.index-fields-i-in-loop-i.result c.index-others-i-in-loop-i.result c.cmp-names.result c.compare-values.result c.loop-i.invariant (omega arith) (omega arith)
     c.cmp-names.ensures (sym c.is_ne.ensures ∙ c.if-is_ne.false) c.compare-values.ensures (sym c.is_ne-in-loop-i.ensures ∙ c.if-is_ne-2.true)
 
 pub order::compare_fields-loop-i-preserved : goal.order::compare_fields-loop-i-preserved
-order::compare_fields-loop-i-preserved t c = fields_on c.args.left.now c.args.right.now c.loop-i.i c.index-left-i.result c.index-right-i.result c.index-left-i-in-loop-i.result c.index-right-i-in-loop-i.result c.cmp-names.result c.compare-values.result c.loop-i.invariant (omega arith) (omega arith)
+order::compare_fields-loop-i-preserved t c = fields_on c.args.fields.now c.args.others.now c.loop-i.i c.index-fields-i.result c.index-others-i.result c.index-fields-i-in-loop-i.result c.index-others-i-in-loop-i.result c.cmp-names.result c.compare-values.result c.loop-i.invariant (omega arith) (omega arith)
     c.cmp-names.ensures (sym c.is_ne.ensures ∙ c.if-is_ne.false) c.compare-values.ensures (sym c.is_ne-in-loop-i.ensures ∙ c.if-is_ne-2.false)

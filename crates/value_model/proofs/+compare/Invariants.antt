@@ -11,10 +11,10 @@ abbrev pub decreases-order::compare_values : goal.decreases-order::compare_value
 decreases-order::compare_values l = 2 * items_size (items_of l.left.now)
 
 abbrev pub decreases-order::compare_fields : goal.decreases-order::compare_fields
-decreases-order::compare_fields l = 2 * entries_size (fields_data l.left.now)
+decreases-order::compare_fields l = 2 * entries_size (fields_data l.fields.now)
 
 abbrev pub invariant-order::compare_values-loop-i : goal.invariant-order::compare_values-loop-i
 invariant-order::compare_values-loop-i l = take l.i l.left ≡ take l.i l.right
 
 abbrev pub invariant-order::compare_fields-loop-i : goal.invariant-order::compare_fields-loop-i
-invariant-order::compare_fields-loop-i l = take l.i (fields_data l.left) ≡ take l.i (fields_data l.right)
+invariant-order::compare_fields-loop-i l = take l.i (fields_data l.fields) ≡ take l.i (fields_data l.others)
