@@ -1,0 +1,17 @@
+//! Values, fields, names and documents in JSON: what a tree spells, the faults of one that spells nothing, and how they
+//! are printed.
+#![tactic(auto)]
+
+mod bytes;
+mod fault;
+mod members;
+mod numbers;
+mod place;
+mod side;
+
+pub use bytes::{print_bytes, read_bytes};
+pub use fault::{BadName, JsonFault, NamingFault, better};
+pub use members::given;
+pub use numbers::{read_integer, read_whole};
+pub use place::{Place, value_member};
+pub use side::Side;
