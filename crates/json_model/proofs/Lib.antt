@@ -1,2 +1,5 @@
 pub mod Numerals
 pub mod Wholes
+pub mod Shown
+pub mod Digits
+pub mod OneKind

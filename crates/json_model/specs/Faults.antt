@@ -11,7 +11,7 @@ use Rattle.json_model.specs.declared.side.Side.TheVariants.{Caller, Backend}
 use Rattle.json_model.specs.declared.place.Place.{Place}
 use Rattle.json_model.specs.declared.place.Place.TheVariants as place
 use Rattle.json_model.specs.declared.fault.JsonFault.{JsonFault}
-use Rattle.json_model.specs.declared.fault.JsonFault.TheVariants as fault
+use Rattle.json_model.specs.declared.fault.JsonFault.TheVariants as json_fault
 use Rattle.json_model.specs.declared.fault.NamingFault.{NamingFault}
 use Rattle.json_model.specs.Bytes.{SpellsBytes}
 use Rattle.json_model.specs.Members.{is_left_out, kinds_given, given}
@@ -32,7 +32,7 @@ Unless Fact fault faults = (Fact × (faults ≡ [])) ⊎ ((Fact → ⊥) × (fau
 
 -- the fault of a name
 abbrev pub bad_name : NamingFault → List ℕ → JsonFault
-bad_name fault name = fault.BadName (record { fault = fault; name = name })
+bad_name fault name = json_fault.BadName (record { fault = fault; name = name })
 
 -- the faults of a text as a reference
 abbrev pub ReferenceFaults : List ℕ → List JsonFault → Type 0
@@ -46,28 +46,28 @@ FieldNameFaults name faults = (IsFieldName name × (faults ≡ [])) ⊎ ((fault 
 
 -- a member that isn't known is a fault of the caller's, and ignored in a message of the backend
 abbrev pub unknown_faults : Side → List ℕ → List JsonFault
-unknown_faults Caller name = fault.BadShape name ∷ []
+unknown_faults Caller name = json_fault.BadShape name ∷ []
 unknown_faults Backend name = []
 
 -- what has not the shape that is to stand there
 abbrev pub stray : Side → Place → List ℕ → List JsonFault
-stray side place.Unsupported name = fault.Unsupported name ∷ []
+stray side place.Unsupported name = json_fault.Unsupported name ∷ []
 stray side place.Unknown name = unknown_faults side name
-stray side _ name = fault.BadShape name ∷ []
+stray side _ name = json_fault.BadShape name ∷ []
 
 -- the faults of a number
 abbrev pub NumberFaults : Side → Place → List ℕ → Json → List JsonFault → Type 0
-NumberFaults side place.Integer name d faults = Unless ((z : ℤ) × SpellsWhole d z) (fault.BadShape name) faults
+NumberFaults side place.Integer name d faults = Unless ((z : ℤ) × SpellsWhole d z) (json_fault.BadShape name) faults
 NumberFaults side place name d faults = faults ≡ stray side place name
 
 -- the faults of a text
 abbrev pub TextFaults : Side → Place → List ℕ → List ℕ → List JsonFault → Type 0
 TextFaults side place.Text name text faults = faults ≡ []
-TextFaults side place.Integer name text faults = Unless ((z : ℤ) × SpellsWhole (string text) z) (fault.BadShape name) faults
-TextFaults side place.Time name text faults = Unless ((time : Timestamp) × (time_of text ≡ Some time)) (fault.BadTime name) faults
-TextFaults side place.Bytes name text faults = Unless ((bytes : List ℕ) × SpellsBytes text bytes) (fault.BadBytes name) faults
+TextFaults side place.Integer name text faults = Unless ((z : ℤ) × SpellsWhole (string text) z) (json_fault.BadShape name) faults
+TextFaults side place.Time name text faults = Unless ((time : Timestamp) × (time_of text ≡ Some time)) (json_fault.BadTime name) faults
+TextFaults side place.Bytes name text faults = Unless ((bytes : List ℕ) × SpellsBytes text bytes) (json_fault.BadBytes name) faults
 TextFaults side place.Reference name text faults = ReferenceFaults text faults
-TextFaults side place.Null name text faults = Unless (text ≡ codes "NULL_VALUE") (fault.BadShape name) faults
+TextFaults side place.Null name text faults = Unless (text ≡ codes "NULL_VALUE") (json_fault.BadShape name) faults
 TextFaults side place name text faults = faults ≡ stray side place name
 
 -- true or false
@@ -87,16 +87,16 @@ InList side place name Inside faults = faults ≡ stray side place name
 -- What an object has in place of what is inside it, or none where its inside is looked at. A value has exactly one kind; a
 -- map with a member `__type__` is a vector.
 abbrev pub own_faults : Side → Place → List ℕ → Members → Option (List JsonFault)
-own_faults side place.Value name ms = if length (kinds_given ms) == 1 then None else Some (fault.BadShape name ∷ [])
-own_faults side place.Map name ms = if is_some (given (codes "__type__") ms) then Some (fault.Unsupported (codes "vectorValue") ∷ []) else None
+own_faults side place.Value name ms = if length (kinds_given ms) == 1 then None else Some (json_fault.BadShape name ∷ [])
+own_faults side place.Map name ms = if is_some (given (codes "__type__") ms) then Some (json_fault.Unsupported (codes "vectorValue") ∷ []) else None
 own_faults side place.Array name ms = None
 own_faults side place.Fields name ms = None
 own_faults side place name ms = Some (stray side place name)
 
 -- an array or a map where none may nest any more
 abbrev pub depth_faults : Place → ℕ → List JsonFault
-depth_faults place.Array limit = if limit == 0 then fault.TooDeep ∷ [] else []
-depth_faults place.Map limit = if limit == 0 then fault.TooDeep ∷ [] else []
+depth_faults place.Array limit = if limit == 0 then json_fault.TooDeep ∷ [] else []
+depth_faults place.Map limit = if limit == 0 then json_fault.TooDeep ∷ [] else []
 depth_faults _ limit = []
 
 -- how many arrays and maps may nest inside

@@ -3,5 +3,7 @@ pub mod Faults
 pub mod Members
 pub mod Numbers
 pub mod Places
+pub mod Printed
 pub mod Ranks
 pub mod References
+pub mod Trees

@@ -1,5 +1,5 @@
 -- The members of JSON objects. A member whose value is null counts as left out.
-use Rattle.std.specs.Prelude.{◌≡◌, ℕ, List, [], ◌∷◌, Bool, true, false, not, Option, Some, None, cond, option_and_then}
+use Rattle.std.specs.Prelude.{◌≡◌, ℕ, List, [], ◌∷◌, Bool, true, false, not, ◌&&◌, Option, Some, None, cond, option_and_then}
 use Rattle.serde_json.specs.Data.{Data as Json, null, boolean, number, string, array, object, Members, no_members, member}
 use Rattle.serde_json.specs.Find.{get_member}
 use Rattle.json_model.specs.declared.place.Place.{Place}
@@ -30,7 +30,11 @@ abbrev pub is_unknown : Place → Bool
 is_unknown place.Unknown = true
 is_unknown _ = false
 
--- the members that say of which kind a value is: of known names, and not left out
+-- the member says of which kind a value is: its name is known, and it isn't left out
+abbrev pub says_kind : List ℕ → Json → Bool
+says_kind name d = not (is_unknown (value_member name)) && not (is_left_out (value_member name) d)
+
+-- the members that say of which kind a value is
 abbrev pub kinds_given : Members → List (List ℕ × Json)
 kinds_given no_members = []
-kinds_given (member k d ms) = cond (is_unknown (value_member k)) (kinds_given ms) (cond (is_left_out (value_member k) d) (kinds_given ms) ((k, d) ∷ kinds_given ms))
+kinds_given (member name d ms) = cond (says_kind name d) ((name, d) ∷ kinds_given ms) (kinds_given ms)

@@ -3,15 +3,19 @@
 #![tactic(auto)]
 
 mod bytes;
+mod document;
 mod fault;
 mod members;
 mod numbers;
 mod place;
+mod printing;
 mod side;
 
 pub use bytes::{print_bytes, read_bytes};
+pub use document::print_parts;
 pub use fault::{BadName, JsonFault, NamingFault, better};
 pub use members::given;
 pub use numbers::{read_integer, read_whole};
 pub use place::{Place, value_member};
+pub use printing::{print_fields, print_value};
 pub use side::Side;

@@ -1,7 +1,7 @@
 ghost use Rattle.std.specs.Prelude.{◌≡◌, ◌≢◌, [], ◌∷◌, length, MatchOption, option_map};
 ghost use Rattle.serde_json.specs.Find.{get_member};
 ghost use Rattle.serde_json.specs.View.{view, members_view};
-ghost use Rattle.json_model.specs.Members.{given as given_of, kinds_given};
+ghost use Rattle.json_model.specs.Members.{given as given_of, kinds_given, says_kind as says_kind_of};
 
 use crate::place::{Place, value_member};
 use serde_json::{Map, Value as Json};
@@ -24,6 +24,17 @@ pub fn given<'a>(members: &'a Map<String, Json>, name: &str) -> Option<&'a Json>
     Some(value)
 }
 
+/// Whether the member says of which kind a value is.
+fn says_kind(name: &str, json: &Json) -> bool
+    ensures { result ≡ says_kind_of name.now (view json.now) }
+{
+    let place = value_member(name);
+    if place == Place::Unknown {
+        return false;
+    }
+    !place.is_left_out(json)
+}
+
 /// The member that says of which kind a value is, with its name, where exactly one does.
 pub fn only_kind(members: &Map<String, Json>) -> Option<(&str, &Json)>
     ensures { MatchOption result
@@ -32,11 +43,7 @@ pub fn only_kind(members: &Map<String, Json>) -> Option<(&str, &Json)>
 {
     let mut only = None;
     for (name, value) in members {
-        let place = value_member(name.as_str());
-        if place == Place::Unknown {
-            continue;
-        }
-        if place.is_left_out(value) {
+        if !says_kind(name.as_str(), value) {
             continue;
         }
         if only.is_some() {
