@@ -2,12 +2,12 @@
 use Rattle.std.specs.Prelude.{ℕ, List, [], ◌∷◌, Option, Some, None, codes}
 use Rattle.std.specs.Fmt.{signed_decimal}
 use Rattle.serde_json.specs.Data as json
-use Rattle.document_keys.specs.Names.{Root, name_text}
-use Rattle.value_model.specs.declared.reference.RefName.{RefName}
+use Rattle.document_keys.specs.Names.{name_text}
 use Rattle.value_model.specs.Data.{Data, null, boolean, integer, time, pending, text, bytes, reference, array, map, Items, no_items, item, Members, no_members, member, Entries, members_of}
 use Rattle.value_model.specs.declared.timestamp.Timestamp.{Timestamp}
 use Rattle.value_model.specs.Time.{time_text}
 use Rattle.json_model.specs.Bytes.{printed_bytes}
+use Rattle.json_model.specs.References.{root_of}
 use Rattle.json_model.specs.Trees.{one, empty}
 
 -- `{"nullValue":null}`
@@ -17,10 +17,6 @@ printed_null = one (codes "nullValue") json.null
 -- a value of a kind that is printed as a text
 abbrev pub printed_text : List ℕ → List ℕ → json.Data
 printed_text name content = one name (json.string content)
-
--- the database of a reference
-abbrev pub root_of : RefName → Root
-root_of name = record { project = name.project; name = name.database }
 
 -- `{"values":[..]}`, and `{}` where there is none
 abbrev pub values_tree : json.Items → json.Data

@@ -6,7 +6,8 @@ ghost use Rattle.document_keys.specs.Names.{name_text};
 ghost use Rattle.value_model.specs.Data.{items_of, members_of};
 ghost use Rattle.value_model.specs.Time.{time_text};
 ghost use Rattle.json_model.specs.Trees.{one, empty};
-ghost use Rattle.json_model.specs.Printed.{printed_null, printed_text, printed_value, printed_items, printed_members, printed_fields, values_tree, fields_tree, root_of};
+ghost use Rattle.json_model.specs.Printed.{printed_null, printed_text, printed_value, printed_items, printed_members, printed_fields, values_tree, fields_tree};
+ghost use Rattle.json_model.specs.References.{root_of};
 ghost use Rattle.json_model.specs.Bytes.{printed_bytes};
 
 use crate::bytes::print_bytes;
