@@ -1,5 +1,6 @@
 pub mod Bytes
 pub mod Faults
+pub mod Grammar
 pub mod Members
 pub mod Numbers
 pub mod Places

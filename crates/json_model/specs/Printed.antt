@@ -2,7 +2,9 @@
 use Rattle.std.specs.Prelude.{ℕ, List, [], ◌∷◌, Option, Some, None, codes}
 use Rattle.std.specs.Fmt.{signed_decimal}
 use Rattle.serde_json.specs.Data as json
-use Rattle.document_keys.specs.Names.{name_text}
+use Rattle.document_keys.specs.Names.{Root, name_text}
+use Rattle.value_model.specs.declared.document.DocState.{DocState}
+use Rattle.value_model.specs.declared.document.DocState.TheVariants as state
 use Rattle.value_model.specs.Data.{Data, null, boolean, integer, time, pending, text, bytes, reference, array, map, Items, no_items, item, Members, no_members, member, Entries, members_of}
 use Rattle.value_model.specs.declared.timestamp.Timestamp.{Timestamp}
 use Rattle.value_model.specs.Time.{time_text}
@@ -64,6 +66,17 @@ abbrev pub with_time : Option Timestamp → json.Members
 with_time None = json.no_members
 with_time (Some at) = json.member (codes "updateTime") (json.string (time_text at)) json.no_members
 
--- a document with its name, its fields where it has some, its state, and its update time where it has one
-abbrev pub printed_document : List ℕ → Entries → Option Timestamp → List ℕ → json.Data
-printed_document name fields at state = json.object (with_fields fields (json.member (codes "name") (json.string name) (json.member (codes "state") (json.string state) (with_time at))))
+-- an object of a name, the fields where there are some, a state, and an update time where there is one
+abbrev pub document_tree : List ℕ → Entries → Option Timestamp → List ℕ → json.Data
+document_tree name fields at how = json.object (with_fields fields (json.member (codes "name") (json.string name) (json.member (codes "state") (json.string how) (with_time at))))
+
+-- how a state is printed
+abbrev pub state_text : DocState → List ℕ
+state_text state.Synced = codes "synced"
+state_text state.Pending = codes "pending"
+state_text state.Committed = codes "committed"
+state_text state.Unknown = codes "unknown"
+
+-- the document of a key under the root
+abbrev pub printed_document : Root → List (List ℕ) → Entries → Option Timestamp → DocState → json.Data
+printed_document root key fields at how = document_tree (name_text root key) fields at (state_text how)

@@ -15,7 +15,7 @@ mod side;
 mod walk;
 
 pub use bytes::{print_bytes, read_bytes};
-pub use document::print_parts;
+pub use document::print_document;
 pub use fault::{BadName, JsonFault, NamingFault, better};
 pub use members::given;
 pub use names::read_name;

@@ -2,6 +2,7 @@ ghost use Rattle.std.specs.Prelude.{◌≡◌, IfOk, codes, false, map};
 ghost use Rattle.std.specs.Fmt.{signed_decimal};
 ghost use Rattle.serde_json.specs.View.{view, items_view, members_view};
 ghost use Rattle.serde_json.specs.Data.{boolean as boolean_tree};
+ghost use Rattle.serde_json.specs.Written.{has_float};
 ghost use Rattle.document_keys.specs.Names.{name_text};
 ghost use Rattle.value_model.specs.Data.{items_of, members_of};
 ghost use Rattle.value_model.specs.Time.{time_text};
@@ -170,12 +171,13 @@ fn print_members(alloc: Global, fields: &Fields) -> Result<Map<String, Json>, No
     Ok(members)
 }
 
-/// The tree of fields: an object with the printed value of each under its name.
+/// The tree of fields: an object with the printed value of each under its name. It has no floats.
 ///
 /// # Errors
 /// `NoMemory`
 pub fn print_fields(alloc: Global, fields: &Fields) -> Result<Json, NoMemory>
-    ensures { IfOk result (λ json. view json ≡ printed_fields fields.now) }
+    ensures tree { IfOk result (λ json. view json ≡ printed_fields fields.now) }
+    ensures digits { IfOk result (λ json. has_float (view json) ≡ false) }
 {
     let members = print_members(alloc, fields)?;
     Ok(Json::Object(members))

@@ -57,15 +57,21 @@ pub find_in_members-loop-key-init : goal.find_in_members-loop-key-init
 find_in_members-loop-key-init t c = (tt, tt, members_start c.args.side c.args.limit c.args.place)
 
 pub find_in_members-loop-key-preserved-then-is_left_out : goal.find_in_members-loop-key-preserved-then-is_left_out
-find_in_members-loop-key-preserved-then-is_left_out t c =
-    (tt, tt, rw (map-append deref_pair c.loop-key.yielded ((c.in-Some.key, c.in-Some.member) ∷ []))
-    (members_skip c.args.side c.args.limit c.args.place (map deref_pair c.loop-key.yielded) c.in-Some.key.now c.in-Some.member.now c.as_str-name.result.now c.loop-key.first c.as_str-name.ensures.value
-    (ap (λ p. is_left_out p (view c.in-Some.member.now)) (sym c.member_place-inside.ensures) ∙ sym c.if-is_left_out.ensures) c.loop-key.invariant.2))
+find_in_members-loop-key-preserved-then-is_left_out t c = (
+  tt,
+  tt,
+  rw (map-append deref_pair c.loop-key.yielded ((c.in-Some.key, c.in-Some.member) ∷ []))
+      (members_skip c.args.side c.args.limit c.args.place (map deref_pair c.loop-key.yielded) c.in-Some.key.now c.in-Some.member.now c.as_str-name.result.now c.loop-key.first c.as_str-name.ensures.value
+      (ap (λ p. is_left_out p (view c.in-Some.member.now)) (sym c.member_place-inside.ensures) ∙ sym c.if-is_left_out.ensures) c.loop-key.invariant.2),
+)
 
 pub find_in_members-loop-key-preserved : goal.find_in_members-loop-key-preserved
-find_in_members-loop-key-preserved t c =
-    (tt, tt, rw (map-append deref_pair c.loop-key.yielded ((c.in-Some.key, c.in-Some.member) ∷ []))
-    (members_step c.args.side c.args.limit c.args.place (map deref_pair c.loop-key.yielded) c.in-Some.key.now c.in-Some.member.now c.as_str-name.result.now c.loop-key.first c.in_ok-own.own c.in_ok-found.found c.better-first.result c.as_str-name.ensures.value
-    (ap (λ p. is_left_out p (view c.in-Some.member.now)) (sym c.member_place-inside.ensures) ∙ sym c.if-is_left_out.ensures) c.loop-key.invariant.2 c.in_ok-own.ensures
-    (subst (λ p. FirstOf (FaultsAt c.args.side c.args.limit p c.as_str-name.result.now (view c.in-Some.member.now)) c.in_ok-found.found) c.member_place-inside.ensures c.in_ok-found.ensures)
-    (c.better-first.ensures ∙ ap (λ f. better c.loop-key.first f) c.better.ensures)))
+find_in_members-loop-key-preserved t c = (
+  tt,
+  tt,
+  rw (map-append deref_pair c.loop-key.yielded ((c.in-Some.key, c.in-Some.member) ∷ []))
+      (members_step c.args.side c.args.limit c.args.place (map deref_pair c.loop-key.yielded) c.in-Some.key.now c.in-Some.member.now c.as_str-name.result.now c.loop-key.first c.in_ok-own.own c.in_ok-found.found c.better-first.result c.as_str-name.ensures.value
+      (ap (λ p. is_left_out p (view c.in-Some.member.now)) (sym c.member_place-inside.ensures) ∙ sym c.if-is_left_out.ensures) c.loop-key.invariant.2 c.in_ok-own.ensures
+      (subst (λ p. FirstOf (FaultsAt c.args.side c.args.limit p c.as_str-name.result.now (view c.in-Some.member.now)) c.in_ok-found.found) c.member_place-inside.ensures c.in_ok-found.ensures)
+      (c.better-first.ensures ∙ ap (λ f. better c.loop-key.first f) c.better.ensures)),
+)
