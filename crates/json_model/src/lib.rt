@@ -25,4 +25,5 @@ pub use names::read_name;
 pub use numbers::{read_integer, read_whole};
 pub use place::{Place, value_member};
 pub use printing::{print_fields, print_value};
+pub use reading::{MAX_NESTING, read_fields};
 pub use side::Side;
