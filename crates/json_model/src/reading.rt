@@ -352,6 +352,7 @@ pub fn read_fields(
 ) -> Result<Fields, JsonFault>
     ensures fields { IfOk result (λ fields. SpellsFields side (view json.now) fields) }
     ensures fault { IfErr result (λ fault. IsFault (FieldsFaults side (view json.now)) fault) }
+    ensures unspelled { IfErr result (λ fault. fault ≢ json_fault.NoMemory → (es : Entries) → ¬ (SpellsFields side (view json.now) es)) }
 {
     if let Some(fields) = build_tree(alloc, side, json)? {
         return Ok(fields);
