@@ -1,5 +1,6 @@
--- Times of RFC 3339 in UTC: YYYY-MM-DDTHH:MM:SSZ.
-use Rattle.std.specs.Prelude.{ℕ, ◌+◌, ◌-◌, ◌*◌, ◌==◌, ◌&&◌, Bool, List, length, slice_index, nat_lt, nat_le, if◌then◌else◌, ℤ, pos, neg_ℤ, ◌<◌, ◌+ℤ◌, ◌*ℤ◌, Option, Some, None, option_and_then, option_map}
+-- Times of RFC 3339 in UTC: YYYY-MM-DDTHH:MM:SS, then nothing or a point and one to nine digits, then Z.
+use Rattle.std.specs.Prelude.{ℕ, ◌+◌, ◌-◌, ◌*◌, ◌^◌, ◌==◌, ◌&&◌, Bool, List, [], ◌∷◌, length, fold, slice_index, slice_range, nat_lt, nat_le, if◌then◌else◌, ℤ, pos, neg_ℤ, ◌<◌, ◌+ℤ◌, ◌*ℤ◌, Option, Some, None, option_and_then, option_map}
+use Rattle.std.specs.List.{list_all}
 use Rattle.jiff_core.specs.Calendar.{IsBetween, days_from_civil, days_in_month}
 use Rattle.value_model.specs.declared.timestamp.Timestamp.{Timestamp}
 
@@ -45,15 +46,31 @@ clock_of h m s = if nat_lt h 24 && nat_lt m 60 && nat_lt s 60 then Some (3600 * 
 unfoldable pub second_of : List ℕ → Option ℕ
 second_of text = option_and_then (λ h. option_and_then (λ m. option_and_then (λ s. clock_of h m s) (pair_at text 17)) (pair_at text 14)) (pair_at text 11)
 
--- twenty bytes with `-`, `-`, `T`, `:`, `:` and `Z` in their places
-abbrev pub has_marks : List ℕ → Bool
-has_marks text = (length text == 20) && (slice_index text 4 == 45) && (slice_index text 7 == 45) && (slice_index text 10 == 84)
-    && (slice_index text 13 == 58) && (slice_index text 16 == 58) && (slice_index text 19 == 90)
+-- the number that digits spell
+abbrev pub number_of : List ℕ → ℕ
+number_of digits = fold (λ n byte. 10 * n + (byte - 48)) 0 digits
 
--- that second of that day
-abbrev pub moment : ℤ → ℕ → Timestamp
-moment day second = record { seconds = (day *ℤ pos 86400) +ℤ pos second; nanos = 0 }
+-- the nanoseconds that a fraction spells: nothing, or a point and one to nine digits
+abbrev pub nanos_of : List ℕ → Option ℕ
+nanos_of [] = Some 0
+nanos_of (mark ∷ digits) = if (mark == 46) && nat_le 1 (length digits) && nat_le (length digits) 9 && list_all is_digit digits
+    then Some (number_of digits * 10 ^ (9 - length digits)) else None
+
+-- what stands between the nineteenth byte and the last one
+abbrev pub fraction_in : List ℕ → List ℕ
+fraction_in text = slice_range text 19 (length text - 1)
+
+-- at least twenty bytes with `-`, `-`, `T`, `:` and `:` in their places, and `Z` at the end
+abbrev pub has_marks : List ℕ → Bool
+has_marks text = nat_le 20 (length text) && (slice_index text 4 == 45) && (slice_index text 7 == 45) && (slice_index text 10 == 84)
+    && (slice_index text 13 == 58) && (slice_index text 16 == 58) && (slice_index text (length text - 1) == 90)
+
+-- that nanosecond of that second of that day
+abbrev pub moment : ℤ → ℕ → ℕ → Timestamp
+moment day second nanos = record { seconds = (day *ℤ pos 86400) +ℤ pos second; nanos = nanos }
 
 -- the moment that a text spells, where it is of the form
 unfoldable pub time_of : List ℕ → Option Timestamp
-time_of text = if has_marks text then option_and_then (λ day. option_map (moment day) (second_of text)) (day_of text) else None
+time_of text = if has_marks text
+    then option_and_then (λ day. option_and_then (λ second. option_map (moment day second) (nanos_of (fraction_in text))) (second_of text)) (day_of text)
+    else None

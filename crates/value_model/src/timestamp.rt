@@ -1,7 +1,7 @@
-ghost use Rattle.std.specs.Prelude.{◌≡◌, ◌<◌, pos, ◌≤ℤ◌, length, IfSome};
+ghost use Rattle.std.specs.Prelude.{◌≡◌, ◌<◌, ◌≤◌, ◌∷◌, pos, ◌≤ℤ◌, length, IfSome};
 ghost use Rattle.jiff_core.specs.Calendar.{IsEpochDay};
 ghost use Rattle.jiff_core.specs.Date.{epoch_day};
-ghost use Rattle.value_model.specs.Time.{pair_of, day_of, date_of, second_of, IsDay};
+ghost use Rattle.value_model.specs.Time.{pair_of, day_of, date_of, second_of, nanos_of, has_marks, IsDay};
 
 use jiff::civil;
 use jiff::civil::Date;
@@ -17,33 +17,71 @@ pub struct Timestamp {
 impl Timestamp {
     ghost use Rattle.value_model.specs.Time.{time_of, IsMoment};
 
-    /// Reads `YYYY-MM-DDTHH:MM:SSZ` (RFC 3339, of which this is the form in UTC without a fraction): a real date of the
-    /// years 0001 to 9999, an hour to 23, a minute and a second to 59. `None` exactly where the text isn't of the form.
+    /// Reads `YYYY-MM-DDTHH:MM:SSZ` (RFC 3339 in UTC), before whose `Z` a point and one to nine digits may stand: a real date
+    /// of the years 0001 to 9999, an hour to 23, a minute and a second to 59. `None` exactly where the text isn't of the form.
     #[tactic(auto, unfolding(crate::specs::Time::time_of))]
     pub fn read(text: &str) -> Option<Timestamp>
         ensures value { result ≡ time_of text.now }
         ensures moment { IfSome result IsMoment }
     {
         let bytes = text.as_bytes();
-        if bytes.len() != 20 || bytes[4] != b'-' || bytes[7] != b'-' || bytes[10] != b'T' {
-            return None;
-        }
-        if bytes[13] != b':' || bytes[16] != b':' || bytes[19] != b'Z' {
+        if !has_marks(bytes) {
             return None;
         }
         let day = day_number(bytes)?;
         let second = second_of_day(bytes)?;
+        let nanos = nanoseconds(&bytes[19..bytes.len() - 1])?;
         Some(Timestamp {
             seconds: day * 86_400 + second as i64,
-            nanos: 0,
+            nanos,
         })
     }
+}
+
+/// Whether `-`, `-`, `T`, `:` and `:` stand in their places, and `Z` at the end.
+fn has_marks(bytes: &[u8]) -> bool
+    ensures { result ≡ has_marks bytes.now }
+{
+    if bytes.len() < 20 || bytes[4] != b'-' || bytes[7] != b'-' || bytes[10] != b'T' {
+        return false;
+    }
+    bytes[13] == b':' && bytes[16] == b':' && bytes[bytes.len() - 1] == b'Z'
+}
+
+/// The nanoseconds that the text between the second and the `Z` spells.
+fn nanoseconds(fraction: &[u8]) -> Option<u32>
+    ensures value { result ≡ nanos_of fraction.now }
+    ensures bound { IfSome result (λ nanos. nanos < 1000000000) }
+{
+    match fraction {
+        [] => Some(0),
+        [b'.', digits @ ..] => nanoseconds_of(digits),
+        _ => None,
+    }
+}
+
+/// The nanoseconds that one to nine digits behind the point spell.
+fn nanoseconds_of(digits: &[u8]) -> Option<u32>
+    ensures value { result ≡ nanos_of (46 ∷ digits.now) }
+    ensures bound { IfSome result (λ nanos. nanos < 1000000000) }
+{
+    if digits.is_empty() || digits.len() > 9 {
+        return None;
+    }
+    let mut number = 0;
+    for digit in digits {
+        if !digit.is_ascii_digit() {
+            return None;
+        }
+        number = 10 * number + (digit - b'0') as u32;
+    }
+    Some(number * 10u32.pow(9 - digits.len() as u32))
 }
 
 /// The day number of the date that the first ten bytes spell: 0 for 1970-01-01.
 #[tactic(auto, unfolding(crate::specs::Time::day_of))]
 fn day_number(bytes: &[u8]) -> Option<i64>
-    requires { length bytes.now ≡ 20 }
+    requires { 20 ≤ length bytes.now }
     ensures value { result ≡ day_of bytes.now }
     ensures bound { IfSome result IsDay }
 {
@@ -84,7 +122,7 @@ fn day_number_of(date: Date) -> i64
 /// The second of the day that the time of day behind the `T` spells.
 #[tactic(auto, unfolding(crate::specs::Time::second_of))]
 fn second_of_day(bytes: &[u8]) -> Option<u32>
-    requires { length bytes.now ≡ 20 }
+    requires { 20 ≤ length bytes.now }
     ensures value { result ≡ second_of bytes.now }
     ensures bound { IfSome result (λ second. second < 86400) }
 {
