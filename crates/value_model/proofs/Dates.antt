@@ -50,3 +50,15 @@ late_day d year =
       | inr (inl after) ↦ omega (arith, signed_arith, days_from_civil-first, epoch_day-lt first_date d after)
       | inr (inr same) ↦ omega (arith, signed_arith, days_from_civil-first, epoch_day_same d first_date same.0 same.1 same.2)
     ]
+
+pub early_year : (d : Date) → neg_ℤ (pos 719162) ≤ℤ epoch_day d → pos 1 ≤ℤ d.year
+unfolding first_date
+early_year d late =
+    elim (cases_date d first_date) [
+      | inl before ↦ absurd (omega (arith, signed_arith, days_from_civil-first, epoch_day-lt d first_date before))
+      | inr (inl after) ↦ elim after [
+        | inl lt ↦ omega (arith, signed_arith, lt)
+        | inr (same, rest) ↦ omega (arith, signed_arith, same)
+      ]
+      | inr (inr same) ↦ omega (arith, signed_arith, same.0)
+    ]

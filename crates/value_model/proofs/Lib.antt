@@ -1,3 +1,5 @@
+mod Counted
 pub mod Dates
 pub mod Days
 pub mod Fractions
+mod Written

@@ -3,6 +3,7 @@
 
 mod fields;
 mod order;
+mod printing;
 #[cfg(test)]
 mod tests;
 mod timestamp;

@@ -1,10 +1,14 @@
-ghost use Rattle.std.specs.Prelude.{◌≡◌, ◌<◌, ◌≤◌, ◌∷◌, pos, ◌≤ℤ◌, length, IfSome};
+ghost use Rattle.std.specs.Prelude.{◌≡◌, ◌<◌, ◌≤◌, ◌∷◌, pos, ◌≤ℤ◌, length, IfSome, IfOk};
+ghost use Rattle.std.specs.String.{string_bytes};
 ghost use Rattle.jiff_core.specs.Calendar.{IsEpochDay};
 ghost use Rattle.jiff_core.specs.Date.{epoch_day};
 ghost use Rattle.value_model.specs.Time.{pair_of, day_of, date_of, second_of, nanos_of, has_marks, IsDay};
 
+use crate::printing::{put_clock, put_date, put_fraction};
+use document_keys::NoMemory;
 use jiff::civil;
 use jiff::civil::Date;
+use std::alloc::Global;
 
 /// A moment: seconds since 1970-01-01T00:00:00Z, from year 1 to year 9999 (-62,135,596,800 to 253,402,300,799), and
 /// nanoseconds below 1,000,000,000.
@@ -16,6 +20,7 @@ pub struct Timestamp {
 
 impl Timestamp {
     ghost use Rattle.value_model.specs.Time.{time_of, IsMoment};
+    ghost use Rattle.value_model.specs.Printed.{time_text, since_first, day_in};
 
     /// Reads `YYYY-MM-DDTHH:MM:SSZ` (RFC 3339 in UTC), before whose `Z` a point and one to nine digits may stand: a real date
     /// of the years 0001 to 9999, an hour to 23, a minute and a second to 59. `None` exactly where the text isn't of the form.
@@ -35,6 +40,42 @@ impl Timestamp {
             seconds: day * 86_400 + second as i64,
             nanos,
         })
+    }
+
+    /// The time as RFC 3339 writes it in UTC, with 0, 3, 6 or 9 digits of the second's fraction, the fewest that keep it.
+    ///
+    /// # Errors
+    /// `NoMemory`
+    #[tactic(auto, unfolding(crate::specs::Printed::time_text))]
+    pub fn print(&self, alloc: Global) -> Result<String, NoMemory>
+        requires { IsMoment self.now }
+        ensures { IfOk result (λ text. string_bytes text ≡ time_text self.now) }
+    {
+        let mut text = String::with_capacity(alloc, 30)?;
+        put_date(&mut text, self.day())?;
+        text.push('T')?;
+        put_clock(&mut text, (self.since_first() % 86_400) as u32)?;
+        put_fraction(&mut text, self.nanos)?;
+        text.push('Z')?;
+        Ok(text)
+    }
+
+    /// The seconds since 0001-01-01T00:00:00Z.
+    fn since_first(&self) -> u64
+        requires { IsMoment self.now }
+        ensures value { result ≡ since_first self.now }
+        ensures bound { result < 315537897600 }
+    {
+        (self.seconds + 62_135_596_800) as u64
+    }
+
+    /// The day number: 0 for 1970-01-01.
+    fn day(&self) -> i64
+        requires { IsMoment self.now }
+        ensures value { result ≡ day_in self.now }
+        ensures bound { IsDay result }
+    {
+        (self.since_first() / 86_400) as i64 - 719_162
     }
 }
 
