@@ -1,3 +1,9 @@
+pub mod Codes
+pub mod Data
+pub mod Falls
 pub mod Fields
+pub mod Named
 pub mod Printed
+pub mod Storable
 pub mod Time
+pub mod View

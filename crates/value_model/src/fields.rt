@@ -1,34 +1,49 @@
-ghost use Rattle.std.specs.Prelude.{◌≡◌, ℕ, ◌+◌, ◌<◌, length, IfOk, IfSome, IfNone, IsTrue, ◌↔◌};
+ghost use Rattle.std.specs.Prelude.{◌≡◌, ◌↔◌, [], length, IsTrue, IfOk, IfSome, IfNone, option_map};
+ghost use Rattle.std.specs.List.{slice_get};
 
-use crate::order::is_ascending;
+use crate::names::are_fields;
 use crate::value::Value;
 use document_keys::{NoMemory, Text};
 use std::alloc::Global;
 use std::marker::Model;
 
 /// A field of a document: its name and its value.
+#[cycle(value)]
 #[derive(Debug, Drop)]
 pub struct Field {
     pub name: Text,
     pub value: Value,
 }
 
-/// The fields of a document, strictly ascending by the bytes of their names. Contracts see them as the list of fields.
+/// The fields of a document or of a map, strictly ascending by the bytes of their names, each of which is a field's name:
+/// 1 to 1,500 bytes, not of the form `__.*__`. Contracts see them as the list of their names and values.
+#[cycle(value)]
 #[derive(Debug, Drop)]
 pub struct Fields {
     entries: Vec<Field>,
 }
 
 impl Model for Fields {
-    ghost use Rattle.std.specs.Prelude.{List};
-    ghost use Rattle.value_model.specs.declared.fields.Field.{Field};
-    ghost use Rattle.value_model.specs.Fields.{IsAscending};
+    ghost use Rattle.value_model.specs.Data.{Entries};
+    ghost use Rattle.value_model.specs.Codes.{entries_code, entries_size};
 
-    ghost Value = { List Field };
+    ghost Value = { Entries };
 
-    ghost view = { λ fields. fields.entries.items };
+    ghost coded = { entries_code };
 
-    ghost invariant = { λ fields. IsAscending fields.entries.items };
+    ghost use Rattle.value_model.specs.Fields.{AreFields};
+    ghost use Rattle.value_model.specs.Named.{fields_data};
+
+    ghost view = { λ fields. fields_data fields.entries.items };
+
+    ghost invariant = { λ fields. AreFields (fields_data fields.entries.items) };
+
+    ghost size = { entries_size };
+
+    ghost use Rattle.std.proofs.Common.{arith};
+    ghost use Rattle.value_model.specs.Falls.{entries_fall};
+
+    ghost size_decreases = { λ fields holds. omega (arith, entries_fall fields.entries.items) };
 }
 
 impl Field {
@@ -40,32 +55,64 @@ impl Field {
         ensures { IfOk result (λ field. field ≡ self.now) }
     {
         let name = self.name.copy(alloc)?;
-        Ok(Field {
-            name,
-            value: self.value,
-        })
+        let value = self.value.copy(alloc)?;
+        Ok(Field { name, value })
     }
 }
 
 impl Fields {
-    ghost use Rattle.value_model.specs.Fields.{IsAscending};
+    ghost use Rattle.value_model.specs.Fields.{AreFields};
+    ghost use Rattle.value_model.specs.Named.{fields_data};
 
-    /// These fields; `None` exactly where their names aren't strictly ascending.
-    pub fn from_entries(entries: Vec<Field>) -> Option<Fields>
-        ensures some { IfSome result (λ fields. (fields ≡ entries.items) × IsAscending entries.items) }
-        ensures none { IfNone result (IsAscending entries.items → ⊥) }
+    /// No fields. It takes no memory yet.
+    pub fn new(alloc: Global) -> Fields
+        ensures { result ≡ [] }
     {
-        if is_ascending(&entries) {
+        Fields {
+            entries: Vec::new(alloc),
+        }
+    }
+
+    /// These fields; `None` exactly where their names aren't strictly ascending or one isn't a field's name.
+    pub fn from_entries(entries: Vec<Field>) -> Option<Fields>
+        ensures some { IfSome result (λ fields. (fields ≡ fields_data entries.items) × AreFields fields) }
+        ensures none { IfNone result (¬ (AreFields (fields_data entries.items))) }
+    {
+        if are_fields(entries.as_slice()) {
             Some(Fields { entries })
         } else {
             None
         }
     }
 
+    /// The number of fields.
+    pub fn len(&self) -> u64
+        ensures count { result ≡ length self.now }
+        ensures fields { AreFields self.now }
+    {
+        self.entries.len() as u64
+    }
+
+    /// The name at the index, from 0, or `None` past the last.
+    pub fn name_at(&self, index: u64) -> Option<&str>
+        ensures { option_map (λ name. name.now) result ≡ option_map (λ field. field.0) (slice_get self.now index) }
+    {
+        let field = self.entries.get(index as usize)?;
+        Some(field.name.as_str())
+    }
+
+    /// The value at the index, from 0, or `None` past the last.
+    pub fn value_at(&self, index: u64) -> Option<&Value>
+        ensures { option_map (λ value. value.now) result ≡ option_map (λ field. field.1) (slice_get self.now index) }
+    {
+        let field = self.entries.get(index as usize)?;
+        Some(&field.value)
+    }
+
     /// The fields in their order, lent.
     pub fn as_slice(&self) -> &[Field]
-        ensures fields { result.now ≡ self.now }
-        ensures ascending { IsAscending self.now }
+        ensures shown { fields_data result.now ≡ self.now }
+        ensures fields { AreFields self.now }
     {
         self.entries.as_slice()
     }
@@ -74,12 +121,15 @@ impl Fields {
     ///
     /// # Errors
     /// `NoMemory`
+    #[cycle(copy)]
     pub fn copy(&self, alloc: Global) -> Result<Fields, NoMemory>
         ensures { IfOk result (λ fields. fields ≡ self.now) }
     {
         let mut entries = Vec::with_capacity(alloc, self.entries.len())?;
         for field in &self.entries {
-            entries.push(field.copy(alloc)?)?;
+            let name = field.name.copy(alloc)?;
+            let value = field.value.copy(alloc)?;
+            entries.push(Field { name, value })?;
         }
         Ok(Fields { entries })
     }

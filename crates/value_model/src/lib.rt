@@ -1,14 +1,18 @@
 //! Values, fields, and the times that documents and writes carry.
 #![tactic(auto)]
 
+mod bytes;
 mod fields;
-mod order;
+mod names;
 mod printing;
+mod reference;
 #[cfg(test)]
 mod tests;
 mod timestamp;
 mod value;
 
+pub use bytes::Bytes;
 pub use fields::{Field, Fields};
+pub use reference::RefName;
 pub use timestamp::Timestamp;
-pub use value::Value;
+pub use value::{Kind, Value};

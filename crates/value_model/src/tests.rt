@@ -1,4 +1,4 @@
-use crate::{Field, Fields, Timestamp, Value};
+use crate::{Field, Fields, Kind, Timestamp, Value};
 use document_keys::Text;
 use std::test::Fail;
 
@@ -33,7 +33,9 @@ fn times(rt: HostRuntime) -> Result<(), Fail> {
 fn entries(rt: &HostRuntime, names: &[&str]) -> Result<Vec<Field>, Fail> {
     let mut entries = Vec::new(rt.alloc());
     for name in names {
-        let value = Value::Integer(entries.len() as i64);
+        let value = Value {
+            kind: Kind::Integer(entries.len() as i64),
+        };
         let name = Text::from_str(rt.alloc(), name)?;
         entries.push(Field { name, value })?;
     }
@@ -44,12 +46,13 @@ fn entries(rt: &HostRuntime, names: &[&str]) -> Result<Vec<Field>, Fail> {
 fn ascending_fields(rt: HostRuntime) -> Result<(), Fail> {
     assert!(rt; Fields::from_entries(entries(&rt, &["b", "a"])?).is_none());
     assert!(rt; Fields::from_entries(entries(&rt, &["a", "a"])?).is_none());
+    assert!(rt; Fields::from_entries(entries(&rt, &["a", "__b__"])?).is_none());
     let Some(fields) = Fields::from_entries(entries(&rt, &["a", "aa", "b"])?) else {
         return Err("the fields ascend".into());
     };
     let copy = fields.copy(rt.alloc())?;
-    assert_eq!(rt; copy.as_slice().len(), 3);
-    assert_eq!(rt; copy.as_slice()[2].name.as_str(), "b");
-    assert_eq!(rt; copy.as_slice()[2].value, Value::Integer(2));
+    assert_eq!(rt; copy.len(), 3);
+    assert_eq!(rt; copy.name_at(2), Some("b"));
+    assert!(rt; copy.value_at(3).is_none());
     Ok(())
 }

@@ -12,7 +12,7 @@ use std::alloc::Global;
 
 /// A moment: seconds since 1970-01-01T00:00:00Z, from year 1 to year 9999 (-62,135,596,800 to 253,402,300,799), and
 /// nanoseconds below 1,000,000,000.
-#[derive(Clone, Copy, Debug, PartialEq, Eq)]
+#[derive(Clone, Copy, Debug, PartialEq, Eq, PartialOrd, Ord)]
 pub struct Timestamp {
     pub seconds: i64,
     pub nanos: u32,

@@ -1,6 +1,110 @@
-/// A field's value.
-#[derive(Clone, Copy, Debug, PartialEq, Eq)]
-pub enum Value {
+ghost use Rattle.std.specs.Prelude.{◌≡◌, IfOk};
+ghost use Rattle.value_model.specs.Data as Data;
+
+use crate::bytes::Bytes;
+use crate::fields::Fields;
+use crate::reference::RefName;
+use crate::timestamp::Timestamp;
+use document_keys::{NoMemory, Text};
+use std::alloc::Global;
+use std::marker::Model;
+
+/// A value of a field. Contracts see it as the plain data of its kind.
+#[cycle(value)]
+#[derive(Debug, Drop)]
+pub struct Value {
+    pub kind: Kind,
+}
+
+/// The kinds of value, in their order.
+#[cycle(value)]
+#[derive(Debug, Drop)]
+pub enum Kind {
+    Null,
+    Boolean(bool),
     /// A whole number of 64 bits with sign.
     Integer(i64),
+    Time(Timestamp),
+    /// A time that the backend sets, and that isn't known yet: the local time of the write that asked for it.
+    Pending(Timestamp),
+    Text(Text),
+    Bytes(Bytes),
+    /// The name of a document.
+    Reference(RefName),
+    Array(Vec<Value>),
+    Map(Fields),
+}
+
+impl Model for Value {
+    ghost use Rattle.value_model.specs.Data.{Data};
+    ghost use Rattle.value_model.specs.Codes.{data_code, data_size};
+
+    ghost Value = { Data };
+
+    ghost coded = { data_code };
+
+    ghost use Rattle.value_model.specs.View.{kind_data};
+
+    ghost view = { λ value. kind_data value.kind };
+
+    ghost size = { data_size };
+
+    ghost use Rattle.value_model.specs.Falls.{kind_falls};
+
+    ghost size_decreases = { λ value holds. kind_falls value.kind };
+}
+
+impl Value {
+    /// The array of these values, which it takes over.
+    pub fn array(values: Vec<Value>) -> Value
+        ensures { result ≡ Data.array_of values.items }
+    {
+        Value {
+            kind: Kind::Array(values),
+        }
+    }
+
+    /// The map of these fields, which it takes over.
+    pub fn map(fields: Fields) -> Value
+        ensures { result ≡ Data.map_of fields }
+    {
+        Value {
+            kind: Kind::Map(fields),
+        }
+    }
+
+    /// A copy.
+    ///
+    /// # Errors
+    /// `NoMemory`
+    #[cycle(copy)]
+    pub fn copy(&self, alloc: Global) -> Result<Value, NoMemory>
+        ensures { IfOk result (λ value. value ≡ self.now) }
+    {
+        let kind = match &self.kind {
+            Kind::Null => Kind::Null,
+            Kind::Boolean(is) => Kind::Boolean(*is),
+            Kind::Integer(number) => Kind::Integer(*number),
+            Kind::Time(time) => Kind::Time(*time),
+            Kind::Pending(time) => Kind::Pending(*time),
+            Kind::Text(text) => Kind::Text(text.copy(alloc)?),
+            Kind::Bytes(bytes) => Kind::Bytes(bytes.copy(alloc)?),
+            Kind::Reference(name) => Kind::Reference(name.copy(alloc)?),
+            Kind::Array(values) => Kind::Array(copy_values(alloc, values)?),
+            Kind::Map(fields) => Kind::Map(fields.copy(alloc)?),
+        };
+        Ok(Value { kind })
+    }
+}
+
+/// Copies of the values.
+#[cycle(copy)]
+pub(crate) fn copy_values(alloc: Global, values: &Vec<Value>) -> Result<Vec<Value>, NoMemory>
+    ensures { IfOk result (λ copies. copies.items ≡ values.now.items) }
+{
+    let mut copies = Vec::with_capacity(alloc, values.len())?;
+    for value in values {
+        copies.push(value.copy(alloc)?)?;
+    }
+    Ok(copies)
 }
