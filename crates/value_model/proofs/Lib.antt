@@ -1,9 +1,11 @@
 pub mod Checked
-mod Counted
+pub mod Counted
 pub mod Dates
 pub mod Days
 pub mod Fractions
+pub mod Instants
 pub mod Named
 pub mod Parts
+pub mod ReadBack
 pub mod Sizes
-mod Written
+pub mod Written

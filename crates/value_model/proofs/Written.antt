@@ -1,14 +1,14 @@
 -- The date of a day, as it is printed.
-use Rattle.std.proofs.Common.{◌≡◌, ◌∙◌, ℕ, ◌+◌, ◌<◌, ◌≤◌, refl, ap, sym, subst, arith, ℤ, pos, negsuc, neg_ℤ, ◌+ℤ◌, ◌≤ℤ◌, unsigned_abs}
+use Rattle.std.proofs.Common.{◌≡◌, ◌∙◌, ℕ, ◌+◌, ◌<◌, ◌≤◌, refl, ap, subst, arith, ℤ, pos, negsuc, neg_ℤ, ◌+ℤ◌, ◌≤ℤ◌, unsigned_abs}
 use Rattle.jiff_core.specs.declared.civil.date.Date.{Date}
-use Rattle.jiff_core.specs.Calendar.{day_count, days_from_civil, IsCivilDate}
+use Rattle.jiff_core.specs.Calendar.{day_count, IsCivilDate}
 use Rattle.jiff_core.specs.Date.{epoch_day}
 use borrow.Author.Differences.{up, down}
 use Rattle.jiff_core.proofs.SignedLemmas.{signed_arith}
 use Rattle.jiff_core.proofs.CalendarLemmas.{days_from_civil-day_count}
 use Rattle.jiff_core.proofs.DateLemmas.{civil}
 use Rattle.value_model.specs.Time.{IsDay}
-use Rattle.value_model.specs.Printed.{year_at, month_at, day_at, ymd_text, counted_text, date_text}
+use Rattle.value_model.specs.Time.{ymd_text, counted_text, date_text}
 use Rattle.value_model.proofs.Dates.{early_year}
 use Rattle.value_model.proofs.Counted.{year_found, month_found, day_found}
 
@@ -16,7 +16,7 @@ use Rattle.value_model.proofs.Counted.{year_found, month_found, day_found}
 pub counted : (y m d count : ℕ) → 0 < y → y ≤ 9999 → IsCivilDate (pos y) m d → day_count (pos y) m d ≡ count → counted_text count ≡ ymd_text y m d
 counted y m d count some within civil_date is =
     subst (λ (n : ℕ). counted_text n ≡ ymd_text y m d) is
-        (rw (year_found y m d some within civil_date, month_found y m d civil_date, day_found y m d civil_date) refl)
+    (rw (year_found y m d some within civil_date, month_found y m d civil_date, day_found y m d civil_date) refl)
 
 -- what printing needs of a date
 pub record IsPrinted (d : Date) (day : ℤ) : Type 0 where

@@ -3,7 +3,6 @@ pub mod Data
 pub mod Falls
 pub mod Fields
 pub mod Named
-pub mod Printed
 pub mod Storable
 pub mod Time
 pub mod View

@@ -13,6 +13,7 @@ mod value;
 
 pub use bytes::Bytes;
 pub use fields::{Field, Fields};
+pub use printing::times_read_back;
 pub use reference::RefName;
 pub use timestamp::Timestamp;
 pub use value::{Kind, Value};

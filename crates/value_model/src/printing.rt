@@ -1,7 +1,7 @@
 ghost use Rattle.std.specs.Prelude.{◌≡◌, ◌+◌, ◌<◌, ◌++◌, ◌∷◌, [], OnOk};
 ghost use Rattle.std.specs.String.{string_bytes};
 ghost use Rattle.value_model.specs.Time.{IsDay};
-ghost use Rattle.value_model.specs.Printed.{two, three, four, date_text, clock_text, fraction_text};
+ghost use Rattle.value_model.specs.Time.{two, three, four, date_text, clock_text, fraction_text, TimesReadBack};
 ghost use Rattle.jiff_core.specs.Date.{epoch_day};
 
 use document_keys::NoMemory;
@@ -85,7 +85,7 @@ pub(crate) fn put_clock(text: &mut String, second: u32) -> Result<(), NoMemory>
 }
 
 /// Appends a point and three, six or nine digits, the fewest that keep the nanoseconds; nothing where there are none.
-#[tactic(auto, unfolding(crate::specs::Printed::fraction_text))]
+#[tactic(auto, unfolding(crate::specs::Time::fraction_text))]
 pub(crate) fn put_fraction(text: &mut String, nanos: u32) -> Result<(), NoMemory>
     requires { nanos < 1000000000 }
     ensures { OnOk result (string_bytes text.new ≡ string_bytes text.old ++ fraction_text nanos) }
@@ -104,3 +104,8 @@ pub(crate) fn put_fraction(text: &mut String, nanos: u32) -> Result<(), NoMemory
     }
     put_three(text, nanos % 1000)
 }
+
+/// What is printed of a moment reads back as that moment. Nothing is done when it runs.
+pub fn times_read_back()
+    ensures { TimesReadBack }
+{}

@@ -1,4 +1,4 @@
-ghost use Rattle.std.specs.Prelude.{◌≡◌, ◌<◌, ◌≤◌, ◌∷◌, pos, ◌≤ℤ◌, length, IfSome, IfOk};
+ghost use Rattle.std.specs.Prelude.{◌≡◌, ◌<◌, ◌≤◌, ◌∷◌, pos, ◌≤ℤ◌, ◌<ℤ◌, length, IfSome, IfOk};
 ghost use Rattle.std.specs.String.{string_bytes};
 ghost use Rattle.jiff_core.specs.Calendar.{IsEpochDay};
 ghost use Rattle.jiff_core.specs.Date.{epoch_day};
@@ -9,6 +9,7 @@ use document_keys::NoMemory;
 use jiff::civil;
 use jiff::civil::Date;
 use std::alloc::Global;
+use std::cmp::Ordering;
 
 /// A moment: seconds since 1970-01-01T00:00:00Z, from year 1 to year 9999 (-62,135,596,800 to 253,402,300,799), and
 /// nanoseconds below 1,000,000,000.
@@ -19,8 +20,9 @@ pub struct Timestamp {
 }
 
 impl Timestamp {
-    ghost use Rattle.value_model.specs.Time.{time_of, IsMoment};
-    ghost use Rattle.value_model.specs.Printed.{time_text, since_first, day_in};
+    ghost use Rattle.value_model.specs.Time.{time_of, instant, IsMoment};
+    ghost use Rattle.std.specs.Ordering.{MatchOrdering};
+    ghost use Rattle.value_model.specs.Time.{time_text, since_first, day_in};
 
     /// Reads `YYYY-MM-DDTHH:MM:SSZ` (RFC 3339 in UTC), before whose `Z` a point and one to nine digits may stand: a real date
     /// of the years 0001 to 9999, an hour to 23, a minute and a second to 59. `None` exactly where the text isn't of the form.
@@ -46,7 +48,7 @@ impl Timestamp {
     ///
     /// # Errors
     /// `NoMemory`
-    #[tactic(auto, unfolding(crate::specs::Printed::time_text))]
+    #[tactic(auto, unfolding(crate::specs::Time::time_text))]
     pub fn print(&self, alloc: Global) -> Result<String, NoMemory>
         requires { IsMoment self.now }
         ensures { IfOk result (λ text. string_bytes text ≡ time_text self.now) }
@@ -58,6 +60,15 @@ impl Timestamp {
         put_fraction(&mut text, self.nanos)?;
         text.push('Z')?;
         Ok(text)
+    }
+
+    /// The order of moments, the earlier one first.
+    pub fn compare(&self, other: &Timestamp) -> Ordering
+        requires this { IsMoment self.now }
+        requires that { IsMoment other.now }
+        ensures { MatchOrdering result (instant self.now <ℤ instant other.now) (self.now ≡ other.now) (instant other.now <ℤ instant self.now) }
+    {
+        self.cmp(other)
     }
 
     /// The seconds since 0001-01-01T00:00:00Z.

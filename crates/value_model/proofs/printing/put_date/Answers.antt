@@ -1,4 +1,4 @@
-use Rattle.std.proofs.Common.{◌≡◌, ◌∙◌, ap, w16, w64, unsigned_abs, arith, FitsSigned, sym}
+use Rattle.std.proofs.Common.{◌≡◌, ◌∙◌, w16, w64, unsigned_abs, arith, FitsSigned, sym}
 use Rattle.std.proofs.lemmas.Int.{ints, to_z-of_z}
 use Rattle.value_model.proofs.Written.{printed}
 use Rattle.value_model.proofs.printing.put_date.Goals as goal
