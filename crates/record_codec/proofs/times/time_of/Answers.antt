@@ -2,8 +2,8 @@ use Rattle.std.proofs.lemmas.Result.{err_from_is_err_and}
 use Rattle.record_codec.proofs.Wide.{fails_also}
 use Rattle.std.specs.Int.{w64}
 use Rattle.std.proofs.lemmas.Int.{to_z-of_z}
-use Rattle.record_codec.proofs.Parts.{time_no_seconds, time_no_nanos, time_read, time_other}
-use Rattle.record_codec.proofs.fields.time_of.Goals as goal
+use Rattle.record_codec.proofs.Moments.{time_no_seconds, time_no_nanos, time_read, time_other}
+use Rattle.record_codec.proofs.times.time_of.Goals as goal
 
 pub returns-in_err-seconds : goal.returns-in_err-seconds
 returns-in_err-seconds c =
