@@ -116,7 +116,7 @@ pub fields_not : (limit : ℕ) (bytes : List ℕ) (n : ℕ) (rest : List ℕ) (f
 fields_not limit bytes n rest fs after first each not es more b =
     let is = entries limit bytes n rest first es more b in
     let same = unique_entries limit (fields_data fs) es after more (length_from fs ∙ each.fits.len ∙ is.count) (each_from limit fs each.fits.each) (spelled_entries limit es b.fits)
-        (ap (λ (r : List ℕ). r ++ after) (sym (flat_from fs)) ∙ sym each.parts ∙ is.parts) in
+    (ap (λ (r : List ℕ). r ++ after) (sym (flat_from fs)) ∙ sym each.parts ∙ is.parts) in
     not (subst AreFields (sym same.0) b.fits.storable.0.sound)
 
 record AreHeld (limit : ℕ) (es : Entries) : Type 0 where

@@ -69,4 +69,3 @@ no_bytes limit (byte ∷ bytes) none = absurd (omega (arith, none))
 pub null_read : (limit : ℕ) (rest : List ℕ) → Begins value (IsSpelledValue limit) (0 ∷ rest) kind.null rest
 unfolding value
 null_read limit rest = record { parts = refl; fits = record { storable = tt; nested = omega arith } }
-

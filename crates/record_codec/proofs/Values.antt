@@ -115,9 +115,10 @@ fields_on es s = append_assoc (number (length es)) (flat_map entry es) s
 
 spelled_each : (limit : ℕ) (es : Entries) → All IsFieldName (keys_of es) → All IsUtf8 (keys_of es) → AreStorableMembers (members_of es) → entries_depth es ≤ limit → AllByRecursion (IsSpelledEntry limit) es
 spelled_each limit [] names utf8 holds nested = tt
-spelled_each limit (e ∷ es) names utf8 holds nested =
-    (record { name = record { utf8 = All-head IsUtf8 e.0 (keys_of es) utf8; field = All-head IsFieldName e.0 (keys_of es) names }; value = record { storable = holds.0; nested = omega (arith, nested) } },
-     spelled_each limit es (All-tail IsFieldName e.0 (keys_of es) names) (All-tail IsUtf8 e.0 (keys_of es) utf8) holds.1 (omega (arith, nested)))
+spelled_each limit (e ∷ es) names utf8 holds nested = (
+  record { name = record { utf8 = All-head IsUtf8 e.0 (keys_of es) utf8; field = All-head IsFieldName e.0 (keys_of es) names }; value = record { storable = holds.0; nested = omega (arith, nested) } },
+  spelled_each limit es (All-tail IsFieldName e.0 (keys_of es) names) (All-tail IsUtf8 e.0 (keys_of es) utf8) holds.1 (omega (arith, nested)),
+)
 
 pub spelled_entries : (limit : ℕ) (es : Entries) → AreSpelledFields limit es → AllByRecursion (IsSpelledEntry limit) es
 spelled_entries limit es fits = spelled_each limit es fits.storable.0.sound.names fits.storable.0.utf8 fits.storable.1 fits.nested
@@ -127,7 +128,7 @@ spelled_entries limit es fits = spelled_each limit es fits.storable.0.sound.name
 many_items : (a b : List Data) (s t : List ℕ) → IsCountable a → IsCountable b → array_spelled a ++ s ≡ array_spelled b ++ t → (length a ≡ length b) × (flat_map value a ++ s ≡ flat_map value b ++ t)
 many_items a b s t count_a count_b e =
     unique_number (length a) (length b) (flat_map value a ++ s) (flat_map value b ++ t) count_a count_b
-        (sym (append_assoc (number (length a)) (flat_map value a) s) ∙ e ∙ append_assoc (number (length b)) (flat_map value b) t)
+    (sym (append_assoc (number (length a)) (flat_map value a) s) ∙ e ∙ append_assoc (number (length b)) (flat_map value b) t)
 
 many_entries : (a b : Entries) (s t : List ℕ) → IsCountable a → IsCountable b → fields a ++ s ≡ fields b ++ t → (length a ≡ length b) × (flat_map entry a ++ s ≡ flat_map entry b ++ t)
 many_entries a b s t count_a count_b e =
@@ -159,17 +160,17 @@ mutual
       let whole : kind.array ds ≡ array_of (list_of ds) = ap kind.array (sym (items_list ds)) in
       let held = array_back limit ds fits_a in
       let same = kind_same (suc limit) 8 array_of array_spelled (AreItems limit) (array_kind limit) (list_of ds) b s t
-          (λ y fits eq. let n = many_items (list_of ds) y s t held.count fits.count eq in items_unique limit ds y s t n.0 held.each fits.each n.1)
-          fits_b (ap (λ (v : Data). value v ++ s) (sym whole) ∙ e) in
+      (λ y fits eq. let n = many_items (list_of ds) y s t held.count fits.count eq in items_unique limit ds y s t n.0 held.each fits.each n.1)
+      fits_b (ap (λ (v : Data). value v ++ s) (sym whole) ∙ e) in
       (whole ∙ same.0, same.1)
   value_unique zero (kind.map ms) b s t fits_a fits_b e = absurd (omega (arith, fits_a.nested))
   value_unique (suc limit) (kind.map ms) b s t fits_a fits_b e =
       let whole : kind.map ms ≡ map_of (entries_of ms) = ap kind.map (sym (members_entries ms)) in
       let held = map_back limit ms fits_a in
       let same = kind_same (suc limit) 9 map_of fields (AreSpelledFields limit) (map_kind limit) (entries_of ms) b s t
-          (λ y fits eq. let n = many_entries (entries_of ms) y s t held.storable.0.count fits.storable.0.count eq in
-              members_unique limit ms y s t n.0 (spelled_entries limit (entries_of ms) held) (spelled_entries limit y fits) n.1)
-          fits_b (ap (λ (v : Data). value v ++ s) (sym whole) ∙ e) in
+      (λ y fits eq. let n = many_entries (entries_of ms) y s t held.storable.0.count fits.storable.0.count eq in
+      members_unique limit ms y s t n.0 (spelled_entries limit (entries_of ms) held) (spelled_entries limit y fits) n.1)
+      fits_b (ap (λ (v : Data). value v ++ s) (sym whole) ∙ e) in
       (whole ∙ same.0, same.1)
 
   items_unique : (limit : ℕ) (a : Items) (b : List Data) (s t : List ℕ) → length (list_of a) ≡ length b → AllByRecursion (IsSpelledValue limit) (list_of a) → AllByRecursion (IsSpelledValue limit) b
@@ -179,7 +180,7 @@ mutual
   items_unique limit (kind.item d a) [] s t same fits_a fits_b e = absurd (omega (arith, same))
   items_unique limit (kind.item d a) (y ∷ b) s t same fits_a fits_b e =
       let one = value_unique limit d y (flat_map value (list_of a) ++ s) (flat_map value b ++ t) fits_a.0 fits_b.0
-          (sym (append_assoc (value d) (flat_map value (list_of a)) s) ∙ e ∙ append_assoc (value y) (flat_map value b) t) in
+      (sym (append_assoc (value d) (flat_map value (list_of a)) s) ∙ e ∙ append_assoc (value y) (flat_map value b) t) in
       let others = items_unique limit a b s t (omega (arith, same)) fits_a.1 fits_b.1 one.1 in
       ((λ i. one.0 i ∷ others.0 i), others.1)
 
@@ -190,7 +191,7 @@ mutual
   members_unique limit (kind.member n d a) [] s t same fits_a fits_b e = absurd (omega (arith, same))
   members_unique limit (kind.member n d a) (y ∷ b) s t same fits_a fits_b e =
       let front : text n ++ (value d ++ (flat_map entry (entries_of a) ++ s)) ≡ text y.0 ++ (value y.1 ++ (flat_map entry b ++ t)) =
-          sym (entry_on (n, d) (flat_map entry (entries_of a) ++ s)) ∙ sym (append_assoc (entry (n, d)) (flat_map entry (entries_of a)) s) ∙ e ∙ append_assoc (entry y) (flat_map entry b) t ∙ entry_on y (flat_map entry b ++ t) in
+      sym (entry_on (n, d) (flat_map entry (entries_of a) ++ s)) ∙ sym (append_assoc (entry (n, d)) (flat_map entry (entries_of a)) s) ∙ e ∙ append_assoc (entry y) (flat_map entry b) t ∙ entry_on y (flat_map entry b ++ t) in
       let names = unique_name n y.0 (value d ++ (flat_map entry (entries_of a) ++ s)) (value y.1 ++ (flat_map entry b ++ t)) fits_a.0.name fits_b.0.name front in
       let one = value_unique limit d y.1 (flat_map entry (entries_of a) ++ s) (flat_map entry b ++ t) fits_a.0.value fits_b.0.value names.1 in
       let others = members_unique limit a b s t (omega (arith, same)) fits_a.1 fits_b.1 one.1 in

@@ -121,11 +121,7 @@ fn reference_of(alloc: Global, bytes: &[u8]) -> Result<(Value, &[u8]), ReadError
 }
 
 /// What follows the byte of a value that is neither an array nor a map, and what follows that.
-pub(crate) fn scalar_of(
-    alloc: Global,
-    tag: u8,
-    bytes: &[u8],
-) -> Result<(Value, &[u8]), ReadError>
+pub(crate) fn scalar_of(alloc: Global, tag: u8, bytes: &[u8]) -> Result<(Value, &[u8]), ReadError>
     requires no_array { tag ≢ 8 }
     requires no_map { tag ≢ 9 }
     ensures { ReadsKind tag bytes.now (λ x. (x.0, x.1.now)) result }

@@ -1,8 +1,8 @@
 -- The fields of a document or of a map: values by name.
-use Rattle.std.specs.Prelude.{ℕ, List, Option}
+use Rattle.std.specs.Prelude.{◌≡◌, ℕ, ◌<◌, ◌≤◌, List, length, Option}
 use Rattle.std.specs.Cmp.Lexicographic.{slice_cmp}
 use Rattle.std.specs.Ordering.{nat_cmp}
-use Rattle.std.specs.List.{All, AllPairs}
+use Rattle.std.specs.List.{All, AllPairs, AllWithin, HoldsAt}
 use Rattle.std.specs.Map.{keys_of, lookup, remove_entry}
 use Rattle.std.specs.BTreeMap.{insert_entry, is_at}
 use Rattle.document_keys.specs.Order.{TextBefore}
@@ -25,3 +25,15 @@ with_field fields name value = insert_entry (slice_cmp nat_cmp) fields name valu
 -- the fields without the name
 abbrev pub without_field : Entries → List ℕ → Entries
 without_field fields name = remove_entry (is_at (slice_cmp nat_cmp name)) fields
+
+-- a name stands at this place among ascending names
+pub record IsAt (names : List (List ℕ)) (name : List ℕ) (place : ℕ) : Type 0 where
+  pub inside : place < length names
+  pub below : AllWithin (λ n. TextBefore n name) names 0 place
+  pub here : HoldsAt (λ n. n ≡ name) names place
+
+-- it doesn't stand among them, and would stand at this place
+pub record IsGapFor (names : List (List ℕ)) (name : List ℕ) (place : ℕ) : Type 0 where
+  pub inside : place ≤ length names
+  pub below : AllWithin (λ n. TextBefore n name) names 0 place
+  pub above : AllWithin (λ n. TextBefore name n) names place (length names)

@@ -1,8 +1,11 @@
 pub mod Codes
 pub mod Data
+pub mod Documents
 pub mod Falls
 pub mod Fields
+pub mod Laws
 pub mod Named
+pub mod Order
 pub mod Storable
 pub mod Time
 pub mod View

@@ -1,7 +1,8 @@
-ghost use Rattle.std.specs.Prelude.{◌≡◌, ◌↔◌, [], length, IsTrue, IfOk, IfSome, IfNone, option_map};
+ghost use Rattle.std.specs.Prelude.{◌≡◌, ◌↔◌, [], length, IsTrue, IfOk, IfSome, IfNone, OnOk, OnErr, option_map};
 ghost use Rattle.std.specs.List.{slice_get};
 
-use crate::names::are_fields;
+use crate::entries::{set_value, take_out};
+use crate::names::{are_fields, place};
 use crate::value::Value;
 use document_keys::{NoMemory, Text};
 use std::alloc::Global;
@@ -61,7 +62,8 @@ impl Field {
 }
 
 impl Fields {
-    ghost use Rattle.value_model.specs.Fields.{AreFields};
+    ghost use Rattle.document_keys.specs.Paths.{IsFieldName};
+    ghost use Rattle.value_model.specs.Fields.{AreFields, field, with_field, without_field};
     ghost use Rattle.value_model.specs.Named.{fields_data};
 
     /// No fields. It takes no memory yet.
@@ -115,6 +117,48 @@ impl Fields {
         ensures fields { AreFields self.now }
     {
         self.entries.as_slice()
+    }
+
+    /// The value at the name, if there is one.
+    pub fn get(&self, name: &str) -> Option<&Value>
+        ensures { option_map (λ value. value.now) result ≡ field self.now name.now }
+    {
+        match place(self.entries.as_slice(), name) {
+            Ok(at) => Some(&self.entries[at].value),
+            Err(_) => None,
+        }
+    }
+
+    /// Puts the value at the name, which is a field's name, in place of the one that stood there.
+    ///
+    /// # Errors
+    /// `NoMemory`: the fields are then as before.
+    pub fn put(&mut self, _alloc: Global, name: Text, value: Value) -> Result<(), NoMemory>
+        requires { IsFieldName name }
+        ensures done { OnOk result (self.new ≡ with_field self.old name value) }
+        ensures undone { OnErr result (self.new ≡ self.old) }
+        ensures fields { AreFields self.new }
+    {
+        match place(self.entries.as_slice(), name.as_str()) {
+            Ok(at) => {
+                set_value(&mut self.entries, at, value);
+                Ok(())
+            }
+            Err(at) => {
+                self.entries.insert(at, Field { name, value })?;
+                Ok(())
+            }
+        }
+    }
+
+    /// Takes the name's field away, if there is one.
+    pub fn remove(&mut self, name: &str)
+        ensures done { self.new ≡ without_field self.old name.now }
+        ensures fields { AreFields self.new }
+    {
+        if let Ok(at) = place(self.entries.as_slice(), name) {
+            take_out(&mut self.entries, at);
+        }
     }
 
     /// A copy.

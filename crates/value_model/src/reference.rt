@@ -1,7 +1,9 @@
 ghost use Rattle.std.specs.Prelude.{◌≡◌, IfOk};
+ghost use Rattle.document_keys.specs.Order.{Ranks};
 
 use document_keys::{DocumentKey, NoMemory, Segment};
 use std::alloc::Global;
+use std::cmp::Ordering;
 
 /// The name of a document as a value: the project and the database that have it, and its key.
 #[derive(Debug, Drop)]
@@ -12,6 +14,8 @@ pub struct RefName {
 }
 
 impl RefName {
+    ghost use Rattle.value_model.specs.Order.{whole_path};
+
     /// A copy.
     ///
     /// # Errors
@@ -27,5 +31,20 @@ impl RefName {
             database,
             key,
         })
+    }
+    /// The order of names: the first of the project, the database and the key's segments that differs decides by its
+    /// bytes, and a front comes first.
+    pub fn compare(&self, other: &RefName) -> Ordering
+        ensures { Ranks result (whole_path self.now) (whole_path other.now) }
+    {
+        let project = self.project.cmp(&other.project);
+        if project.is_ne() {
+            return project;
+        }
+        let database = self.database.cmp(&other.database);
+        if database.is_ne() {
+            return database;
+        }
+        self.key.cmp(&other.key)
     }
 }

@@ -34,13 +34,13 @@ array_of-returns-in_err-values t c =
     let p = err_from_is_err_and c.from_residual-in_err-values.result c.from_residual-in_err-values.ensures.1 in
     let is : c.args.limit ≡ suc (c.args.limit - 1) = omega arith in
     rw (p.1, p.2) (fails_also c.in_err-values.field-0.0
-        (λ none. array_not c.args.limit (c.args.limit - 1) c.args.bytes.now is (items_none (c.args.limit - 1) c.args.bytes.now c.in_ok-count.count c.in_ok-count.rest.now c.in_ok-count.ensures none)) c.in_err-values.ensures)
+    (λ none. array_not c.args.limit (c.args.limit - 1) c.args.bytes.now is (items_none (c.args.limit - 1) c.args.bytes.now c.in_ok-count.count c.in_ok-count.rest.now c.in_ok-count.ensures none)) c.in_err-values.ensures)
 
 pub array_of-returns : goal.array_of-returns
 array_of-returns t c =
     let is : c.args.limit ≡ suc (c.args.limit - 1) = omega arith in
     rw c.array.ensures (array_done c.args.limit (c.args.limit - 1) c.args.bytes.now c.in_ok-values.values.items c.in_ok-values.rest.now is
-        (items_read (c.args.limit - 1) c.args.bytes.now c.in_ok-count.count c.in_ok-count.rest.now c.in_ok-values.values.items c.in_ok-values.rest.now c.in_ok-count.ensures c.in_ok-values.ensures))
+    (items_read (c.args.limit - 1) c.args.bytes.now c.in_ok-count.count c.in_ok-count.rest.now c.in_ok-values.values.items c.in_ok-values.rest.now c.in_ok-count.ensures c.in_ok-values.ensures))
 
 pub map_of-returns-then-limit-eq0 : goal.map_of-returns-then-limit-eq0
 map_of-returns-then-limit-eq0 t c = rw c.if-limit-eq0.true (no_map c.args.bytes.now)

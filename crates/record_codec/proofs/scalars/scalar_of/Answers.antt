@@ -26,4 +26,4 @@ returns-in-7 c = λ limit. rw c.in-7.is (c.reference_of.ensures limit)
 pub returns-in_default : goal.returns-in_default
 returns-in_default c = λ limit.
     no_kind limit c.args.tag c.args.bytes.now (λ e. absurd (omega (arith, e))) (λ e. absurd (omega (arith, e))) (λ e. absurd (omega (arith, e))) (λ e. absurd (omega (arith, e)))
-        (λ e. absurd (omega (arith, e))) (λ e. absurd (omega (arith, e))) (λ e. absurd (omega (arith, e))) c.requires.no_array c.requires.no_map
+    (λ e. absurd (omega (arith, e))) (λ e. absurd (omega (arith, e))) (λ e. absurd (omega (arith, e))) c.requires.no_array c.requires.no_map

@@ -9,12 +9,12 @@ use Rattle.record_codec.proofs.writing.+putting.Goals as goal
 pub put_value-returns-in_ok-put_values-in-Array : goal.put_value-returns-in_ok-put_values-in-Array
 put_value-returns-in_ok-put_values-in-Array t c =
     byte_put c.args.out.now.items c.push-in-Array.new.self.items c.put_values.new.out.items (array_spelled c.in-Array.values.items) (value c.args.content.now) 8
-        c.in_ok-push-in-Array.ensures.items c.in_ok-put_values-in-Array.ensures (rw (← c.content.view_is, c.in-Array.is) (array_value c.in-Array.values.items))
+    c.in_ok-push-in-Array.ensures.items c.in_ok-put_values-in-Array.ensures (rw (← c.content.view_is, c.in-Array.is) (array_value c.in-Array.values.items))
 
 pub put_value-returns-in_ok-put_fields-in-Map : goal.put_value-returns-in_ok-put_fields-in-Map
 put_value-returns-in_ok-put_fields-in-Map t c =
     byte_put c.args.out.now.items c.push-in-Map.new.self.items c.put_fields.new.out.items (fields c.in-Map.content) (value c.args.content.now) 9
-        c.in_ok-push-in-Map.ensures.items c.in_ok-put_fields-in-Map.ensures (rw (← c.content.view_is, c.in-Map.is) (map_value c.in-Map.content))
+    c.in_ok-push-in-Map.ensures.items c.in_ok-put_fields-in-Map.ensures (rw (← c.content.view_is, c.in-Map.is) (map_value c.in-Map.content))
 
 pub put_values-put_value-requires : goal.put_values-put_value-requires
 put_values-put_value-requires t c =
@@ -29,7 +29,7 @@ put_fields-put_value-requires t c =
 pub put_fields-loop-entry-preserved : goal.put_fields-loop-entry-preserved
 put_fields-loop-entry-preserved t c =
     field_put (c.args.out.now.items ++ number (length c.as_slice-entries.result.now)) c.loop-entry.out.items c.put_text.new.out.items c.put_value.new.out.items c.as_slice-entries.result.now c.loop-entry.entry-index c.entry-item.result
-        c.loop-entry-test.true c.entry-item.is c.loop-entry.invariant (rw c.as_str.ensures at c.in_ok-put_text.ensures) c.in_ok-put_value.ensures
+    c.loop-entry-test.true c.entry-item.is c.loop-entry.invariant (rw c.as_str.ensures at c.in_ok-put_text.ensures) c.in_ok-put_value.ensures
 
 pub put_fields-returns : goal.put_fields-returns
 put_fields-returns t c =

@@ -1,0 +1,23 @@
+//! Laws of values, their order, and fields. Nothing is done when they run.
+
+ghost use Rattle.value_model.specs.Laws.{ValuesAreOrdered, TiesAreEqual, PendingTimesStand, FieldsAreAMap};
+
+/// Values are in a strict total order.
+pub fn values_are_ordered()
+    ensures { ValuesAreOrdered }
+{}
+
+/// That neither of two values is before the other is an equivalence, and holds of the same values alone.
+pub fn ties_are_equal()
+    ensures { TiesAreEqual }
+{}
+
+/// A pending time stands after every timestamp and before every text.
+pub fn pending_times_stand()
+    ensures { PendingTimesStand }
+{}
+
+/// Fields are a finite map from names to values.
+pub fn fields_are_a_map()
+    ensures { FieldsAreAMap }
+{}
