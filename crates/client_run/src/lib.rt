@@ -25,6 +25,6 @@ mod tree;
 mod words;
 
 pub use client::run_client;
-pub use laws::one_reading;
+pub use laws::{a_line_reports_once, one_reading, two_files_find_once};
 pub use running::run_within;
 pub use status::Status;
