@@ -1,18 +1,16 @@
 -- A run whose store was opened, or wasn't.
-use Rattle.std.proofs.Common.{◌≡◌, ◌⊎◌, inl, inr, ⊎_elim, ℕ, ◌+◌, ◌≤◌, ◌<◌, ◌^◌, min, Bool, IsTrue, List, [], ◌++◌, length, append-nil, Err, refl, sym, ap, subst, ◌∙◌, arith}
-use Rattle.host_api.specs.Counts.{Rises}
+use Rattle.std.proofs.Common.{◌≡◌, ◌⊎◌, inl, inr, ⊎_elim, ℕ, ◌≤◌, ◌<◌, Bool, IsTrue, List, [], append-nil, refl, sym, ap, subst, ◌∙◌, arith}
 use Rattle.host_api.specs.Items.{Item, split}
-use Rattle.host_api.specs.declared.host.FileId.{FileId}
 use Rattle.host_api.specs.Host.{Files, View, Stays, Spans}
 use Rattle.host_api.proofs.Spans.{spans_then, spans_weaker}
 use Rattle.disk_journal.specs.File.{Gives}
 use Rattle.disk_journal.specs.Steps.{GiveSame, IsOrGivesSame, Opens, Settled}
 use Rattle.disk_journal.proofs.Pairs.{gives_once}
 use Rattle.document_keys.specs.Names.{Root}
-use Rattle.client_run.specs.Crash.{Keeps, Survives, FindsHandled, LeavesAtEnd, Synced, Unsynced, Crashes}
+use Rattle.client_run.specs.Crash.{Keeps, Survives, FindsHandled, LeavesAtEnd, Crashes}
 use Rattle.client_run.specs.State.{State, start, Replays, FindsState}
 use Rattle.client_run.specs.Store.{IsNoStore, IsStored, state_of}
-use Rattle.client_run.specs.Run.{Ends, Prints, Ran, Faults, NoFaults, Completes}
+use Rattle.client_run.specs.Run.{Ends, Prints, Ran, Faults, NoFaults}
 use Rattle.client_run.specs.declared.local_store.LocalStore.{LocalStore}
 use Rattle.client_run.specs.declared.reading.Reading.{Reading}
 use Rattle.client_run.specs.declared.status.Status.{Status}

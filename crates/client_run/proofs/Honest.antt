@@ -1,27 +1,25 @@
 -- All that a run asks of the turn of a line: it writes whole lines, which report no number above that after its commit, and
 -- its commit fits and has a spelling.
-use Rattle.std.proofs.Common.{◌≡◌, ℕ, ◌+◌, ◌<◌, ◌≤◌, ◌^◌, Bool, List, [], ◌∷◌, ◌++◌, length, codes, Option, Some, None, IfSome, Ordering, Less, Equal, Greater, refl, sym, ap, subst, ◌∙◌, arith, rules}
-use Rattle.std.specs.Prelude.{⊤, fold}
+use Rattle.std.proofs.Common.{◌≡◌, ℕ, ◌+◌, ◌<◌, ◌≤◌, ◌^◌, List, [], ◌∷◌, length, codes, Option, Some, None, IfSome, Less, Equal, Greater, refl, sym, subst, arith}
+use Rattle.std.specs.Prelude.{fold}
 use Rattle.std.specs.List.{All}
 use Rattle.std.specs.Ordering.{nat_cmp, match_ordering}
 use Rattle.std.specs.Cmp.Lexicographic.{slice_cmp}
 use Rattle.std.proofs.lemmas.List.Elements.{All-nil, All-cons}
 use Rattle.json.specs.Tree.{HasNumbers, MembersHaveNumbers}
 use Rattle.json.proofs.Printed.Decimals.{IsNumber-decimal}
-use Rattle.serde_json.specs.Data.{Data, boolean, number, unsigned, string, object, Members, no_members, member, put}
+use Rattle.serde_json.specs.Data.{Data, Members, no_members, member, put}
 use Rattle.serde_json.specs.Find.{get}
 use Rattle.serde_json.specs.Written.{outline, members_outline, compact_text}
 use Rattle.document_keys.specs.Names.{Root}
 use Rattle.value_model.specs.declared.fields.Field.{Field}
 use Rattle.value_model.specs.declared.value.Value.{Value}
 use Rattle.value_model.specs.declared.value.Value.TheVariants.{Integer}
-use Rattle.record_codec.specs.declared.commit.Commit.{Commit}
-use Rattle.record_codec.specs.declared.commit.Commit.TheVariants.{Enqueue}
 use Rattle.record_codec.specs.Spelling.{HasSpelling}
 use Rattle.client_run.specs.Trees.{one}
 use Rattle.client_run.specs.Output.{line_of, ok_tree, refused_tree, value_tree, put_field, fields_tree, document_tree}
-use Rattle.client_run.specs.Reported.{whole_lines, Reports, ReportsWithin, ReportedWithin}
-use Rattle.client_run.specs.State.{State, Fits, committed, local_document}
+use Rattle.client_run.specs.Reported.{Reports, ReportsWithin, ReportedWithin}
+use Rattle.client_run.specs.State.{State, Fits, local_document}
 use Rattle.client_run.specs.Turn.{Turn, Past, turn, after}
 use Rattle.client_run.specs.Turned.{IsSpelledReading}
 use Rattle.client_run.specs.declared.event.Event.TheVariants as event

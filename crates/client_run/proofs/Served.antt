@@ -3,19 +3,18 @@ use Rattle.std.proofs.Common.{◌≡◌, ◌⊎◌, inl, inr, ⊎_elim, ℕ, ◌
 use Rattle.std.specs.List.{AllZip}
 use Rattle.std.proofs.lemmas.List.{take_more, length-append, length-drop, append_assoc, append-nil}
 use Rattle.std.proofs.Math.Seq.{drop-cons}
-use Rattle.host_api.specs.Items.{Item, Next, item_of, split, IsSuffix}
+use Rattle.host_api.specs.Items.{Item, Next, item_of, split}
 use Rattle.host_api.specs.declared.host.FileId.{FileId}
 use Rattle.host_api.specs.Host.{Files, View, IsPart, IsOnDisk, Stays, Spans}
 use Rattle.host_api.proofs.Spans.{spans_none, spans_then}
-use Rattle.disk_journal.specs.File.{Gives}
 use Rattle.document_keys.specs.Names.{Root}
 use Rattle.client_run.specs.Reading.{Reads, AreRead}
-use Rattle.client_run.specs.Crash.{Keeps, FindsHandled, FindsNext, LeavesAtEnd, Survives, Synced, Crashes, commits_of, after_all}
+use Rattle.client_run.specs.Crash.{Keeps, FindsHandled, FindsNext, LeavesAtEnd, Survives, Crashes, commits_of, after_all}
 use Rattle.client_run.specs.State.{State, start, Replays, FindsState}
 use Rattle.client_run.specs.Store.{IsStored, state_of}
 use Rattle.client_run.specs.Turn.{Past, run, one_more, turn, now, after, output_of, payloads_after, added}
-use Rattle.client_run.specs.Turned.{Turned, InTurn, IsSpelledReading, Wrote, Blames, Later}
-use Rattle.client_run.specs.Run.{Ends, Took, TookAndFailed, Takes, NextPart, Prints, Ran, Faults}
+use Rattle.client_run.specs.Turned.{Turned, IsSpelledReading, Wrote, Blames, Later}
+use Rattle.client_run.specs.Run.{Ends, Takes, Prints, Ran, Faults}
 use Rattle.client_run.specs.declared.local_store.LocalStore.{LocalStore}
 use Rattle.client_run.specs.declared.reading.Reading.{Reading}
 use Rattle.client_run.specs.declared.status.Status.{Status}

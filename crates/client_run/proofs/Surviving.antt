@@ -1,13 +1,11 @@
 -- What a crash finds of a run, as its lines are handled.
-use Rattle.std.proofs.Common.{◌≡◌, ◌⊎◌, inl, inr, ⊎_elim, ℕ, ◌+◌, ◌<◌, ◌≤◌, ◌^◌, suc, List, [], ◌∷◌, ◌++◌, length, take, drop, Option, Some, None, IfSome, Result, Ok, Err, IfOk, refl, sym, ap, subst, ◌∙◌, arith, append_assoc, append-nil, length-append}
-use Rattle.std.specs.Prelude.{fold}
+use Rattle.std.proofs.Common.{◌≡◌, ◌⊎◌, inl, inr, ⊎_elim, ℕ, ◌+◌, ◌≤◌, List, [], ◌∷◌, ◌++◌, length, take, drop, Option, Some, None, IfSome, refl, sym, ap, subst, ◌∙◌, arith, append_assoc, length-append}
 use Rattle.std.specs.List.{All}
 use Rattle.std.proofs.lemmas.List.{take-append-drop}
 use Rattle.std.proofs.lemmas.List.Sums.{fold-append}
 use Rattle.std.proofs.lemmas.List.Elements.{All-nil, All-cons, All-head, All-tail, All-append, All-weaker}
 use Rattle.host_api.specs.Items.{Item}
-use Rattle.host_api.specs.Host.{Files, View, IsPart, Spans}
-use Rattle.host_api.proofs.Spans.{spans_none, spans_then}
+use Rattle.host_api.specs.Host.{Files, IsPart}
 use Rattle.disk_journal.specs.File.{Gives}
 use Rattle.document_keys.specs.Names.{Root}
 use Rattle.record_codec.specs.declared.commit.Commit.{Commit}
@@ -17,8 +15,8 @@ use Rattle.client_run.specs.Crash.{made, commits_of, after_all, Survives}
 use Rattle.client_run.specs.Reading.{AreRead}
 use Rattle.client_run.specs.Reported.{lines_on, whole_lines, ReportsWithin, ReportedWithin}
 use Rattle.client_run.specs.State.{State, start, Fits, committed, Replays, FindsState}
-use Rattle.client_run.specs.Turn.{Turn, Past, Entry, run, one_more, turn, now, after, output_of, added}
-use Rattle.client_run.specs.Turned.{InTurn, GivesEither}
+use Rattle.client_run.specs.Turn.{Turn, Past, run, one_more, turn, now, after, output_of, added}
+use Rattle.client_run.specs.Turned.{GivesEither}
 use Rattle.client_run.specs.declared.reading.Reading.{Reading}
 use Rattle.client_run.proofs.Breaks.{open_on, lines_append, open_append}
 use Rattle.client_run.proofs.Honest.{IsHonest}

@@ -1,5 +1,5 @@
 -- What a crash may leave of a run, and that the files of a store stay those of a store.
-use Rattle.std.specs.Prelude.{◌≡◌, ◌⊎◌, ℕ, ◌+◌, List, [], ◌∷◌, ◌++◌, length, Option, Some, None, fold}
+use Rattle.std.specs.Prelude.{◌≡◌, ◌⊎◌, ℕ, ◌+◌, ◌<◌, ◌≤◌, ◌^◌, List, [], ◌∷◌, ◌++◌, length, Option, Some, None, fold}
 use Rattle.host_api.specs.Items.{Item}
 use Rattle.host_api.specs.declared.host.FileId.{FileId}
 use Rattle.host_api.specs.Host.{Files, View, Spans, Stays, IsOnDisk}
@@ -8,7 +8,7 @@ use Rattle.record_codec.specs.declared.commit.Commit.{Commit}
 use Rattle.client_run.specs.Reading.{AreRead}
 use Rattle.client_run.specs.Reported.{ReportedWithin}
 use Rattle.client_run.specs.State.{State, committed, FindsState}
-use Rattle.client_run.specs.Turn.{Past, run}
+use Rattle.client_run.specs.Turn.{Past, turn, after, run}
 use Rattle.client_run.specs.declared.reading.Reading.{Reading}
 use Rattle.client_run.specs.declared.status.Status.{Status}
 use Rattle.client_run.specs.declared.status.Status.TheVariants as ended
@@ -35,6 +35,11 @@ commits_of (entry ∷ past) = commits_of past ++ made entry.turn.commit
 -- the state after these commits
 abbrev pub after_all : State → List Commit → State
 after_all s commits = fold committed s commits
+
+-- No whole line that a turn writes reports a number above that of the state after its commit, for numbers that a store
+-- can have.
+abbrev pub ATurnReportsWithin : Type 0
+ATurnReportsWithin = (root : Root) (s : State) (past : Past) (reading : Reading) → s.number ≤ 2 ^ 62 → s.next_batch ≤ s.number + 1 → length past + 1 < 2 ^ 64 → ReportedWithin (after s (turn root s past reading).commit).number (turn root s past reading).output
 
 -- What a crash leaves at one moment of a run from the state s, with this output standing then: the files find the state
 -- after the commits of the first items, i in number, and the number s.number + i; and no whole line that was written

@@ -1,5 +1,5 @@
 -- What an item of the source is: an event, or why it is refused.
-use Rattle.std.specs.Prelude.{◌≡◌, ℕ, List, [], codes, Some, IsUtf8, length, take}
+use Rattle.std.specs.Prelude.{◌≡◌, ℕ, List, [], Some, IsUtf8, length, take}
 use Rattle.std.specs.List.{AllZip}
 use Rattle.host_api.specs.Items.{Item, Bytes, Overlong}
 use Rattle.serde_json.specs.Data.{Data, null, boolean, number, string, array, object, Members, no_members, member}

@@ -2,13 +2,14 @@
 use Rattle.std.specs.Prelude.{◌≡◌, ◌⊎◌, ℕ, ◌+◌, ◌<◌, ◌≤◌, List, [], ◌∷◌, ◌++◌, length, drop, IsTrue, Bool}
 use Rattle.host_api.specs.Items.{Item, split, IsSuffix}
 use Rattle.host_api.specs.Counts.{Rises}
+use Rattle.host_api.specs.declared.host.FileId.{FileId}
 use Rattle.host_api.specs.Host.{View, IsPart}
 use Rattle.disk_journal.specs.File.{Gives}
 use Rattle.document_keys.specs.Names.{Root}
 use Rattle.client_run.specs.Crash.{Keeps, Crashes}
 use Rattle.client_run.specs.Reading.{AreRead}
-use Rattle.client_run.specs.State.{State, FindsState}
-use Rattle.client_run.specs.Store.{IsNoStore}
+use Rattle.client_run.specs.State.{State}
+use Rattle.client_run.specs.Store.{IsRefused, IsNoStore}
 use Rattle.client_run.specs.Turn.{run, turn, now, output_of, payloads_after}
 use Rattle.client_run.specs.declared.reading.Reading.{Reading}
 use Rattle.client_run.specs.declared.status.Status.{Status}
@@ -91,6 +92,7 @@ Faults ended.Budget before after old new = Unit {0}
 
 -- the files are no store, and stand as they did; nothing was written
 pub record LeavesForeign (tells_files : Bool) (old new : View) : Type 0 where
+  pub refused : IsTrue tells_files → (file : FileId) × IsRefused file old.bytes
   pub no_store : IsTrue tells_files → IsNoStore old.bytes
   pub bytes : IsTrue tells_files → new.bytes ≡ old.bytes
   pub out : new.out ≡ old.out

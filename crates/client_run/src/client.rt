@@ -1,4 +1,4 @@
-ghost use Rattle.std.specs.Prelude.{◌≡◌, ◌↔◌, ℕ, List, map, IsTrue};
+ghost use Rattle.std.specs.Prelude.{◌≡◌, ◌≢◌, ◌↔◌, ℕ, List, map, IsTrue};
 ghost use Rattle.std.specs.String.{string_bytes};
 ghost use Rattle.host_api.specs.Items.{split};
 ghost use Rattle.client_run.specs.Words.{AreRun, default_root};
@@ -34,6 +34,7 @@ pub fn run_client<S: Source, H: Host>(
         → Ran H.view default_root (split (S.left source.old)) s finds.payloads H.tells_out H.tells_files 4294967296 result (S.left source.new) (H.view host.old) (H.view host.new) }
     ensures not_a_store { result ≡ Status.NotAStore → LeavesForeign H.tells_files (H.view host.old) (H.view host.new) }
     ensures no_store { IsTrue H.tells_files → AreRun (map string_bytes words.now) → IsNoStore (H.view host.old).bytes → IsRefusal result }
+    ensures never_kept { IsTrue H.tells_files → Keeps (H.view host.old) → result ≢ Status.NotAStore }
     ensures keeps { IsTrue H.tells_files → Keeps (H.view host.old) → Keeps (H.view host.new) }
     ensures completes { IsTrue S.tells → IsTrue H.tells_files → AreRun (map string_bytes words.now) → Completes (split (S.left source.old)) 4294967296 result (S.faults source.old) (S.faults source.new) (H.view host.old) (H.view host.new) }
     ensures cause { Faults result (S.faults source.old) (S.faults source.new) (H.view host.old) (H.view host.new) }

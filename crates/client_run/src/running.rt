@@ -32,6 +32,7 @@ pub fn run_within<S: Source, H: Host>(
         → Ran H.view root (split (S.left source.old)) s finds.payloads H.tells_out H.tells_files budget result (S.left source.new) (H.view host.old) (H.view host.new) }
     ensures not_a_store { result ≡ Status.NotAStore → LeavesForeign H.tells_files (H.view host.old) (H.view host.new) }
     ensures no_store { IsTrue H.tells_files → IsNoStore (H.view host.old).bytes → IsRefusal result }
+    ensures never_kept { IsTrue H.tells_files → Keeps (H.view host.old) → result ≢ Status.NotAStore }
     ensures keeps { IsTrue H.tells_files → Keeps (H.view host.old) → Keeps (H.view host.new) }
     ensures completes { IsTrue S.tells → IsTrue H.tells_files → Completes (split (S.left source.old)) budget result (S.faults source.old) (S.faults source.new) (H.view host.old) (H.view host.new) }
     ensures words { result ≢ Status.Usage }

@@ -180,7 +180,10 @@ fn host_stopped_after(rt: &HostRuntime, calls: u64) -> Result<MemHost, Fail> {
 #[test]
 fn crashes(rt: HostRuntime) -> Result<(), Fail> {
     let mut host = host_over(&rt, &[], &[], &[])?;
-    assert_eq!(rt; run_lines(&rt, &[GET, WRITE, GET], &mut host)?, Status::Done);
+    assert_eq!(rt;
+        run_lines(&rt, &[GET, WRITE, GET], &mut host)?,
+        Status::Done
+    );
     let reported = format!(in rt.alloc(); "{MISSING}{OK}")?;
     let mut answers = 0;
     for calls in 0..=host.calls() {

@@ -1,5 +1,4 @@
 use Rattle.client_run.proofs.Parsed.{a_line_reports_once, ok_reports}
-use Rattle.client_run.proofs.Honest.{turn_honest}
 use Rattle.client_run.proofs.laws.a_line_reports_once.Goals as goal
 
 pub returns-clause-once : goal.returns-clause-once

@@ -1,5 +1,6 @@
-use Rattle.std.proofs.Common.{rules, ◌≡◌, List, ℕ, IsTrue, inr, refl}
-use Rattle.client_run.proofs.Began.{disk_first, memory_first, Opened, finds_of, opened_runs, opens_keeps, kept_is_store, completed}
+use Rattle.std.proofs.Common.{inr, refl}
+use Rattle.client_run.proofs.Began.{disk_first, memory_first, finds_of, opened_runs, opens_keeps, kept_is_store, completed}
+use Rattle.client_run.proofs.Opened.{refused_is_none}
 use Rattle.client_run.proofs.running.run_within.Goals as goal
 
 pub returns-in-Err-DiskFault-clause-run : goal.returns-in-Err-DiskFault-clause-run
@@ -15,11 +16,12 @@ returns-in-Err-NoMemory-clause-run g c = λ tells told s finds.
 pub returns-in-Err-NotAStore-clause-run : goal.returns-in-Err-NotAStore-clause-run
 returns-in-Err-NotAStore-clause-run g c = λ tells told s finds.
     let refuses = rw c.in-Err-NotAStore.field-0-is at c.in-Err-NotAStore.ensures.refused told in
-    absurd (refuses.0 s finds)
+    absurd (refused_is_none _ _ refuses.0 s finds)
 
 pub returns-in-Err-NotAStore-clause-not_a_store : goal.returns-in-Err-NotAStore-clause-not_a_store
 returns-in-Err-NotAStore-clause-not_a_store g c = λ is. record {
-  no_store = λ told. let refuses = rw c.in-Err-NotAStore.field-0-is at c.in-Err-NotAStore.ensures.refused told in refuses.0;
+  refused = λ told. let refuses = rw c.in-Err-NotAStore.field-0-is at c.in-Err-NotAStore.ensures.refused told in (_, refuses.0);
+  no_store = λ told. let refuses = rw c.in-Err-NotAStore.field-0-is at c.in-Err-NotAStore.ensures.refused told in refused_is_none _ _ refuses.0;
   bytes = λ told. let refuses = rw c.in-Err-NotAStore.field-0-is at c.in-Err-NotAStore.ensures.refused told in refuses.1;
   out = c.in-Err-NotAStore.ensures.out.out;
 }
@@ -51,10 +53,15 @@ returns-in-Err-DiskFault-clause-completes g c = λ tells told keeps few none.
 pub returns-in-Err-NotAStore-clause-completes : goal.returns-in-Err-NotAStore-clause-completes
 returns-in-Err-NotAStore-clause-completes g c = λ tells told keeps few none.
     let refuses = rw c.in-Err-NotAStore.field-0-is at c.in-Err-NotAStore.ensures.refused told in
-    absurd (kept_is_store keeps refuses.0)
+    absurd (kept_is_store keeps (refused_is_none _ _ refuses.0))
 
 pub returns-clause-completes : goal.returns-clause-completes
 returns-clause-completes g c = λ tells told keeps few none.
     let st = c.in-Ok.ensures.stored told in
     let ran = c.serve.ensures.run tells st.0 (λ files. st.2) in
     completed c.serve.result _ _ c.args.budget _ _ _ _ _ c.in-Ok.ensures.later c.in-Ok.ensures.out.faults ran.ends c.serve.ensures.cause few none
+
+pub returns-in-Err-NotAStore-clause-never_kept : goal.returns-in-Err-NotAStore-clause-never_kept
+returns-in-Err-NotAStore-clause-never_kept g c = λ told keeps.
+    let refuses = rw c.in-Err-NotAStore.field-0-is at c.in-Err-NotAStore.ensures.refused told in
+    absurd (kept_is_store keeps (refused_is_none _ _ refuses.0))

@@ -1,9 +1,7 @@
-use Rattle.std.proofs.Common.{rules, ◌≡◌, ℕ, ◌≤◌, List, length, IsTrue, ◌+◌, ◌<◌, inl, inr, arith, refl, sym}
+use Rattle.std.proofs.Common.{inl, inr, arith}
 use Rattle.host_api.specs.Items.{split}
-use Rattle.client_run.specs.Store.{IsStored, state_of}
-use Rattle.client_run.specs.Run.{Ran, Faults}
 use Rattle.client_run.specs.declared.status.Status.TheVariants.{Done, SourceFault, NoMemory, Budget}
-use Rattle.client_run.proofs.Served.{Serving, served_none, next_read, all_done, none_left, one_taken, keeps_stored, keeps_within, stops, served_more, stops_within, faults_within, later_then, stored_still}
+use Rattle.client_run.proofs.Served.{served_none, next_read, all_done, none_left, one_taken, keeps_stored, keeps_within, stops, served_more, stops_within, faults_within, later_then, stored_still}
 use Rattle.client_run.proofs.serving.serve.Goals as goal
 
 pub returns-in-Err-Failed-clause-run : goal.returns-in-Err-Failed-clause-run
