@@ -3,7 +3,8 @@ use Rattle.std.proofs.Common.{◌≡◌, ◌∙◌, ℕ, suc, ◌+◌, ◌-◌, 
 use Rattle.std.specs.Prelude.{fold}
 use Rattle.std.specs.List.{list_all}
 use Rattle.std.proofs.Math.Seq.{get_or-append_seam, take-append_seam}
-use Rattle.std.proofs.lemmas.Bool.{le-leb}
+use Rattle.std.specs.Prelude.{int_lt, false}
+use Rattle.std.proofs.lemmas.Bool.{le-leb, lt-leb}
 use Rattle.std.proofs.lemmas.Bool.Decides.{eqb_tells}
 use Rattle.jiff_core.specs.Calendar.{IsCivilDate, days_from_civil, day_count}
 use Rattle.jiff_core.proofs.CalendarLemmas.{days_in_month_bounds, days_from_civil-day_count}
@@ -12,7 +13,7 @@ use borrow.Author.Differences.{up, down}
 use Rattle.value_model.proofs.Dates.{found}
 use Rattle.value_model.proofs.Counted.{found as found_date}
 use Rattle.value_model.specs.declared.timestamp.Timestamp.{Timestamp}
-use Rattle.value_model.specs.Time.{is_digit, pair_of, day_of, date_of, second_of, clock_of, nanos_of, fraction_in, has_marks, moment, time_of, IsMoment}
+use Rattle.value_model.specs.Time.{moment_text, nearest, is_digit, pair_of, day_of, date_of, second_of, clock_of, nanos_of, fraction_in, has_marks, moment, time_of, IsMoment}
 use Rattle.value_model.specs.Time.{two, three, ymd_text, clock_text, fraction_text, year_at, month_at, day_at, date_text, since_first, time_text}
 
 digit_is : (d : ℕ) → d ≤ 9 → is_digit (48 + d) ≡ true
@@ -190,9 +191,9 @@ moment_is t since is =
     let whole : 86400 * (since / 86400) + since % 86400 ≡ since = omega arith in
     ap (λ (z : ℤ). record t { seconds = z }) (omega (arith, signed_arith, whole, is))
 
-pub time_read : (t : Timestamp) → IsMoment t → time_of (time_text t) ≡ Some t
-unfolding time_text date_text
-time_read t holds =
+moment_read : (t : Timestamp) → IsMoment t → time_of (moment_text t) ≡ Some t
+unfolding moment_text date_text
+moment_read t holds =
     let since : ℕ = since_first t in
     let positive = since_is t.seconds holds.seconds.0 in
     let range : since < 315537897600 = omega (arith, signed_arith, positive, holds.seconds.1) in
@@ -209,3 +210,19 @@ time_read t holds =
     (parts_read y m d (since % 86400) t.nanos (pos (since / 86400) -ℤ pos 719162) date.some date.most date.civil
     (day_is (days_from_civil (pos y) m d) (since / 86400) (day_count (pos y) m d) days date.is) second holds.nanos
     ∙ ap Some (moment_is t since positive))
+
+not_below : (a b : ℤ) → b ≤ℤ a → int_lt a b ≡ false
+not_below (pos a) (pos b) h = lt-leb (suc a) b (omega (arith, signed_arith, h))
+not_below (pos a) (negsuc b) h = refl
+not_below (negsuc a) (pos b) h = absurd (omega (arith, signed_arith, h))
+not_below (negsuc a) (negsuc b) h = lt-leb (suc b) a (omega (arith, signed_arith, h))
+
+-- a moment is the nearest to itself
+nearest_is : (t : Timestamp) → IsMoment t → nearest t ≡ t
+nearest_is t holds =
+    rw (not_below t.seconds (neg_ℤ (pos 62135596800)) holds.seconds.0, not_below (pos 253402300799) t.seconds holds.seconds.1)
+        (ap (λ (n : ℕ). record t { nanos = n }) (omega (arith, holds.nanos)))
+
+pub time_read : (t : Timestamp) → IsMoment t → time_of (time_text t) ≡ Some t
+unfolding time_text
+time_read t holds = ap (λ (m : Timestamp). time_of (moment_text m)) (nearest_is t holds) ∙ moment_read t holds

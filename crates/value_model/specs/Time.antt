@@ -1,5 +1,5 @@
 -- Times of RFC 3339 in UTC: YYYY-MM-DDTHH:MM:SS, then nothing or a point and one to nine digits, then Z.
-use Rattle.std.specs.Prelude.{ℕ, ◌+◌, ◌-◌, ◌*◌, ◌^◌, ◌==◌, ◌&&◌, Bool, List, [], ◌∷◌, length, fold, slice_index, slice_range, nat_lt, nat_le, if◌then◌else◌, ℤ, pos, neg_ℤ, ◌<◌, ◌+ℤ◌, ◌*ℤ◌, Option, Some, None, option_and_then, option_map, ◌≡◌, zero, suc, ◌/◌, ◌%◌, ◌++◌, unsigned_abs, ◌-ℤ◌}
+use Rattle.std.specs.Prelude.{min, int_lt, ℕ, ◌+◌, ◌-◌, ◌*◌, ◌^◌, ◌==◌, ◌&&◌, Bool, List, [], ◌∷◌, length, fold, slice_index, slice_range, nat_lt, nat_le, if◌then◌else◌, ℤ, pos, neg_ℤ, ◌<◌, ◌+ℤ◌, ◌*ℤ◌, Option, Some, None, option_and_then, option_map, ◌≡◌, zero, suc, ◌/◌, ◌%◌, ◌++◌, unsigned_abs, ◌-ℤ◌}
 use Rattle.std.specs.List.{list_all}
 use Rattle.jiff_core.specs.Calendar.{IsBetween, days_from_civil, days_in_month, day_count}
 use Rattle.value_model.specs.declared.timestamp.Timestamp.{Timestamp}
@@ -137,8 +137,19 @@ since_first t = unsigned_abs (t.seconds +ℤ pos 62135596800)
 abbrev pub day_in : Timestamp → ℤ
 day_in t = pos (since_first t / 86400) -ℤ pos 719162
 
+-- the text of a moment
+unfoldable pub moment_text : Timestamp → List ℕ
+moment_text t = date_text (day_in t) ++ 84 ∷ (clock_text (since_first t % 86400) ++ (fraction_text t.nanos ++ 90 ∷ []))
+
+-- a time of the years 1 to 9999 as it is, and any other as the first or the last of them
+abbrev pub nearest : Timestamp → Timestamp
+nearest t =
+    if int_lt t.seconds (neg_ℤ (pos 62135596800)) then record { seconds = neg_ℤ (pos 62135596800); nanos = 0 }
+    else if int_lt (pos 253402300799) t.seconds then record { seconds = pos 253402300799; nanos = 999999999 }
+    else record { seconds = t.seconds; nanos = min t.nanos 999999999 }
+
 unfoldable pub time_text : Timestamp → List ℕ
-time_text t = date_text (day_in t) ++ 84 ∷ (clock_text (since_first t % 86400) ++ (fraction_text t.nanos ++ 90 ∷ []))
+time_text t = moment_text (nearest t)
 
 -- what is printed of a moment reads back as it
 abbrev pub TimesReadBack : Type 0

@@ -22,7 +22,7 @@ pub struct Timestamp {
 impl Timestamp {
     ghost use Rattle.value_model.specs.Time.{time_of, instant, IsMoment};
     ghost use Rattle.std.specs.Ordering.{MatchOrdering};
-    ghost use Rattle.value_model.specs.Time.{time_text, since_first, day_in};
+    ghost use Rattle.value_model.specs.Time.{time_text, moment_text, nearest, since_first, day_in};
 
     /// Reads `YYYY-MM-DDTHH:MM:SSZ` (RFC 3339 in UTC), before whose `Z` a point and one to nine digits may stand: a real date
     /// of the years 0001 to 9999, an hour to 23, a minute and a second to 59. `None` exactly where the text isn't of the form.
@@ -44,14 +44,45 @@ impl Timestamp {
         })
     }
 
-    /// The time as RFC 3339 writes it in UTC, with 0, 3, 6 or 9 digits of the second's fraction, the fewest that keep it.
+    /// The time as RFC 3339 writes it in UTC, with 0, 3, 6 or 9 digits of the second's fraction, the fewest that keep it. A
+    /// time outside the years 1 to 9999, which nothing here makes, is written as the nearest of them.
     ///
     /// # Errors
     /// `NoMemory`
     #[tactic(auto, unfolding(crate::specs::Time::time_text))]
     pub fn print(&self, alloc: Global) -> Result<String, NoMemory>
-        requires { IsMoment self.now }
         ensures { IfOk result (λ text. string_bytes text ≡ time_text self.now) }
+    {
+        self.nearest().print_moment(alloc)
+    }
+
+    /// The nearest time of the years 1 to 9999.
+    fn nearest(&self) -> Timestamp
+        ensures value { result ≡ nearest self.now }
+        ensures moment { IsMoment result }
+    {
+        if self.seconds < -62_135_596_800 {
+            return Timestamp {
+                seconds: -62_135_596_800,
+                nanos: 0,
+            };
+        }
+        if self.seconds > 253_402_300_799 {
+            return Timestamp {
+                seconds: 253_402_300_799,
+                nanos: 999_999_999,
+            };
+        }
+        Timestamp {
+            seconds: self.seconds,
+            nanos: self.nanos.min(999_999_999),
+        }
+    }
+
+    #[tactic(auto, unfolding(crate::specs::Time::moment_text))]
+    fn print_moment(&self, alloc: Global) -> Result<String, NoMemory>
+        requires { IsMoment self.now }
+        ensures { IfOk result (λ text. string_bytes text ≡ moment_text self.now) }
     {
         let mut text = String::with_capacity(alloc, 30)?;
         put_date(&mut text, self.day())?;
