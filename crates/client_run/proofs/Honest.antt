@@ -6,18 +6,18 @@ use Rattle.std.specs.List.{All}
 use Rattle.std.specs.Ordering.{nat_cmp, match_ordering}
 use Rattle.std.specs.Cmp.Lexicographic.{slice_cmp}
 use Rattle.std.proofs.lemmas.List.Elements.{All-nil, All-cons}
-use Rattle.json.specs.Tree.{HasNumbers, MembersHaveNumbers}
+use Rattle.json.specs.Tree.{HasNumbers, ItemsHaveNumbers, MembersHaveNumbers}
 use Rattle.json.proofs.Printed.Decimals.{IsNumber-decimal}
-use Rattle.serde_json.specs.Data.{Data, Members, no_members, member, put}
+use Rattle.serde_json.specs.Data as json
 use Rattle.serde_json.specs.Find.{get}
-use Rattle.serde_json.specs.Written.{outline, members_outline, compact_text}
+use Rattle.serde_json.specs.Written.{outline, items_outline, members_outline, compact_text}
 use Rattle.document_keys.specs.Names.{Root}
-use Rattle.value_model.specs.declared.fields.Field.{Field}
-use Rattle.value_model.specs.declared.value.Value.{Value}
-use Rattle.value_model.specs.declared.value.Value.TheVariants.{Integer}
+use Rattle.value_model.specs.Data as kind
+use Rattle.value_model.specs.Data.{Data, Items, Members, Entries, members_of}
+use Rattle.json_model.specs.Printed.{printed_value, printed_items, printed_members, printed_fields, values_tree, fields_tree}
 use Rattle.record_codec.specs.Spelling.{HasSpelling}
 use Rattle.client_run.specs.Trees.{one}
-use Rattle.client_run.specs.Output.{line_of, ok_tree, refused_tree, value_tree, put_field, fields_tree, document_tree}
+use Rattle.client_run.specs.Output.{line_of, ok_tree, refused_tree, document_tree}
 use Rattle.client_run.specs.Reported.{Reports, ReportsWithin, ReportedWithin}
 use Rattle.client_run.specs.State.{State, Fits, local_document}
 use Rattle.client_run.specs.Turn.{Turn, Past, turn, after}
@@ -41,14 +41,14 @@ pub record IsHonest (s : State) (reading : Reading) (t : Turn) : Type 0 where
 
 -- ---- one line
 
-line_within : (most : ℕ) (d : Data) → ((n : ℕ) → Reports (compact_text d) n → n ≤ most) → IsWithin most (line_of d)
+line_within : (most : ℕ) (d : json.Data) → ((n : ℕ) → Reports (compact_text d) n → n ≤ most) → IsWithin most (line_of d)
 line_within most d within = record {
   whole = nothing_open d;
   within = subst (λ (ls : List (List ℕ)). All (ReportsWithin most) ls) (sym (one_line d)) (All-cons (ReportsWithin most) (compact_text d) [] within (All-nil (ReportsWithin most)));
 }
 
 -- an object with one member that isn't `ok`
-quiet_within : (most : ℕ) (name : List ℕ) (d : Data) → HasNumbers (outline d) → ((e : Data) → get (codes "ok") (one name e) ≡ None) → IsWithin most (line_of (one name d))
+quiet_within : (most : ℕ) (name : List ℕ) (d : json.Data) → HasNumbers (outline d) → ((e : json.Data) → get (codes "ok") (one name e) ≡ None) → IsWithin most (line_of (one name d))
 quiet_within most name d numbers other = line_within most (one name d) (λ n reports. absurd (no_report name d numbers other n reports))
 
 refused_within : (most line : ℕ) (refusal : Refusal) → line < 2 ^ 64 → IsWithin most (line_of (refused_tree line refusal))
@@ -58,30 +58,33 @@ refused_within most line (Unsupported name) small = quiet_within most (codes "re
 
 -- ---- a document
 
-value_numbers : (value : Value) → HasNumbers (outline (value_tree value))
-value_numbers (Integer z) = (tt, tt)
+values_numbers : (ds : json.Items) → ItemsHaveNumbers (items_outline ds) → HasNumbers (outline (values_tree ds))
+values_numbers json.no_items numbers = tt
+values_numbers (json.item d ds) numbers = (numbers, tt)
 
-put_numbers : (k : List ℕ) (d : Data) (ms : Members) → HasNumbers (outline d) → MembersHaveNumbers (members_outline ms) → MembersHaveNumbers (members_outline (put k d ms))
-put_numbers k d no_members numbers rest = (numbers, tt)
-put_numbers k d (member l e ms) numbers rest =
-    elim (slice_cmp nat_cmp k l) as (λ o. MembersHaveNumbers (members_outline (match_ordering o (member k d (member l e ms)) (member l d ms) (member l e (put k d ms))))) [
-      | Less ↦ (numbers, rest)
-      | Equal ↦ (numbers, rest.1)
-      | Greater ↦ (rest.0, put_numbers k d ms numbers rest.1)
-    ]
+fields_numbers : (ms : json.Members) → MembersHaveNumbers (members_outline ms) → HasNumbers (outline (fields_tree ms))
+fields_numbers json.no_members numbers = tt
+fields_numbers (json.member name d ms) numbers = (numbers, tt)
 
-folded_numbers : (ms : Members) (fields : List Field) → MembersHaveNumbers (members_outline ms) → MembersHaveNumbers (members_outline (fold put_field ms fields))
-folded_numbers ms [] numbers = numbers
-folded_numbers ms (f ∷ fs) numbers = folded_numbers (put_field ms f) fs (put_numbers f.name (value_tree f.value) ms (value_numbers f.value) numbers)
+mutual
+  value_numbers : (value : Data) → HasNumbers (outline (printed_value value))
+  value_numbers kind.null = (tt, tt)
+  value_numbers (kind.array ds) = (values_numbers (printed_items ds) (items_numbers ds), tt)
+  value_numbers (kind.map ms) = (fields_numbers (printed_members ms) (members_numbers ms), tt)
+  value_numbers value = (tt, tt)
 
-fields_numbers : (fields : List Field) → HasNumbers (outline (fields_tree fields))
-unfolding fields_tree
-fields_numbers fields = folded_numbers no_members fields tt
+  items_numbers : (ds : Items) → ItemsHaveNumbers (items_outline (printed_items ds))
+  items_numbers kind.no_items = tt
+  items_numbers (kind.item d ds) = (value_numbers d, items_numbers ds)
 
-document_within : (most : ℕ) (root : Root) (key : List (List ℕ)) (document : Option (List Field)) → IsWithin most (line_of (document_tree root key document))
+  members_numbers : (ms : Members) → MembersHaveNumbers (members_outline (printed_members ms))
+  members_numbers kind.no_members = tt
+  members_numbers (kind.member name d ms) = (value_numbers d, members_numbers ms)
+
+document_within : (most : ℕ) (root : Root) (key : List (List ℕ)) (document : Option Entries) → IsWithin most (line_of (document_tree root key document))
 document_within most root key None = quiet_within most (codes "document") _ (tt, (tt, (tt, tt))) (λ e. refl)
 document_within most root key (Some []) = quiet_within most (codes "document") _ (tt, (tt, (tt, tt))) (λ e. refl)
-document_within most root key (Some (field ∷ fields)) = quiet_within most (codes "document") _ (tt, (fields_numbers (field ∷ fields), (tt, (tt, tt)))) (λ e. refl)
+document_within most root key (Some (field ∷ fields)) = quiet_within most (codes "document") _ (tt, (members_numbers (members_of (field ∷ fields)), (tt, (tt, tt)))) (λ e. refl)
 
 -- ---- each turn
 

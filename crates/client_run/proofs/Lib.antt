@@ -10,7 +10,6 @@ pub mod Numerals
 pub mod OneReading
 pub mod Opened
 pub mod Parsed
-pub mod Printed
 pub mod Replayed
 pub mod Served
 pub mod Spelled

@@ -1,0 +1,55 @@
+-- What is printed has no floats, so that its text is compact_text's.
+use Rattle.std.proofs.Common.{◌≡◌, ℕ, List, [], ◌∷◌, Bool, false, ◌||◌, Option, Some, None, refl, ap, ◌∙◌}
+use Rattle.serde_json.specs.Data as json
+use Rattle.serde_json.specs.Written.{has_float, items_have_float, members_have_float}
+use Rattle.document_keys.specs.Names.{Root, name_text}
+use Rattle.value_model.specs.declared.document.DocState.{DocState}
+use Rattle.value_model.specs.declared.timestamp.Timestamp.{Timestamp}
+use Rattle.value_model.specs.Data.{Data, null, boolean, integer, time, pending, text, bytes, reference, array, map, Items, no_items, item, Members, no_members, member, Entries, members_of}
+use Rattle.json_model.specs.Printed.{printed_value, printed_items, printed_members, printed_fields, printed_document, document_tree, state_text, values_tree, fields_tree, with_fields, with_time}
+
+neither : (a b : Bool) → a ≡ false → b ≡ false → (a || b) ≡ false
+neither a b first second = rw (first, second)
+
+values_digits : (ds : json.Items) → items_have_float ds ≡ false → has_float (values_tree ds) ≡ false
+values_digits json.no_items none = refl
+values_digits (json.item d ds) none = neither _ false none refl
+
+fields_digits : (ms : json.Members) → members_have_float ms ≡ false → has_float (fields_tree ms) ≡ false
+fields_digits json.no_members none = refl
+fields_digits (json.member n d ms) none = neither _ false none refl
+
+mutual
+  pub value_digits : (d : Data) → has_float (printed_value d) ≡ false
+  value_digits null = refl
+  value_digits (boolean b) = refl
+  value_digits (integer z) = refl
+  value_digits (time t) = refl
+  value_digits (pending t) = refl
+  value_digits (text s) = refl
+  value_digits (bytes s) = refl
+  value_digits (reference r) = refl
+  value_digits (array ds) = neither _ false (values_digits (printed_items ds) (items_digits ds)) refl
+  value_digits (map ms) = neither _ false (fields_digits (printed_members ms) (members_digits ms)) refl
+
+  items_digits : (ds : Items) → items_have_float (printed_items ds) ≡ false
+  items_digits no_items = refl
+  items_digits (item d ds) = neither _ _ (value_digits d) (items_digits ds)
+
+  members_digits : (ms : Members) → members_have_float (printed_members ms) ≡ false
+  members_digits no_members = refl
+  members_digits (member n d ms) = neither _ _ (value_digits d) (members_digits ms)
+
+pub printed_fields_digits : (fields : Entries) → has_float (printed_fields fields) ≡ false
+printed_fields_digits fields = members_digits (members_of fields)
+
+time_digits : (at : Option Timestamp) → members_have_float (with_time at) ≡ false
+time_digits None = refl
+time_digits (Some t) = refl
+
+pub tree_digits : (name : List ℕ) (fields : Entries) (at : Option Timestamp) (state : List ℕ) → has_float (document_tree name fields at state) ≡ false
+tree_digits name [] at state = time_digits at
+tree_digits name (field ∷ fields) at state = neither _ _ (printed_fields_digits (field ∷ fields)) (time_digits at)
+
+pub document_digits : (root : Root) (key : List (List ℕ)) (fields : Entries) (at : Option Timestamp) (state : DocState) → has_float (printed_document root key fields at state) ≡ false
+document_digits root key fields at state = tree_digits (name_text root key) fields at (state_text state)

@@ -1,0 +1,90 @@
+-- The faults of trees that aren't looked into, as they are found.
+use Rattle.std.proofs.Common.{rules, ◌≡◌, ◌≢◌, ◌⊎◌, ℕ, ℤ, List, [], ◌∷◌, Vec, Global, codes, Bool, true, false, cond, Option, Some, None, is_some, MatchOption, Result, Ok, Err, IfOk, IfErr, refl, sym, ap, subst, inl, inr, ◌∙◌}
+use Rattle.serde_json.specs.Data.{Data as Json, null, boolean, number, string, array, object}
+use Rattle.serde_json.specs.Find.{as_str, as_bool}
+use Rattle.value_model.specs.declared.timestamp.Timestamp.{Timestamp}
+use Rattle.value_model.specs.Time.{time_of}
+use Rattle.json_model.specs.declared.fault.JsonFault.{JsonFault}
+use Rattle.json_model.specs.declared.fault.JsonFault.TheVariants as json_fault
+use Rattle.json_model.specs.Bytes.{SpellsBytes}
+use Rattle.json_model.specs.Numbers.{SpellsWhole}
+use Rattle.json_model.specs.References.{HasReferenceFault}
+use Rattle.json_model.specs.Faults.{FirstOf, Unless, InText, in_text, in_other, IsText, IsTimeText, IsBytesText, IsNameFault, ReferenceFaults}
+use Rattle.json_model.proofs.Leaves.{only, none}
+
+pub unless_none : (Fact : Type 0) (fault : JsonFault) → Fact → FirstOf (Unless Fact fault) None
+unless_none Fact fault fact = none (Unless Fact fault) (inl (fact, refl))
+
+pub unless_some : (Fact : Type 0) (fault f : JsonFault) → (Fact → ⊥) → f ≡ fault → FirstOf (Unless Fact fault) (Some f)
+unless_some Fact fault f never is = only (Unless Fact fault) f (inr (never, ap (λ x. x ∷ []) is))
+
+by_test : (Fact : Type 0) (fault : JsonFault) (holds : Bool) (found : Option JsonFault) → (holds ≡ true → Fact) → (Fact → holds ≡ true) → found ≡ cond holds None (Some fault) → FirstOf (Unless Fact fault) found
+by_test Fact fault true found yes_then then_yes is = subst (FirstOf (Unless Fact fault)) (sym is) (unless_none Fact fault (yes_then refl))
+by_test Fact fault false found yes_then then_yes is = subst (FirstOf (Unless Fact fault)) (sym is) (unless_some Fact fault fault (λ fact. let e = then_yes fact in cc) refl)
+
+-- a test for a fact
+pub unless_test : {E : Type 0} (Fact : Type 0) (fault : JsonFault) (holds : Bool) (r : Result (Option JsonFault) E) → (holds ≡ true → Fact) → (Fact → holds ≡ true) → IfOk r (λ found. found ≡ cond holds None (Some fault)) → IfOk r (FirstOf (Unless Fact fault))
+unless_test Fact fault holds (Ok found) yes_then then_yes is = by_test Fact fault holds found yes_then then_yes is
+unless_test Fact fault holds (Err e) yes_then then_yes is = is
+
+pub text_at : (d : Json) (text : List ℕ) → Some text ≡ as_str d → d ≡ string text
+text_at (string t) text same = let q : t ≡ text = cc in ap string q
+text_at null text same = cc
+text_at (boolean b) text same = cc
+text_at (number n) text same = cc
+text_at (array ds) text same = cc
+text_at (object ms) text same = cc
+
+pub is_boolean : (d : Json) → is_some (as_bool d) ≡ true → (is : Bool) × (d ≡ boolean is)
+is_boolean (boolean b) yes_is = (b, refl)
+is_boolean null yes_is = cc
+is_boolean (number n) yes_is = cc
+is_boolean (string t) yes_is = cc
+is_boolean (array ds) yes_is = cc
+is_boolean (object ms) yes_is = cc
+
+pub is_text : (d : Json) → is_some (as_str d) ≡ true → IsText d
+is_text (string t) yes_is = (t, refl)
+is_text null yes_is = cc
+is_text (boolean b) yes_is = cc
+is_text (number n) yes_is = cc
+is_text (array ds) yes_is = cc
+is_text (object ms) yes_is = cc
+
+-- what a reader found, or that there is nothing to find
+pub some_then : {A : Type 0} (Fact : A → Type 0) (found : Option A) → MatchOption found ((a : A) → Fact a → ⊥) Fact → is_some found ≡ true → (a : A) × Fact a
+some_then Fact (Some a) match_is is = (a, match_is)
+some_then Fact None match_is is = cc
+
+pub then_some : {A : Type 0} (Fact : A → Type 0) (found : Option A) → MatchOption found ((a : A) → Fact a → ⊥) Fact → ((a : A) × Fact a) → is_some found ≡ true
+then_some Fact (Some a) match_is has = refl
+then_some Fact None match_is has = absurd (match_is has.0 has.1)
+
+pub bytes_then : (text : List ℕ) (found : Option (Vec ℕ Global)) → MatchOption found ((bytes : List ℕ) → SpellsBytes text bytes → ⊥) (λ v. SpellsBytes text v.items) → is_some found ≡ true → IsBytesText text
+bytes_then text (Some v) match_is is = (v.items, match_is)
+bytes_then text None match_is is = cc
+
+pub no_bytes : (text : List ℕ) (found : Option (Vec ℕ Global)) → MatchOption found ((bytes : List ℕ) → SpellsBytes text bytes → ⊥) (λ v. SpellsBytes text v.items) → is_some found ≡ false → IsBytesText text → ⊥
+no_bytes text (Some v) match_is is has = cc
+no_bytes text None match_is is has = match_is has.0 has.1
+
+pub no_time : (text : List ℕ) (found : Option Timestamp) → found ≡ time_of text → is_some found ≡ false → IsTimeText text → ⊥
+no_time text found is none has = let e : is_some found ≡ true = ap is_some (is ∙ has.1) in cc
+
+-- a text's faults are the tree's
+pub text_faults : {E : Type 0} (d : Json) (name : List ℕ) (Faults : List ℕ → List JsonFault → Type 0) (text : List ℕ) (r : Result (Option JsonFault) E) → Some text ≡ as_str d → IfOk r (FirstOf (Faults text)) → IfOk r (FirstOf (InText d name Faults))
+text_faults d name Faults text (Ok found) is first = record { faults = first.faults; are = in_text text first.faults (text_at d text is) first.are; first = first.first }
+text_faults d name Faults text (Err e) is first = first
+
+pub no_text : {E : Type 0} (d : Json) (name : List ℕ) (Faults : List ℕ → List JsonFault → Type 0) (r : Result (Option JsonFault) E) → None ≡ as_str d → IfOk r (λ found. found ≡ Some (json_fault.BadShape name)) → IfOk r (FirstOf (InText d name Faults))
+no_text d name Faults (Ok found) is shape = subst (FirstOf (InText d name Faults)) (sym shape) (only (InText d name Faults) (json_fault.BadShape name) (in_other (λ has. let e = is ∙ ap as_str has.1 in cc)))
+no_text d name Faults (Err e) is shape = shape
+
+-- the fault of a reference
+reference_is : (text : List ℕ) (f : JsonFault) → IsNameFault (HasReferenceFault text) text f → f ≢ json_fault.NoMemory → ReferenceFaults text (f ∷ [])
+reference_is text f (inl memory) other = absurd (other memory)
+reference_is text f (inr (why, has, is_named)) other = inr (why, has, ap (λ x. x ∷ []) is_named)
+
+pub reference_fault : {E : Type 0} (text : List ℕ) (f : JsonFault) (r : Result (Option JsonFault) E) → IsNameFault (HasReferenceFault text) text f → IfOk r (λ found. (found ≡ Some f) × (f ≢ json_fault.NoMemory)) → IfOk r (FirstOf (ReferenceFaults text))
+reference_fault text f (Ok found) why is = subst (FirstOf (ReferenceFaults text)) (sym is.0) (only (ReferenceFaults text) f (reference_is text f why is.1))
+reference_fault text f (Err e) why is = is

@@ -1,0 +1,10 @@
+pub mod Numerals
+pub mod Wholes
+pub mod Shown
+pub mod Digits
+pub mod OneKind
+pub mod Cuts
+pub mod Leaves
+pub mod Kinded
+pub mod Firsts
+pub mod Walked

@@ -1,0 +1,28 @@
+use Rattle.std.proofs.Common.{◌≡◌, ap, sym, ◌∙◌, ◌++◌, ◌∷◌, [], map, subst, rules}
+use Rattle.std.specs.Map.Iter.{deref_pair}
+use Rattle.std.proofs.lemmas.List.{map-append}
+use Rattle.std.proofs.lemmas.Map.Iter.{rest_so_far, rest_more, iter_end}
+use Rattle.serde_json.specs.View.{view, members_view}
+use Rattle.json_model.specs.Members.{kinds_given, says_kind}
+use Rattle.json_model.proofs.OneKind.{kinds_same, kinds_first, kinds_two, none_yet, some_yet}
+use Rattle.json_model.proofs.members.only_kind.Goals as goal
+
+pub loop-name-preserved-then-not-says_kind : goal.loop-name-preserved-then-not-says_kind
+loop-name-preserved-then-not-says_kind c =
+    (tt, tt, rw (map-append deref_pair c.loop-name.yielded ((c.in-Some.name, c.in-Some.value) ∷ []))
+    (kinds_same (map deref_pair c.loop-name.yielded) c.in-Some.name.now c.in-Some.value.now c.as_str.result.now _ c.loop-name.invariant.2 c.as_str.ensures.value (sym c.if-not-says_kind.ensures)))
+
+pub returns-then-is_some : goal.returns-then-is_some
+returns-then-is_some c =
+    let so_far = rest_so_far deref_pair c.loop-name.yielded c.into_iter-name-iterator.result c.loop-name.name-iterator c.loop-name.yielded_by in
+    let next = rest_more deref_pair c.loop-name.name-iterator c.next.new.self c.next.result (c.in-Some.name, c.in-Some.value) c.in-Some.is c.next.ensures.steps in
+    let first = some_yet c.loop-name.only c.if-is_some.ensures in
+    kinds_two _ (map deref_pair c.loop-name.yielded) c.next.new.self c.in-Some.name.now c.in-Some.value.now c.as_str.result.now first.0
+    (sym c.into_iter-name-iterator.ensures.into_iter_gives.0 ∙ so_far ∙ ap (λ l. map deref_pair c.loop-name.yielded ++ l) next)
+    (c.loop-name.invariant.2 ∙ first.1) c.as_str.ensures.value (sym c.if-not-says_kind.ensures)
+
+pub loop-name-preserved : goal.loop-name-preserved
+loop-name-preserved c =
+    (tt, tt, rw (map-append deref_pair c.loop-name.yielded ((c.in-Some.name, c.in-Some.value) ∷ []))
+    (kinds_first (map deref_pair c.loop-name.yielded) c.in-Some.name.now c.in-Some.value.now c.as_str-in-loop-name.result.now (c.loop-name.invariant.2 ∙ none_yet c.loop-name.only c.if-is_some.ensures) c.as_str-in-loop-name.ensures.value
+    (ap (λ t. says_kind t (view c.in-Some.value.now)) (c.as_str-in-loop-name.ensures.value ∙ sym c.as_str.ensures.value) ∙ sym c.if-not-says_kind.ensures)))

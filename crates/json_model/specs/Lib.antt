@@ -1,0 +1,10 @@
+pub mod Bytes
+pub mod Faults
+pub mod Grammar
+pub mod Members
+pub mod Numbers
+pub mod Places
+pub mod Printed
+pub mod Ranks
+pub mod References
+pub mod Trees

@@ -1,0 +1,19 @@
+-- Whole numbers of 64 bits with sign: JSON numbers without fraction or exponent, but not `-0`, or texts.
+use Rattle.std.specs.Prelude.{◌≡◌, ◌⊎◌, ℕ, ℤ, pos, List, codes, FitsSigned}
+use Rattle.std.specs.Fmt.{signed_decimal}
+use Rattle.std.specs.Int.{w64}
+use Rattle.serde_json.specs.Data.{Data as Json, number, unsigned, negative, string}
+
+-- a text: an optional `-`, and then `0` or digits that don't begin with 0
+pub record SpellsInteger (text : List ℕ) (z : ℤ) : Type 0 where
+  pub fits : FitsSigned w64 z
+  pub is : (text ≡ signed_decimal z) ⊎ ((text ≡ codes "-0") × (z ≡ pos 0))
+
+-- a JSON number that is kept as an integer
+abbrev pub IsNumber : Json → ℤ → Type 0
+IsNumber d z = ((n : ℕ) × (d ≡ number (unsigned n)) × (z ≡ pos n)) ⊎ (d ≡ number (negative z))
+
+-- a whole number of 64 bits with sign
+pub data SpellsWhole (d : Json) (z : ℤ) : Type 0 where
+  as_number : FitsSigned w64 z → IsNumber d z → SpellsWhole d z
+  as_text : (text : List ℕ) → d ≡ string text → SpellsInteger text z → SpellsWhole d z

@@ -1,0 +1,11 @@
+-- JSON objects with one member or none.
+use Rattle.std.specs.Prelude.{ℕ, List}
+use Rattle.serde_json.specs.Data.{Data as Json, object, no_members, member}
+
+-- an object with this member alone
+abbrev pub one : List ℕ → Json → Json
+one name d = object (member name d no_members)
+
+-- an object without members
+abbrev pub empty : Json
+empty = object no_members

@@ -1,0 +1,25 @@
+//! Values, fields, names and documents in JSON: what a tree spells, the faults of one that spells nothing, and how they
+//! are printed.
+#![tactic(auto)]
+
+mod bytes;
+mod document;
+mod fault;
+mod kinds;
+mod members;
+mod names;
+mod numbers;
+mod place;
+mod printing;
+mod side;
+mod walk;
+
+pub use bytes::{print_bytes, read_bytes};
+pub use document::print_document;
+pub use fault::{BadName, JsonFault, NamingFault, better};
+pub use members::given;
+pub use names::read_name;
+pub use numbers::{read_integer, read_whole};
+pub use place::{Place, value_member};
+pub use printing::{print_fields, print_value};
+pub use side::Side;

@@ -1,0 +1,158 @@
+ghost use Rattle.std.specs.Prelude.{◌≡◌, ◌≢◌, ℕ, ◌++◌, ◌∷◌, List, IfOk, IfErr, MatchOption};
+ghost use Rattle.serde_json.specs.View.{view};
+ghost use Rattle.document_keys.specs.Names.{Root, IsPart, IsSegment, IsRoot, IsKey, name_text};
+ghost use Rattle.document_keys.specs.Paths.{IsFieldName};
+ghost use Rattle.json_model.specs.References.{SpellsReference, IsUnder, HasDocumentFault, HasReferenceFault};
+ghost use Rattle.json_model.specs.Faults.{FirstOf, IsFault, IsNameFault, SpellsName, NameFaults, FieldNameFaults, bad_name as bad_name_of};
+
+use crate::fault::{BadName, JsonFault, NamingFault};
+use crate::side::Side;
+use document_keys::{
+    Database, DocumentKey, FieldFault, NameFault, NoMemory, Segment, Text, check_field_name,
+};
+use serde_json::Value as Json;
+use std::alloc::Global;
+use value_model::RefName;
+
+/// The fault of a name.
+fn bad_name(alloc: Global, fault: NamingFault, name: &str) -> Result<JsonFault, NoMemory>
+    ensures { IfOk result (λ bad. bad ≡ bad_name_of fault name.now) }
+{
+    let name = Text::from_str(alloc, name)?;
+    Ok(JsonFault::BadName(BadName { fault, name }))
+}
+
+/// The key of the document whose name under the root is the text.
+fn read_key(alloc: Global, root: &Database, text: &str) -> Result<DocumentKey, JsonFault>
+    ensures key { IfOk result (λ key. IsKey key × (text.now ≡ name_text root.now key)) }
+    ensures fault { IfErr result (λ fault. IsNameFault (HasDocumentFault root.now text.now) text.now fault) }
+{
+    match DocumentKey::read(alloc, root, text) {
+        Ok(key) => Ok(key),
+        Err(NameFault::WrongRoot) => Err(bad_name(alloc, NamingFault::WrongRoot, text)?),
+        Err(NameFault::BadSegment) => Err(bad_name(alloc, NamingFault::BadSegment, text)?),
+        Err(NameFault::OddLength) => Err(bad_name(alloc, NamingFault::OddLength, text)?),
+        Err(NameFault::NoMemory) => Err(JsonFault::NoMemory),
+    }
+}
+
+/// What follows the front in the text, if the text begins with it.
+fn after<'a>(text: &'a str, front: &str) -> Option<&'a str>
+    ensures { MatchOption result ((rest : List ℕ) → text.now ≢ front.now ++ rest) (λ rest. text.now ≡ front.now ++ rest.now) }
+{
+    text.strip_prefix(front)
+}
+
+/// The part between the front and the next `/`, and what follows that.
+fn cut<'a>(text: &'a str, front: &str) -> Option<(&'a str, &'a str)>
+    ensures { MatchOption result
+        ((part rest : List ℕ) → IsPart part → text.now ≢ front.now ++ (part ++ 47 ∷ rest))
+        (λ parts. IsPart parts.0.now × (text.now ≡ front.now ++ (parts.0.now ++ 47 ∷ parts.1.now))) }
+{
+    let Some(rest) = after(text, front) else {
+        return None;
+    };
+    rest.split_once('/')
+}
+
+/// The project and the database's own name of a text that begins as a document's name does.
+fn cut_root(text: &str) -> Option<(&str, &str)>
+    ensures { MatchOption result
+        ((root : Root) → IsPart root.project → IsPart root.name → ¬ (IsUnder root text.now))
+        (λ parts. IsPart parts.0.now × IsPart parts.1.now × IsUnder (record { project = parts.0.now; name = parts.1.now }) text.now) }
+{
+    let Some((project, rest)) = cut(text, "projects/") else {
+        return None;
+    };
+    let Some((name, rest)) = cut(rest, "databases/") else {
+        return None;
+    };
+    let Some(_path) = after(rest, "documents/") else {
+        return None;
+    };
+    Some((project, name))
+}
+
+fn read_segment(alloc: Global, text: &str) -> Result<Option<Segment>, NoMemory>
+    ensures { IfOk result (λ found. MatchOption found (¬ (IsSegment text.now)) (λ segment. (segment ≡ text.now) × IsSegment text.now)) }
+{
+    match Segment::read(alloc, text) {
+        Ok(segment) => Ok(Some(segment)),
+        Err(NameFault::NoMemory) => Err(NoMemory),
+        Err(_) => Ok(None),
+    }
+}
+
+/// The database of a text that begins as the name of a document of it does.
+fn read_root(alloc: Global, text: &str) -> Result<Option<Database>, NoMemory>
+    ensures { IfOk result (λ found. MatchOption found
+        ((root : Root) → IsRoot root → ¬ (IsUnder root text.now))
+        (λ root. IsRoot root × IsUnder root text.now)) }
+{
+    let Some((project, name)) = cut_root(text) else {
+        return Ok(None);
+    };
+    let Some(project) = read_segment(alloc, project)? else {
+        return Ok(None);
+    };
+    let Some(name) = read_segment(alloc, name)? else {
+        return Ok(None);
+    };
+    Ok(Some(Database::from_segments(alloc, project, name)?))
+}
+
+/// The document, of any database, whose name is the text.
+///
+/// # Errors
+/// `BadName`: `WrongRoot` where the text doesn't begin with `projects/{p}/databases/{d}/documents/` for segments `p` and
+/// `d`, else as `DocumentKey::read` says; or `NoMemory`.
+pub fn read_reference(alloc: Global, text: &str) -> Result<RefName, JsonFault>
+    ensures name { IfOk result (λ name. SpellsReference text.now name) }
+    ensures fault { IfErr result (λ fault. IsNameFault (HasReferenceFault text.now) text.now fault) }
+{
+    let Some(root) = read_root(alloc, text)? else {
+        return Err(bad_name(alloc, NamingFault::WrongRoot, text)?);
+    };
+    let key = match read_key(alloc, &root, text) {
+        Ok(key) => key,
+        Err(fault) => return Err(fault),
+    };
+    let project = root.project().copy(alloc)?;
+    let database = root.name().copy(alloc)?;
+    Ok(RefName {
+        project,
+        database,
+        key,
+    })
+}
+
+/// The key of the document that the tree names under the root. Both sides write names alike.
+///
+/// # Errors
+/// `BadShape` of `name` where the tree is no text, `BadName` as `DocumentKey::read` says, or `NoMemory`.
+pub fn read_name(
+    alloc: Global,
+    root: &Database,
+    _side: Side,
+    json: &Json,
+) -> Result<DocumentKey, JsonFault>
+    ensures name { IfOk result (λ key. SpellsName root.now (view json.now) key) }
+    ensures fault { IfErr result (λ fault. IsFault (NameFaults root.now (view json.now)) fault) }
+{
+    let Some(text) = json.as_str() else {
+        return Err(JsonFault::BadShape(Text::from_str(alloc, "name")?));
+    };
+    read_key(alloc, root, text)
+}
+
+/// The fault of a field's name.
+pub(crate) fn find_in_field_name(alloc: Global, name: &str) -> Result<Option<JsonFault>, NoMemory>
+    ensures { IfOk result (λ found. FirstOf (FieldNameFaults name.now) found) }
+{
+    match check_field_name(name) {
+        Ok(()) => Ok(None),
+        Err(FieldFault::BadPath) => Ok(Some(bad_name(alloc, NamingFault::BadPath, name)?)),
+        Err(FieldFault::ReservedField) => Ok(Some(bad_name(alloc, NamingFault::ReservedField, name)?)),
+        Err(FieldFault::NoMemory) => Err(NoMemory),
+    }
+}

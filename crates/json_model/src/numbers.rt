@@ -1,0 +1,45 @@
+ghost use Rattle.std.specs.Prelude.{ℤ, IfOk, MatchOption};
+ghost use Rattle.serde_json.specs.View.{view};
+ghost use Rattle.json_model.specs.Numbers.{SpellsInteger, SpellsWhole, IsNumber};
+
+use document_keys::NoMemory;
+use serde_json::Value as Json;
+use std::alloc::Global;
+
+/// The whole number of 64 bits with sign that a text spells: an optional `-`, then `0` or digits that don't begin with 0.
+///
+/// # Errors
+/// `NoMemory`
+pub fn read_integer(alloc: Global, text: &str) -> Result<Option<i64>, NoMemory>
+    ensures { IfOk result (λ found. MatchOption found ((z : ℤ) → SpellsInteger text.now z → ⊥) (λ z. SpellsInteger text.now z)) }
+{
+    if text == "-0" {
+        return Ok(Some(0));
+    }
+    let Ok(number) = text.parse::<i64>() else {
+        return Ok(None);
+    };
+    let printed = number.to_string(alloc)?;
+    if printed.as_str() == text {
+        Ok(Some(number))
+    } else {
+        Ok(None)
+    }
+}
+
+/// The whole number of 64 bits with sign that a tree spells: as a JSON number without fraction or exponent, but not `-0`,
+/// or as a text.
+///
+/// # Errors
+/// `NoMemory`
+pub fn read_whole(alloc: Global, json: &Json) -> Result<Option<i64>, NoMemory>
+    ensures { IfOk result (λ found. MatchOption found ((z : ℤ) → SpellsWhole (view json.now) z → ⊥) (λ z. SpellsWhole (view json.now) z)) }
+{
+    if let Some(text) = json.as_str() {
+        return read_integer(alloc, text);
+    }
+    let Some(number) = json.as_i64() else {
+        return Ok(None);
+    };
+    Ok(Some(number))
+}
