@@ -15,7 +15,7 @@ use std::alloc::Global;
 
 /// What the program does for its words, which leave out its name: `run DIR` runs the lines of the source over the store that
 /// the host keeps, for the database `projects/demo/databases/(default)`, at most 4,294,967,296 of them. The host stands for
-/// the folder; its path isn't read here.
+/// the folder; its path isn't read here. What a crash leaves is said at [`run_within`].
 ///
 /// # Errors
 /// `Usage` exactly where the words aren't `run DIR` with a DIR that isn't empty and doesn't begin with `-`: nothing is read

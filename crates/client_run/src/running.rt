@@ -14,7 +14,8 @@ use host_api::{Host, Source};
 use std::alloc::Global;
 
 /// A run of at most `budget` lines over the database `root`: the store is opened, and then each line is read, and what it
-/// commits is on the disk before its answer goes out.
+/// commits is on the disk before its answer goes out. So wherever a crash comes, the files find the state after the first
+/// commits of the run, among which is every one that a whole `ok` line names; and files of a store stay such.
 ///
 /// # Errors
 /// `NotAStore` exactly where the files, being read, aren't those of a store: nothing is changed then, and nothing is
