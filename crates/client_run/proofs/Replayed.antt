@@ -7,7 +7,7 @@ use Rattle.mutations.specs.declared.Batch.{Batch}
 use Rattle.record_codec.specs.declared.commit.Commit.TheVariants.{Enqueue}
 use Rattle.record_codec.specs.declared.commit.Commit.{Commit}
 use Rattle.record_codec.specs.Spelling.{spelling, HasSpelling}
-use Rattle.record_codec.proofs.Unique.{one_value}
+use Rattle.record_codec.proofs.OneCommit.{one_value}
 use Rattle.host_api.specs.Host.{Files}
 use Rattle.disk_journal.proofs.Pairs.{gives_once}
 use Rattle.client_run.specs.State.{State, start, Fits, committed, Replays, FindsState}
