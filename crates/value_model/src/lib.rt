@@ -12,6 +12,8 @@ mod names;
 mod nesting;
 mod order;
 mod reference;
+#[cfg(test)]
+mod store_tests;
 mod target_ids;
 #[cfg(test)]
 mod tests;
