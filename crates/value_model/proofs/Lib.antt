@@ -1,3 +1,4 @@
+pub mod Alone
 pub mod ByRank
 pub mod Checked
 pub mod Counted

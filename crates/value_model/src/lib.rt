@@ -13,6 +13,8 @@ mod nesting;
 mod order;
 mod printing;
 mod reference;
+#[cfg(test)]
+mod store_tests;
 mod target_ids;
 #[cfg(test)]
 mod tests;
