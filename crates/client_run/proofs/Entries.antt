@@ -1,11 +1,11 @@
 -- The members of an object, and the fields that they spell.
-use Rattle.std.proofs.Common.{◌≡◌, ℕ, List, [], ◌∷◌, ◌++◌, map, Bor, String, ℤ, codes, Option, Some, None, IfSome, IfNone, MatchOption, refl, sym, ap, subst, ◌∙◌}
+use Rattle.std.proofs.Common.{◌≡◌, ℕ, List, [], ◌∷◌, ◌++◌, map, String, codes, Option, Some, None, IfSome, IfNone, MatchOption, refl, sym, ap, subst, ◌∙◌}
 use Rattle.std.proofs.lemmas.List.{map-append}
 use Rattle.std.specs.List.{AllZip}
 use Rattle.std.specs.String.{string_bytes}
 use Rattle.std.specs.declared.alloc.Global.{Global}
-use Rattle.serde_json.specs.Data.{Data, object, string, Members, no_members, member}
-use Rattle.serde_json.specs.View.{view, members_view, members_of}
+use Rattle.serde_json.specs.Data.{Data, object, string, member}
+use Rattle.serde_json.specs.View.{view, members_view}
 use Rattle.serde_json.specs.declared.value.Value.{Value as Json}
 use Rattle.value_model.specs.Data as kind
 use Rattle.value_model.specs.Data.{Entries}

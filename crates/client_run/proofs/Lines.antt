@@ -1,6 +1,6 @@
 -- A line whose parts spell nothing spells nothing.
-use Rattle.std.proofs.Common.{◌≡◌, ℕ, List, codes, refl, sym, ap, subst, ◌∙◌}
-use Rattle.serde_json.specs.Data.{Data, string, array, item, no_items}
+use Rattle.std.proofs.Common.{◌≡◌, ℕ, List, codes, sym, subst, ◌∙◌}
+use Rattle.serde_json.specs.Data.{Data, array, item, no_items}
 use Rattle.document_keys.specs.Names.{Root}
 use Rattle.value_model.specs.Data.{Entries}
 use Rattle.value_model.specs.declared.timestamp.Timestamp.{Timestamp}

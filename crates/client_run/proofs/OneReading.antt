@@ -1,5 +1,5 @@
 -- An item has one reading.
-use Rattle.std.proofs.Common.{◌≡◌, ℕ, List, [], ◌∷◌, codes, Some, length, refl, sym, ap, subst, ◌∙◌, arith}
+use Rattle.std.proofs.Common.{◌≡◌, ℕ, List, codes, Some, length, refl, sym, ap, subst, ◌∙◌, arith}
 use Rattle.std.specs.List.{AllZip}
 use Rattle.serde_json.specs.Data.{Data, object, string, array, item, no_items}
 use Rattle.document_keys.specs.Names.{Root, name_text}
@@ -8,8 +8,8 @@ use Rattle.value_model.specs.declared.timestamp.Timestamp.{Timestamp}
 use Rattle.value_model.specs.Data.{Entries}
 use Rattle.mutations.specs.declared.Write.{Write}
 use Rattle.host_api.specs.Items.{Item}
-use Rattle.client_run.specs.Trees.{one, two}
-use Rattle.client_run.specs.Grammar.{SpellsName, SpellsField, SpellsFields, SpellsWrite, SpellsWriteLine, SpellsGetLine, Spells, members_from}
+use Rattle.client_run.specs.Trees.{one}
+use Rattle.client_run.specs.Grammar.{SpellsName, SpellsField, SpellsFields, SpellsWrite, SpellsWriteLine, Spells, members_from}
 use Rattle.client_run.specs.Reading.{IsJson, only_name, Reads, too_long, no_json, no_event, an_event}
 use Rattle.client_run.specs.declared.event.Event.{Event}
 use Rattle.client_run.specs.declared.event.Event.TheVariants as event

@@ -1,20 +1,20 @@
 -- What a line spells has a spelling as a commit.
-use Rattle.std.proofs.Common.{rules, ◌≡◌, ℕ, ◌<◌, ◌≤◌, ◌^◌, List, [], ◌∷◌, ◌++◌, length, slice_index, get_or, codes, true, false, IsTrue, refl, sym, ap, subst, ◌∙◌, arith}
+use Rattle.std.proofs.Common.{rules, ℕ, ◌<◌, ◌≤◌, ◌^◌, List, [], ◌∷◌, length, get_or, IsTrue, sym, subst, arith}
 use Rattle.std.specs.List.{All, AllZip}
 use Rattle.std.specs.Str.{IsUtf8}
-use Rattle.std.specs.Char.{is_ascii_alphanumeric, is_ascii_alphabetic}
+use Rattle.std.specs.Char.{is_ascii_alphanumeric}
 use Rattle.std.proofs.lemmas.Str.{IsUtf8-from_ascii}
 use Rattle.std.proofs.lemmas.Str.Ascii.{IsAscii-from_all}
 use Rattle.std.proofs.lemmas.List.Elements.{All-nil, All-cons}
 use Rattle.serde_json.specs.Data.{Data}
-use Rattle.document_keys.specs.Names.{Root, IsKey, IsReserved, HasNameLength}
+use Rattle.document_keys.specs.Names.{Root}
 use Rattle.value_model.specs.Data as kind
 use Rattle.value_model.specs.Data.{Entries, members_of, entries_depth}
-use Rattle.value_model.specs.Storable.{IsStorable, AreStorableMembers}
+use Rattle.value_model.specs.Storable.{AreStorableMembers}
 use Rattle.std.specs.Map.{keys_of}
 use Rattle.mutations.specs.declared.Write.{Write}
 use Rattle.record_codec.specs.Spelling.{IsSpelledValue, IsSpelledKey, IsSpelledWrite}
-use Rattle.client_run.specs.Grammar.{IsPlain, IsPlainField, IsPlainKey, SpellsName, SpellsValue, SpellsField, SpellsFields}
+use Rattle.client_run.specs.Grammar.{IsPlain, SpellsName, SpellsValue, SpellsField, SpellsFields}
 
 alphanumeric_ascii : (byte : ℕ) → IsTrue (is_ascii_alphanumeric byte) → byte < 128
 alphanumeric_ascii byte is = Prim.search rules

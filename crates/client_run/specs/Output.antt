@@ -1,5 +1,5 @@
 -- The lines that are written: compact JSON, members in the order of their names, each line with its newline.
-use Rattle.std.specs.Prelude.{ℕ, ◌+◌, Bool, true, false, List, [], ◌∷◌, ◌++◌, codes, Option, Some, None}
+use Rattle.std.specs.Prelude.{ℕ, true, false, List, [], ◌∷◌, ◌++◌, codes, Option, Some, None}
 use Rattle.serde_json.specs.Data.{Data, boolean, number, unsigned, string}
 use Rattle.serde_json.specs.Written.{compact_text}
 use Rattle.document_keys.specs.Names.{Root, name_text}

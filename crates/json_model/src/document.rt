@@ -28,14 +28,25 @@ fn filled_json(alloc: Global, name: &str, fields: Json, state: &str) -> Result<J
     json!(in alloc; {"fields": fields, "name": name, "state": state})
 }
 
-fn filled_timed_json(alloc: Global, name: &str, fields: Json, state: &str, time: &str) -> Result<Json, AllocError>
+fn filled_timed_json(
+    alloc: Global,
+    name: &str,
+    fields: Json,
+    state: &str,
+    time: &str,
+) -> Result<Json, AllocError>
     ensures { IfOk result (λ json. view json ≡ object (member (codes "fields") (view fields) (member (codes "name") (string name.now) (member (codes "state") (string state.now) (member (codes "updateTime") (string time.now) no_members))))) }
 {
     json!(in alloc; {"fields": fields, "name": name, "state": state, "updateTime": time})
 }
 
 /// The members of a document that has no fields.
-fn print_bare(alloc: Global, name: &str, update_time: Option<Timestamp>, state: &str) -> Result<Json, NoMemory>
+fn print_bare(
+    alloc: Global,
+    name: &str,
+    update_time: Option<Timestamp>,
+    state: &str,
+) -> Result<Json, NoMemory>
     ensures { IfOk result (λ json. view json ≡ document_tree name.now [] update_time state.now) }
 {
     let Some(time) = update_time else {
@@ -46,7 +57,13 @@ fn print_bare(alloc: Global, name: &str, update_time: Option<Timestamp>, state: 
 }
 
 /// The members of a document that has fields.
-fn print_filled(alloc: Global, name: &str, fields: Json, update_time: Option<Timestamp>, state: &str) -> Result<Json, NoMemory>
+fn print_filled(
+    alloc: Global,
+    name: &str,
+    fields: Json,
+    update_time: Option<Timestamp>,
+    state: &str,
+) -> Result<Json, NoMemory>
     ensures { IfOk result (λ json. view json ≡ object (member (codes "fields") (view fields) (member (codes "name") (string name.now) (member (codes "state") (string state.now) (with_time update_time))))) }
 {
     let Some(time) = update_time else {
@@ -89,11 +106,7 @@ fn state_text(state: DocState) -> &'static str
 ///
 /// # Errors
 /// `NoMemory`
-pub fn print_document(
-    alloc: Global,
-    root: &Database,
-    doc: DocRef<'_>,
-) -> Result<Json, NoMemory>
+pub fn print_document(alloc: Global, root: &Database, doc: DocRef<'_>) -> Result<Json, NoMemory>
     ensures tree { IfOk result (λ json. view json ≡ printed_document root.now doc.entry.key.now doc.entry.fields.now doc.entry.update_time doc.entry.state) }
     ensures digits { IfOk result (λ json. has_float (view json) ≡ false) }
 {

@@ -20,7 +20,11 @@ use std::alloc::Global;
 use value_model::Timestamp;
 
 /// A wrong shape under the name, unless the shape is right.
-pub(crate) fn bad_shape_unless(alloc: Global, holds: bool, name: &str) -> Result<Option<JsonFault>, NoMemory>
+pub(crate) fn bad_shape_unless(
+    alloc: Global,
+    holds: bool,
+    name: &str,
+) -> Result<Option<JsonFault>, NoMemory>
     ensures { IfOk result (λ found. found ≡ (if holds then None else Some (json_fault.BadShape name.now))) }
 {
     if holds {

@@ -152,7 +152,11 @@ pub(crate) fn find_in_field_name(alloc: Global, name: &str) -> Result<Option<Jso
     match check_field_name(name) {
         Ok(()) => Ok(None),
         Err(FieldFault::BadPath) => Ok(Some(bad_name(alloc, NamingFault::BadPath, name)?)),
-        Err(FieldFault::ReservedField) => Ok(Some(bad_name(alloc, NamingFault::ReservedField, name)?)),
+        Err(FieldFault::ReservedField) => Ok(Some(bad_name(
+            alloc,
+            NamingFault::ReservedField,
+            name,
+        )?)),
         Err(FieldFault::NoMemory) => Err(NoMemory),
     }
 }

@@ -48,10 +48,7 @@ fn own_fault(
             if given(members, "__type__").is_none() {
                 return Ok(None);
             }
-            Ok(Some(JsonFault::Unsupported(Text::from_str(
-                alloc,
-                "vectorValue",
-            )?)))
+            Ok(Some(JsonFault::Unsupported(Text::from_str(alloc, "vectorValue")?)))
         }
         _ => Ok(None),
     }

@@ -1,20 +1,19 @@
 -- Kinds of value without values inside.
-use Rattle.std.proofs.Common.{◌≡◌, ◌≢◌, ℕ, ◌+◌, ◌≤◌, ◌<◌, ◌^◌, Bool, true, false, List, [], ◌∷◌, ◌++◌, length, take, drop, get_or, refl, sym, ap, subst, ◌∙◌, append_assoc, arith, ℤ, FitsSigned, w64}
+use Rattle.std.proofs.Common.{◌≡◌, ◌≢◌, ℕ, ◌+◌, ◌≤◌, ◌<◌, ◌^◌, Bool, true, false, List, ◌∷◌, ◌++◌, length, take, drop, get_or, refl, sym, ap, subst, ◌∙◌, append_assoc, arith, FitsSigned, w64}
 use Rattle.std.specs.Prelude.{if◌then◌else◌}
 use Rattle.std.specs.List.{All}
-use Rattle.std.proofs.lemmas.List.{take_at, take-append-drop, length-append, length-take, get_or-take, get_or-append-add, get_or_default}
+use Rattle.std.proofs.lemmas.List.{take-append-drop, length-append, length-take, get_or-take, get_or-append-add, get_or_default}
 use Rattle.value_model.specs.Data as kind
 use Rattle.value_model.specs.Data.{Data, depth}
 use Rattle.value_model.specs.Storable.{IsStorable, IsStorableText, AreStorableBytes, IsStorableSegment, IsStorableKey, IsStorableName}
 use Rattle.value_model.specs.Time.{IsMoment}
-use Rattle.value_model.specs.declared.timestamp.Timestamp.{Timestamp}
 use Rattle.value_model.specs.declared.reference.RefName.{RefName}
 use Rattle.record_codec.specs.Spelling.{number, text, key, time, name, value, IsText, IsSegmentText, IsSpelledKey, IsSpelledValue}
 use Rattle.record_codec.specs.Reading.{Begins, BeginsNone}
 use Rattle.record_codec.proofs.Wide.{IsUnique, IsBytes, signed, unique_number}
-use Rattle.record_codec.proofs.Tags.{tag_of, tag_first, boolean_is, integer_is, time_is, text_is, bytes_is, reference_is}
-use Rattle.record_codec.proofs.Tagged.{IsKind, Made, behind}
-use Rattle.record_codec.proofs.Unique.{text_on, IsShort, unique_text, unique_segment, unique_key}
+use Rattle.record_codec.proofs.Tags.{tag_first, boolean_is, integer_is, time_is, text_is, bytes_is, reference_is}
+use Rattle.record_codec.proofs.Tagged.{IsKind, behind}
+use Rattle.record_codec.proofs.Unique.{text_on, unique_text, unique_segment, unique_key}
 use Rattle.record_codec.proofs.Forms.{next}
 
 -- ---- booleans

@@ -1,11 +1,8 @@
 -- No commit's spelling is a front of another's.
-use Rattle.std.proofs.Common.{◌≡◌, ℕ, ◌^◌, ◌<◌, List, [], ◌∷◌, ◌++◌, refl, sym, ap, ◌∙◌}
-use Rattle.value_model.specs.Time.{IsMoment}
-use Rattle.mutations.specs.declared.Write.{Write}
-use Rattle.mutations.specs.declared.Batch.{Batch}
+use Rattle.std.proofs.Common.{◌≡◌, ℕ, List, [], ◌∷◌, ◌++◌, refl, sym, ap, ◌∙◌}
 use Rattle.record_codec.specs.declared.commit.Commit.{Commit}
 use Rattle.record_codec.specs.declared.commit.Commit.TheVariants.{Enqueue}
-use Rattle.record_codec.specs.Spelling.{number, key, time, fields, write, batch, spelling, IsSpelledWrite, IsSpelledBatch, HasSpelling}
+use Rattle.record_codec.specs.Spelling.{number, time, fields, write, batch, spelling, IsSpelledWrite, IsSpelledBatch, HasSpelling}
 use Rattle.record_codec.proofs.Wide.{IsUnique, fronts, unique_number}
 use Rattle.record_codec.proofs.Unique.{plain, write_on, batch_on, unique_key, unique_time}
 use Rattle.record_codec.proofs.Tagged.{behind}

@@ -1,17 +1,10 @@
 -- One kind of value at a time: what is spelled behind its byte, and what fits it.
-use Rattle.std.proofs.Common.{◌≡◌, ◌≢◌, ℕ, suc, zero, ◌≤◌, ◌<◌, ◌^◌, ◌+◌, max, Bool, List, [], ◌∷◌, ◌++◌, length, refl, sym, ap, subst, ◌∙◌, append_assoc, arith, ℤ, FitsSigned, w64}
-use Rattle.std.specs.List.{AllByRecursion, flat_map}
+use Rattle.std.proofs.Common.{◌≡◌, ◌≢◌, ℕ, List, [], ◌∷◌, ◌++◌, length, refl, sym, ap, ◌∙◌, arith}
 use Rattle.value_model.specs.Data as kind
 use Rattle.value_model.specs.Data.{Data, Items, Members, Entries, items_of, list_of, members_of, entries_of, array_of, map_of, depth, items_depth, entries_depth}
-use Rattle.value_model.specs.Storable.{IsStorable, IsStorableText, AreStorableBytes, IsStorableName, AreStorable, AreStorableItems, IsCountable}
-use Rattle.value_model.specs.Time.{IsMoment}
-use Rattle.value_model.specs.declared.timestamp.Timestamp.{Timestamp}
-use Rattle.value_model.specs.declared.reference.RefName.{RefName}
-use Rattle.value_model.proofs.Parts.{list_items, items_list, entries_members, members_entries}
-use Rattle.record_codec.specs.Spelling.{number, text, time, name, value, items, members, entry, fields, IsText, IsSpelledValue, AreSpelledFields}
+use Rattle.record_codec.specs.Spelling.{value, IsSpelledValue}
 use Rattle.record_codec.specs.Reading.{Begins, BeginsNone}
-use Rattle.record_codec.proofs.Wide.{signed}
-use Rattle.record_codec.proofs.Tags.{tag_of, tag_first, tag_small, tag_some, not_pending, null_is, boolean_is, integer_is, time_is, text_is, bytes_is, reference_is, array_is, map_is}
+use Rattle.record_codec.proofs.Tags.{tag_of, tag_first, tag_small, tag_some, not_pending}
 
 -- a value of the kind, and what it is made of
 pub record Made {X : Type 0} (make : X → Data) (Fits : X → Type 0) (d : Data) : Type 0 where

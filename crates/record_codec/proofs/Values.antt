@@ -1,5 +1,5 @@
 -- Kinds of value with values inside.
-use Rattle.std.proofs.Common.{◌≡◌, ℕ, suc, zero, ◌≤◌, ◌<◌, ◌^◌, max, List, [], ◌∷◌, ◌++◌, length, refl, sym, ap, subst, ◌∙◌, append_assoc, arith, FitsSigned, w64}
+use Rattle.std.proofs.Common.{◌≡◌, ℕ, suc, zero, ◌≤◌, List, [], ◌∷◌, ◌++◌, length, refl, sym, ap, subst, ◌∙◌, append_assoc, arith, FitsSigned, w64}
 use Rattle.std.specs.List.{AllByRecursion, All, flat_map}
 use Rattle.std.specs.Map.{keys_of}
 use Rattle.std.specs.Str.{IsUtf8}
@@ -7,14 +7,14 @@ use Rattle.std.proofs.lemmas.List.Elements.{All-head, All-tail}
 use Rattle.document_keys.specs.Paths.{IsFieldName}
 use Rattle.value_model.specs.Data as kind
 use Rattle.value_model.specs.Data.{Data, Items, Members, Entries, items_of, list_of, members_of, entries_of, array_of, map_of, depth, items_depth, members_depth, entries_depth}
-use Rattle.value_model.specs.Storable.{IsStorable, AreStorable, AreStorableItems, AreStorableMembers, HasStorableNames, IsCountable}
+use Rattle.value_model.specs.Storable.{AreStorableItems, AreStorableMembers, IsCountable}
 use Rattle.value_model.proofs.Parts.{list_items, items_list, entries_members, members_entries}
 use Rattle.record_codec.specs.Spelling.{number, text, time, name, value, items, members, entry, fields, IsNameText, IsSpelledValue, AreSpelledFields}
-use Rattle.record_codec.specs.Reading.{Begins, BeginsNone}
+use Rattle.record_codec.specs.Reading.{BeginsNone}
 use Rattle.record_codec.proofs.Wide.{IsUnique, signed, unique_number, unique_signed}
-use Rattle.record_codec.proofs.Tags.{tag_of, tag_first, null_is, boolean_is, array_is, map_is}
-use Rattle.record_codec.proofs.Unique.{IsShort, unique_text, unique_time, unique_name}
-use Rattle.record_codec.proofs.Tagged.{IsKind, Made, kind_same, behind}
+use Rattle.record_codec.proofs.Tags.{tag_first, null_is, array_is, map_is}
+use Rattle.record_codec.proofs.Unique.{unique_text, unique_time, unique_name}
+use Rattle.record_codec.proofs.Tagged.{IsKind, kind_same, behind}
 use Rattle.record_codec.proofs.Leaves.{integer_kind, time_kind, text_kind, bytes_kind, reference_kind, unique_chunk, unique_reference, unique_boolean}
 
 -- ---- arrays

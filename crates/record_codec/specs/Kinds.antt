@@ -1,5 +1,5 @@
 -- What reading one kind of value, or one field, answers.
-use Rattle.std.specs.Prelude.{ℕ, List, ◌∷◌, ◌++◌, Result}
+use Rattle.std.specs.Prelude.{ℕ, List, ◌∷◌, Result}
 use Rattle.value_model.specs.Data.{Data}
 use Rattle.value_model.specs.declared.fields.Field.{Field}
 use Rattle.value_model.specs.Named.{field_data}

@@ -221,7 +221,7 @@ not_below (negsuc a) (negsuc b) h = lt-leb (suc b) a (omega (arith, signed_arith
 nearest_is : (t : Timestamp) → IsMoment t → nearest t ≡ t
 nearest_is t holds =
     rw (not_below t.seconds (neg_ℤ (pos 62135596800)) holds.seconds.0, not_below (pos 253402300799) t.seconds holds.seconds.1)
-        (ap (λ (n : ℕ). record t { nanos = n }) (omega (arith, holds.nanos)))
+    (ap (λ (n : ℕ). record t { nanos = n }) (omega (arith, holds.nanos)))
 
 pub time_read : (t : Timestamp) → IsMoment t → time_of (time_text t) ≡ Some t
 unfolding time_text

@@ -1,4 +1,4 @@
-use Rattle.std.proofs.Common.{◌≡◌, ◌++◌, map}
+use Rattle.std.proofs.Common.{map}
 use Rattle.std.specs.List.{AllZip}
 use Rattle.std.specs.Map.Iter.{deref_pair}
 use Rattle.value_model.specs.Named.{fields_data}

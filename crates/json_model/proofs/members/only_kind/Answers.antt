@@ -1,16 +1,19 @@
-use Rattle.std.proofs.Common.{◌≡◌, ap, sym, ◌∙◌, ◌++◌, ◌∷◌, [], map, subst, rules}
+use Rattle.std.proofs.Common.{ap, sym, ◌∙◌, ◌++◌, ◌∷◌, [], map}
 use Rattle.std.specs.Map.Iter.{deref_pair}
 use Rattle.std.proofs.lemmas.List.{map-append}
-use Rattle.std.proofs.lemmas.Map.Iter.{rest_so_far, rest_more, iter_end}
-use Rattle.serde_json.specs.View.{view, members_view}
-use Rattle.json_model.specs.Members.{kinds_given, says_kind}
+use Rattle.std.proofs.lemmas.Map.Iter.{rest_so_far, rest_more}
+use Rattle.serde_json.specs.View.{view}
+use Rattle.json_model.specs.Members.{says_kind}
 use Rattle.json_model.proofs.OneKind.{kinds_same, kinds_first, kinds_two, none_yet, some_yet}
 use Rattle.json_model.proofs.members.only_kind.Goals as goal
 
 pub loop-name-preserved-then-not-says_kind : goal.loop-name-preserved-then-not-says_kind
-loop-name-preserved-then-not-says_kind c =
-    (tt, tt, rw (map-append deref_pair c.loop-name.yielded ((c.in-Some.name, c.in-Some.value) ∷ []))
-    (kinds_same (map deref_pair c.loop-name.yielded) c.in-Some.name.now c.in-Some.value.now c.as_str.result.now _ c.loop-name.invariant.2 c.as_str.ensures.value (sym c.if-not-says_kind.ensures)))
+loop-name-preserved-then-not-says_kind c = (
+  tt,
+  tt,
+  rw (map-append deref_pair c.loop-name.yielded ((c.in-Some.name, c.in-Some.value) ∷ []))
+      (kinds_same (map deref_pair c.loop-name.yielded) c.in-Some.name.now c.in-Some.value.now c.as_str.result.now _ c.loop-name.invariant.2 c.as_str.ensures.value (sym c.if-not-says_kind.ensures)),
+)
 
 pub returns-then-is_some : goal.returns-then-is_some
 returns-then-is_some c =
@@ -22,7 +25,10 @@ returns-then-is_some c =
     (c.loop-name.invariant.2 ∙ first.1) c.as_str.ensures.value (sym c.if-not-says_kind.ensures)
 
 pub loop-name-preserved : goal.loop-name-preserved
-loop-name-preserved c =
-    (tt, tt, rw (map-append deref_pair c.loop-name.yielded ((c.in-Some.name, c.in-Some.value) ∷ []))
-    (kinds_first (map deref_pair c.loop-name.yielded) c.in-Some.name.now c.in-Some.value.now c.as_str-in-loop-name.result.now (c.loop-name.invariant.2 ∙ none_yet c.loop-name.only c.if-is_some.ensures) c.as_str-in-loop-name.ensures.value
-    (ap (λ t. says_kind t (view c.in-Some.value.now)) (c.as_str-in-loop-name.ensures.value ∙ sym c.as_str.ensures.value) ∙ sym c.if-not-says_kind.ensures)))
+loop-name-preserved c = (
+  tt,
+  tt,
+  rw (map-append deref_pair c.loop-name.yielded ((c.in-Some.name, c.in-Some.value) ∷ []))
+      (kinds_first (map deref_pair c.loop-name.yielded) c.in-Some.name.now c.in-Some.value.now c.as_str-in-loop-name.result.now (c.loop-name.invariant.2 ∙ none_yet c.loop-name.only c.if-is_some.ensures) c.as_str-in-loop-name.ensures.value
+      (ap (λ t. says_kind t (view c.in-Some.value.now)) (c.as_str-in-loop-name.ensures.value ∙ sym c.as_str.ensures.value) ∙ sym c.if-not-says_kind.ensures)),
+)

@@ -1,14 +1,11 @@
-use Rattle.std.proofs.Common.{rules, ◌≡◌, ◌≢◌, ◌++◌, ◌∷◌, [], map, ap, sym, subst, ◌∙◌, inl, inr, refl}
+use Rattle.std.proofs.Common.{◌∷◌, [], map, ap, sym, subst, ◌∙◌, inl, inr, refl}
 use Rattle.std.specs.Map.Iter.{deref_pair}
-use Rattle.std.proofs.lemmas.List.{map-append, take_all}
-use Rattle.std.proofs.lemmas.Map.Iter.{iter_end}
-use Rattle.serde_json.specs.Data.{Data as Tree, Members, Items, array, object}
+use Rattle.std.proofs.lemmas.List.{map-append}
 use Rattle.serde_json.specs.View.{view, items_view, members_view}
 use Rattle.serde_json.proofs.Views.{view-Array, view-Object}
-use Rattle.json_model.specs.Places.{member_place}
 use Rattle.json_model.specs.Ranks.{better}
 use Rattle.json_model.specs.Members.{is_left_out}
-use Rattle.json_model.specs.Faults.{FirstOf, KindFaults, FaultsAt, ItemsFaults, MembersFaults, OwnName}
+use Rattle.json_model.specs.Faults.{FirstOf, FaultsAt}
 use Rattle.json_model.proofs.Walked.{kind_in_object, own_in_object, inside_object, kind_in_list, inside_list, if_ok, scalar_at, view_null, view_boolean, view_number, view_string, items_start, items_step, members_start, members_skip, members_step}
 use Rattle.json_model.proofs.walk.+find.Goals as goal
 
@@ -57,15 +54,21 @@ pub find_in_members-loop-key-init : goal.find_in_members-loop-key-init
 find_in_members-loop-key-init t c = (tt, tt, members_start c.args.side c.args.limit c.args.place)
 
 pub find_in_members-loop-key-preserved-then-is_left_out : goal.find_in_members-loop-key-preserved-then-is_left_out
-find_in_members-loop-key-preserved-then-is_left_out t c =
-    (tt, tt, rw (map-append deref_pair c.loop-key.yielded ((c.in-Some.key, c.in-Some.member) ∷ []))
-    (members_skip c.args.side c.args.limit c.args.place (map deref_pair c.loop-key.yielded) c.in-Some.key.now c.in-Some.member.now c.as_str-name.result.now c.loop-key.first c.as_str-name.ensures.value
-    (ap (λ p. is_left_out p (view c.in-Some.member.now)) (sym c.member_place-inside.ensures) ∙ sym c.if-is_left_out.ensures) c.loop-key.invariant.2))
+find_in_members-loop-key-preserved-then-is_left_out t c = (
+  tt,
+  tt,
+  rw (map-append deref_pair c.loop-key.yielded ((c.in-Some.key, c.in-Some.member) ∷ []))
+      (members_skip c.args.side c.args.limit c.args.place (map deref_pair c.loop-key.yielded) c.in-Some.key.now c.in-Some.member.now c.as_str-name.result.now c.loop-key.first c.as_str-name.ensures.value
+      (ap (λ p. is_left_out p (view c.in-Some.member.now)) (sym c.member_place-inside.ensures) ∙ sym c.if-is_left_out.ensures) c.loop-key.invariant.2),
+)
 
 pub find_in_members-loop-key-preserved : goal.find_in_members-loop-key-preserved
-find_in_members-loop-key-preserved t c =
-    (tt, tt, rw (map-append deref_pair c.loop-key.yielded ((c.in-Some.key, c.in-Some.member) ∷ []))
-    (members_step c.args.side c.args.limit c.args.place (map deref_pair c.loop-key.yielded) c.in-Some.key.now c.in-Some.member.now c.as_str-name.result.now c.loop-key.first c.in_ok-own.own c.in_ok-found.found c.better-first.result c.as_str-name.ensures.value
-    (ap (λ p. is_left_out p (view c.in-Some.member.now)) (sym c.member_place-inside.ensures) ∙ sym c.if-is_left_out.ensures) c.loop-key.invariant.2 c.in_ok-own.ensures
-    (subst (λ p. FirstOf (FaultsAt c.args.side c.args.limit p c.as_str-name.result.now (view c.in-Some.member.now)) c.in_ok-found.found) c.member_place-inside.ensures c.in_ok-found.ensures)
-    (c.better-first.ensures ∙ ap (λ f. better c.loop-key.first f) c.better.ensures)))
+find_in_members-loop-key-preserved t c = (
+  tt,
+  tt,
+  rw (map-append deref_pair c.loop-key.yielded ((c.in-Some.key, c.in-Some.member) ∷ []))
+      (members_step c.args.side c.args.limit c.args.place (map deref_pair c.loop-key.yielded) c.in-Some.key.now c.in-Some.member.now c.as_str-name.result.now c.loop-key.first c.in_ok-own.own c.in_ok-found.found c.better-first.result c.as_str-name.ensures.value
+      (ap (λ p. is_left_out p (view c.in-Some.member.now)) (sym c.member_place-inside.ensures) ∙ sym c.if-is_left_out.ensures) c.loop-key.invariant.2 c.in_ok-own.ensures
+      (subst (λ p. FirstOf (FaultsAt c.args.side c.args.limit p c.as_str-name.result.now (view c.in-Some.member.now)) c.in_ok-found.found) c.member_place-inside.ensures c.in_ok-found.ensures)
+      (c.better-first.ensures ∙ ap (λ f. better c.loop-key.first f) c.better.ensures)),
+)

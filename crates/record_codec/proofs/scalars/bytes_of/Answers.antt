@@ -1,10 +1,8 @@
-use Rattle.std.proofs.Common.{FitsSigned, w64}
 use Rattle.std.proofs.lemmas.Result.{err_from_is_err_and}
 use Rattle.value_model.specs.Data as kind
-use Rattle.value_model.specs.Storable.{AreStorableBytes, IsStorableName}
-use Rattle.value_model.specs.Time.{IsMoment}
-use Rattle.record_codec.specs.Spelling.{text, time, name, IsText}
-use Rattle.record_codec.proofs.Wide.{fails_also, signed}
+use Rattle.value_model.specs.Storable.{AreStorableBytes}
+use Rattle.record_codec.specs.Spelling.{text}
+use Rattle.record_codec.proofs.Wide.{fails_also}
 use Rattle.record_codec.proofs.Tagged.{kind_read, kind_none}
 use Rattle.record_codec.proofs.Leaves.{bytes_kind}
 use Rattle.record_codec.proofs.scalars.bytes_of.Goals as goal

@@ -1,10 +1,7 @@
-use Rattle.std.proofs.Common.{FitsSigned, w64}
 use Rattle.std.proofs.lemmas.Result.{err_from_is_err_and}
 use Rattle.value_model.specs.Data as kind
-use Rattle.value_model.specs.Storable.{AreStorableBytes, IsStorableName}
-use Rattle.value_model.specs.Time.{IsMoment}
-use Rattle.record_codec.specs.Spelling.{text, time, name, IsText}
-use Rattle.record_codec.proofs.Wide.{fails_also, signed}
+use Rattle.record_codec.specs.Spelling.{text, IsText}
+use Rattle.record_codec.proofs.Wide.{fails_also}
 use Rattle.record_codec.proofs.Tagged.{kind_read, kind_none}
 use Rattle.record_codec.proofs.Leaves.{text_kind}
 use Rattle.record_codec.proofs.scalars.string_of.Goals as goal
