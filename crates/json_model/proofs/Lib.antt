@@ -8,3 +8,5 @@ pub mod Leaves
 pub mod Kinded
 pub mod Firsts
 pub mod Walked
+pub mod Trees
+pub mod Spelled

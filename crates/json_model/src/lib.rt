@@ -11,6 +11,7 @@ mod names;
 mod numbers;
 mod place;
 mod printing;
+mod reading;
 mod side;
 mod walk;
 

@@ -1,4 +1,5 @@
-use Rattle.std.proofs.Common.{◌∙◌}
+use Rattle.std.proofs.Common.{◌≡◌, ap, ◌∙◌}
+use Rattle.base64.specs.GeneralPurpose.{decode_of, encode_of}
 use Rattle.json_model.proofs.bytes.decode.Goals as goal
 
 pub returns-in-Err-DecodeError : goal.returns-in-Err-DecodeError

@@ -1,0 +1,85 @@
+-- How deep trees are, and what is inside them.
+use Rattle.std.proofs.Common.{rules, ◌≡◌, ◌++◌, ℕ, ◌+◌, ◌<◌, ◌≤◌, zero, suc, List, [], ◌∷◌, length, get_or, map, String, Bool, true, false, cond, Option, Some, None, is_some, refl, sym, ap, subst, ◌∙◌, arith, Ordering, Less, Equal, Greater}
+use Rattle.std.specs.declared.alloc.Global.{Global}
+use Rattle.std.specs.Option.{option_and_then}
+use Rattle.std.specs.Ordering.{nat_cmp, match_ordering}
+use Rattle.std.specs.Cmp.Lexicographic.{slice_cmp}
+use Rattle.serde_json.specs.Data.{Data as Tree, null, boolean, number, string, array, object, Members, no_members, member, Items, no_items, item, depth, items_depth, members_depth}
+use Rattle.serde_json.specs.Find.{as_object, as_array, as_null, get_member}
+use Rattle.serde_json.specs.View.{view, items_view, members_view}
+use Rattle.serde_json.specs.declared.value.Value.{Value as Json}
+use Rattle.json_model.specs.Members.{given, unless_null, is_null, kinds_given, says_kind}
+
+pub object_at : (d : Tree) (ms : Members) → Some ms ≡ as_object d → d ≡ object ms
+object_at (object ns) ms is = let e : ns ≡ ms = cc in ap object e
+object_at null ms is = cc
+object_at (boolean b) ms is = cc
+object_at (number n) ms is = cc
+object_at (string t) ms is = cc
+object_at (array ds) ms is = cc
+
+pub array_at : (d : Tree) (ds : Items) → Some ds ≡ as_array d → d ≡ array ds
+array_at (array es) ds is = let e : es ≡ ds = cc in ap array e
+array_at null ds is = cc
+array_at (boolean b) ds is = cc
+array_at (number n) ds is = cc
+array_at (string t) ds is = cc
+array_at (object ms) ds is = cc
+
+pub object_depth : (d : Tree) (ms : Members) → Some ms ≡ as_object d → depth d ≡ suc (members_depth ms)
+object_depth d ms is = ap depth (object_at d ms is)
+
+pub array_depth : (d : Tree) (ds : Items) → Some ds ≡ as_array d → depth d ≡ suc (items_depth ds)
+array_depth d ds is = ap depth (array_at d ds is)
+
+abbrev head_tree : List (List ℕ × Tree) → Tree
+head_tree [] = null
+head_tree (e ∷ es) = e.1
+
+-- the only kind is inside
+pub kind_depth : (ms : Members) (name : List ℕ) (d : Tree) → kinds_given ms ≡ (name, d) ∷ [] → depth d ≤ members_depth ms
+kind_depth no_members name d is = cc
+kind_depth (member k e ms) name d is = by (says_kind k e) is (kind_depth ms name d)
+  where
+    by : (b : Bool) → cond b ((k, e) ∷ kinds_given ms) (kinds_given ms) ≡ (name, d) ∷ [] → (kinds_given ms ≡ (name, d) ∷ [] → depth d ≤ members_depth ms) → depth d ≤ members_depth (member k e ms)
+    by true same later = let one : e ≡ d = ap head_tree same in let f : depth e ≡ depth d = ap depth one in omega arith
+    by false same later = let rest = later same in omega arith
+
+-- a member that is given is inside
+member_depth : (ms : Members) (name : List ℕ) (d : Tree) → get_member name ms ≡ Some d → depth d ≤ members_depth ms
+member_depth no_members name d is = cc
+member_depth (member k e ms) name d is = by (slice_cmp nat_cmp name k) is (member_depth ms name d)
+  where
+    by : (o : Ordering) → match_ordering o (get_member name ms) (Some e) (get_member name ms) ≡ Some d → (get_member name ms ≡ Some d → depth d ≤ members_depth ms) → depth d ≤ members_depth (member k e ms)
+    by Less same later = let rest = later same in omega arith
+    by Equal same later = let one : e ≡ d = cc in let f : depth e ≡ depth d = ap depth one in omega arith
+    by Greater same later = let rest = later same in omega arith
+
+given_is : (o : Option Tree) (d : Tree) → option_and_then unless_null o ≡ Some d → o ≡ Some d
+given_is None d is = cc
+given_is (Some e) d is = by (is_null e) is
+  where
+    by : (b : Bool) → cond b None (Some e) ≡ Some d → Some e ≡ Some d
+    by true same = cc
+    by false same = same
+
+pub given_depth : (ms : Members) (name : List ℕ) (d : Tree) → Some d ≡ given name ms → depth d ≤ members_depth ms
+given_depth ms name d is = member_depth ms name d (given_is (get_member name ms) d (sym is))
+
+pub item_depth : (items : List Json) (i : ℕ) (one : Json) → i < length items → one ≡ get_or items i one → depth (view one) ≤ items_depth (items_view items)
+item_depth [] i one below is = absurd (omega arith)
+item_depth (x ∷ items) zero one below is = let f : depth (view one) ≡ depth (view x) = ap (λ j. depth (view j)) is in omega arith
+item_depth (x ∷ items) (suc i) one below is = let rest = item_depth items i one (omega arith) is in omega arith
+
+pub entry_depth : (done rest : List (String Global × Json)) (e : String Global × Json) → depth (view e.1) ≤ members_depth (members_view (done ++ e ∷ rest))
+entry_depth [] rest e = omega arith
+entry_depth (x ∷ done) rest e = let more = entry_depth done rest e in omega arith
+
+-- the test for null
+pub null_test : (d : Tree) → is_null d ≡ is_some (as_null d)
+null_test null = refl
+null_test (boolean b) = refl
+null_test (number n) = refl
+null_test (string t) = refl
+null_test (array ds) = refl
+null_test (object ms) = refl
