@@ -10,3 +10,5 @@ pub mod Firsts
 pub mod Walked
 pub mod Trees
 pub mod Spelled
+pub mod Good
+pub mod Stored

@@ -6,6 +6,7 @@ mod bytes;
 mod document;
 mod fault;
 mod kinds;
+mod laws;
 mod members;
 mod names;
 mod numbers;
@@ -13,14 +14,19 @@ mod place;
 mod printing;
 mod reading;
 mod side;
+#[cfg(test)]
+mod tests;
+mod texts;
 mod walk;
 
 pub use bytes::{print_bytes, read_bytes};
 pub use document::print_document;
 pub use fault::{BadName, JsonFault, NamingFault, better};
+pub use laws::no_fault_spells;
 pub use members::given;
 pub use names::read_name;
 pub use numbers::{read_integer, read_whole};
 pub use place::{Place, value_member};
 pub use printing::{print_fields, print_value};
+pub use reading::{MAX_NESTING, read_fields};
 pub use side::Side;
