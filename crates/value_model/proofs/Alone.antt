@@ -1,10 +1,9 @@
 -- a store that has one document
-use Rattle.std.proofs.Common.{◌≡◌, ◌∙◌, ◌↔◌, ℕ, zero, suc, ◌+◌, ◌<◌, Bool, true, false, cond, Ordering, Less, Equal, Greater, IsSome, Option, Some, None, List, [], ◌∷◌, length, get_or, refl, sym, ap, subst, arith}
+use Rattle.std.proofs.Common.{◌≡◌, ◌∙◌, ℕ, true, false, cond, Ordering, Less, Equal, Greater, IsSome, Some, None, List, [], ◌∷◌, get_or, refl, sym, ap, subst, arith}
 use Rattle.std.specs.Cmp.{tied_itself}
 use Rattle.std.specs.Cmp.Lexicographic.{slice_cmp}
 use Rattle.std.specs.Ordering.{nat_cmp, is_eq}
 use Rattle.std.specs.FinMap as map
-use Rattle.std.specs.List.{AllPairs, Contains}
 use Rattle.document_keys.proofs.Order.{paths_compute}
 use Rattle.value_model.specs.Documents.{DocumentMap, Stored, IsIn, ListsCollection}
 
