@@ -1,11 +1,10 @@
 -- What a commit leaves.
-use Rattle.std.proofs.Common.{◌≡◌, ℕ, ◌+◌, List, [], ◌∷◌, ◌++◌, Result, Ok, Err, IfOk, inl, inr, refl, sym, ap, subst, ◌∙◌}
-use Rattle.host_api.specs.declared.host.FileId.{FileId}
+use Rattle.std.proofs.Common.{◌≡◌, ℕ, ◌+◌, List, [], ◌∷◌, ◌++◌, Result, Err, IfOk, inl, refl, sym, ap, subst, ◌∙◌}
 use Rattle.host_api.specs.declared.host.Failed.{Failed}
-use Rattle.host_api.specs.Host.{Files, View, Spans, other}
+use Rattle.host_api.specs.Host.{Files, View}
 use Rattle.host_api.proofs.Spans.{spans_none}
-use Rattle.disk_journal.specs.File.{Gives, Counting, IsFile, IsBelow}
-use Rattle.disk_journal.specs.Place.{Place, IsOpen}
+use Rattle.disk_journal.specs.File.{Gives}
+use Rattle.disk_journal.specs.Place.{Place}
 use Rattle.disk_journal.specs.Steps.{Appends, GivesBeforeOrAfter}
 use Rattle.disk_journal.proofs.Held.{open_gives, open_crash}
 use Rattle.mutations.specs.declared.Batch.{Batch}

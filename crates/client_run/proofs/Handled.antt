@@ -1,21 +1,18 @@
 -- What one line does to the files, call by call.
-use Rattle.std.proofs.Common.{◌≡◌, ℕ, ◌⊎◌, inl, inr, ⊎_elim, List, [], ◌∷◌, ◌++◌, take, append-nil, Option, Some, None, Result, Ok, Err, IfOk, refl, sym, ap, subst, ◌∙◌}
-use Rattle.host_api.specs.Host.{Files, View, IsPart, Emits, Spans, IsOnDisk, other}
-use Rattle.host_api.specs.declared.host.FileId.{FileId}
+use Rattle.std.proofs.Common.{◌≡◌, ℕ, inl, inr, ⊎_elim, List, [], ◌∷◌, ◌++◌, append-nil, Some, None, Result, Err, IfOk, sym, subst, ◌∙◌}
+use Rattle.host_api.specs.Host.{Files, View, IsPart, Emits}
 use Rattle.host_api.proofs.Spans.{spans_none, spans_then, spans_weaker}
-use Rattle.disk_journal.specs.File.{Gives, IsFile, IsBelow}
-use Rattle.disk_journal.specs.Place.{Place, IsOpen}
 use Rattle.disk_journal.specs.Steps.{GivesBeforeOrAfter}
 use Rattle.record_codec.specs.declared.commit.Commit.{Commit}
 use Rattle.record_codec.specs.Spelling.{spelling}
 use Rattle.disk_journal.proofs.Held.{open_emits}
 use Rattle.client_run.specs.Store.{IsStored, Commits}
-use Rattle.client_run.specs.Turn.{Turn, added}
-use Rattle.client_run.specs.Turned.{Turned, InTurn, GivesEither}
+use Rattle.client_run.specs.Turn.{Turn}
+use Rattle.client_run.specs.Turned.{Turned, InTurn}
 use Rattle.client_run.specs.declared.local_store.LocalStore.{LocalStore}
 use Rattle.client_run.specs.declared.committing.StoreFault.{StoreFault}
 use Rattle.client_run.specs.declared.status.Status.{Status}
-use Rattle.client_run.proofs.Committed.{stored_gives, stored_reads}
+use Rattle.client_run.proofs.Committed.{stored_gives}
 
 -- an output leaves the store where it is
 pub emits_stored : {store : LocalStore} {ps : List (List ℕ)} {old new : View} (piece : List ℕ) → IsStored store ps old → Emits piece old new → IsStored store ps new

@@ -1,8 +1,8 @@
 -- A line whose parts spell nothing spells nothing.
-use Rattle.std.proofs.Common.{◌≡◌, ℕ, List, codes, refl, sym, ap, subst, ◌∙◌}
-use Rattle.serde_json.specs.Data.{Data, string, array, item, no_items}
+use Rattle.std.proofs.Common.{◌≡◌, ℕ, List, codes, sym, subst, ◌∙◌}
+use Rattle.serde_json.specs.Data.{Data, array, item, no_items}
 use Rattle.document_keys.specs.Names.{Root}
-use Rattle.value_model.specs.declared.fields.Field.{Field}
+use Rattle.value_model.specs.Data.{Entries}
 use Rattle.value_model.specs.declared.timestamp.Timestamp.{Timestamp}
 use Rattle.mutations.specs.declared.Write.{Write}
 use Rattle.client_run.specs.Trees.{one, two}
@@ -17,7 +17,7 @@ first_of_two x y a b c d same = cc
 second_of_two : (x y : List ℕ) (a b c d : Data) → two x a y b ≡ two x c y d → b ≡ d
 second_of_two x y a b c d same = cc
 
-pub no_fields : (root : Root) (d update fields name : Data) → d ≡ one (codes "update") update → update ≡ two (codes "fields") fields (codes "name") name → ((f : List Field) → SpellsFields fields f → ⊥) → (write : Write) → SpellsWrite root d write → ⊥
+pub no_fields : (root : Root) (d update fields name : Data) → d ≡ one (codes "update") update → update ≡ two (codes "fields") fields (codes "name") name → ((f : Entries) → SpellsFields fields f → ⊥) → (write : Write) → SpellsWrite root d write → ⊥
 no_fields root d update fields name is update_is none write s =
     let updates = inner (codes "update") _ _ (sym is ∙ s.is) in
     let same = first_of_two (codes "fields") (codes "name") _ _ _ _ (sym update_is ∙ updates) in

@@ -1,5 +1,5 @@
 -- A text names at most one key, and none where it has a fault.
-use Rattle.std.proofs.Common.{◌≡◌, ◌≢◌, ℕ, ◌<◌, ◌%◌, Bool, true, false, IsTrue, ◌↔◌, MatchOption, IfErr, Result, Ok, Err, List, [], ◌∷◌, ◌++◌, length, get_or, refl, sym, ap, subst, ◌∙◌, append-nil, arith, inl, inr}
+use Rattle.std.proofs.Common.{◌≡◌, ◌≢◌, ℕ, ◌%◌, false, List, [], ◌∷◌, ◌++◌, length, get_or, refl, sym, ap, subst, ◌∙◌, append-nil, arith, inl, inr}
 use Rattle.std.specs.Bool.{◌==◌}
 use Rattle.std.specs.List.{All, slice_split}
 use Rattle.std.proofs.lemmas.Bool.Decides.{eqb_tells}

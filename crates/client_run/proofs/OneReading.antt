@@ -1,15 +1,15 @@
 -- An item has one reading.
-use Rattle.std.proofs.Common.{◌≡◌, ℕ, List, [], ◌∷◌, codes, Some, length, refl, sym, ap, subst, ◌∙◌, arith}
+use Rattle.std.proofs.Common.{◌≡◌, ℕ, List, codes, Some, length, refl, sym, ap, subst, ◌∙◌, arith}
 use Rattle.std.specs.List.{AllZip}
 use Rattle.serde_json.specs.Data.{Data, object, string, array, item, no_items}
 use Rattle.document_keys.specs.Names.{Root, name_text}
 use Rattle.value_model.specs.Time.{time_of}
 use Rattle.value_model.specs.declared.timestamp.Timestamp.{Timestamp}
-use Rattle.value_model.specs.declared.fields.Field.{Field}
+use Rattle.value_model.specs.Data.{Entries}
 use Rattle.mutations.specs.declared.Write.{Write}
 use Rattle.host_api.specs.Items.{Item}
-use Rattle.client_run.specs.Trees.{one, two}
-use Rattle.client_run.specs.Grammar.{SpellsName, SpellsField, SpellsFields, SpellsWrite, SpellsWriteLine, SpellsGetLine, Spells, members_from}
+use Rattle.client_run.specs.Trees.{one}
+use Rattle.client_run.specs.Grammar.{SpellsName, SpellsField, SpellsFields, SpellsWrite, SpellsWriteLine, Spells, members_from}
 use Rattle.client_run.specs.Reading.{IsJson, only_name, Reads, too_long, no_json, no_event, an_event}
 use Rattle.client_run.specs.declared.event.Event.{Event}
 use Rattle.client_run.specs.declared.event.Event.TheVariants as event
@@ -22,7 +22,7 @@ use Rattle.client_run.proofs.Named.{keys_one}
 one_member : (name : List ℕ) (a b d : Data) → d ≡ one name a → d ≡ one name b → a ≡ b
 one_member name a b d first second = let e : one name a ≡ one name b = sym first ∙ second in cc
 
-one_fields : (d e : Data) (a b : List Field) → d ≡ e → SpellsFields d a → SpellsFields e b → a ≡ b
+one_fields : (d e : Data) (a b : Entries) → d ≡ e → SpellsFields d a → SpellsFields e b → a ≡ b
 one_fields d e a b same first second =
     let members : members_from first.entries ≡ members_from second.entries = let m : object (members_from first.entries) ≡ object (members_from second.entries) = sym first.is ∙ same ∙ second.is in cc in
     let entries = members_from_injective first.entries second.entries members in

@@ -1,19 +1,19 @@
 -- What an opening finds.
 use Rattle.std.specs.declared.alloc.Global.{Global}
 use Rattle.mutations.specs.declared.Batch.{Batch}
-use Rattle.std.proofs.Common.{◌+◌, length, ◌≡◌, Bool, ℕ, List, [], ◌∷◌, map, Vec, IsTrue, Result, Ok, Err, IfErr, refl, sym, ap, subst, ◌∙◌}
+use Rattle.std.proofs.Common.{◌+◌, length, ◌≡◌, Bool, ℕ, List, map, Vec, IsTrue, refl, sym, subst}
 use Rattle.host_api.specs.declared.host.FileId.{FileId}
 use Rattle.host_api.specs.declared.host.FileId.TheVariants.{Zero, One}
 use Rattle.host_api.specs.Host.{Files, View}
-use Rattle.disk_journal.specs.File.{AreBlank, Gives, IsForeign, IsFirstForeign}
+use Rattle.disk_journal.specs.File.{AreBlank, Gives, GoesOn, IsForeign, IsFirstForeign}
 use Rattle.disk_journal.specs.Steps.{Opens}
 use Rattle.disk_journal.specs.Opening.{IsCause}
 use Rattle.disk_journal.specs.declared.fault.OpenFault.{OpenFault}
 use Rattle.disk_journal.specs.declared.fault.OpenFault.TheVariants as fault
 use Rattle.disk_journal.proofs.Pairs.{gives_once, none_foreign}
 use Rattle.disk_journal.proofs.Openings.{blank_gives}
-use Rattle.client_run.specs.State.{State, start, Replays, FindsState}
-use Rattle.client_run.specs.Store.{IsNoStore, Refuses}
+use Rattle.client_run.specs.State.{State, start, Replays}
+use Rattle.client_run.specs.Store.{IsNoStore, IsRefused, Refuses}
 
 foreign_of : (file : FileId) (files : Files) → IsFirstForeign file files → IsForeign (files file)
 foreign_of Zero files is = is
@@ -23,26 +23,34 @@ not_blank_of : (file : FileId) (files : Files) → IsForeign (files file) → Ar
 not_blank_of Zero files foreign are = foreign.not_blank are.0
 not_blank_of One files foreign are = foreign.not_blank are.1
 
+pub refused_is_none : (file : FileId) (files : Files) → IsRefused file files → IsNoStore files
+refused_is_none file files (IsRefused.foreign is) s finds = none_foreign files 1 finds.payloads file finds.gives (foreign_of file files is)
+refused_is_none file files (IsRefused.no_commits none goes_on g ps gives stuck) s finds =
+    let same = gives_once files g ps 1 finds.payloads gives finds.gives in
+    stuck s same.0 (subst (λ (l : List (List ℕ)). Replays start l s) (sym same.1) finds.replays)
+
 -- a foreign file is no store, and stays
-foreign_refuses : (file : FileId) (old new : View) → IsFirstForeign file old.bytes → Opens old new → IsNoStore old.bytes × (new.bytes ≡ old.bytes)
-foreign_refuses file old new is opens =
-    let foreign = foreign_of file old.bytes is in
-    (λ s finds. none_foreign old.bytes 1 finds.payloads file finds.gives foreign, opens.kept (not_blank_of file old.bytes foreign))
+foreign_refuses : (file : FileId) (old new : View) → IsFirstForeign file old.bytes → Opens old new → IsRefused file old.bytes × (new.bytes ≡ old.bytes)
+foreign_refuses file old new is opens = (IsRefused.foreign is, opens.kept (not_blank_of file old.bytes (foreign_of file old.bytes is)))
 
 pub journal_refuses : (tells : Bool) (f : OpenFault) (old new : View) → IsTrue tells → IsCause tells f old new → Opens old new → Refuses f old new
 journal_refuses tells fault.DiskFault old new told cause opens = tt
 journal_refuses tells (fault.NotAStore file) old new told cause opens = foreign_refuses file old new (cause told) opens
 journal_refuses tells fault.NoMemory old new told cause opens = tt
 
+-- payloads of another generation than 1, or that lead nowhere, are no store's
+refuses_counting : (file : FileId) (old : View) (g : ℕ) (ps : List (List ℕ)) → Gives old.bytes g ps → GoesOn old.bytes file → ((s : State) → g ≡ 1 → Replays start ps s → ⊥) → IsRefused file old.bytes
+refuses_counting file old g ps gives goes_on stuck = IsRefused.no_commits (λ each. none_foreign old.bytes g ps each gives) goes_on g ps gives stuck
+
 -- another generation than 1 is no store
-pub generation_refuses : (old new : View) (g : ℕ) (ps : List (List ℕ)) → Gives old.bytes g ps → (g ≡ 1 → ⊥) → (AreBlank old.bytes → g ≡ 1) → Opens old new → IsNoStore old.bytes × (new.bytes ≡ old.bytes)
-generation_refuses old new g ps gives other first opens =
-    (λ s finds. other (gives_once old.bytes g ps 1 finds.payloads gives finds.gives).0, opens.kept (λ are. other (first are)))
+pub generation_refuses : (file : FileId) (old new : View) (g : ℕ) (ps : List (List ℕ)) → Gives old.bytes g ps → GoesOn old.bytes file → (g ≡ 1 → ⊥) → (AreBlank old.bytes → g ≡ 1) → Opens old new → IsRefused file old.bytes × (new.bytes ≡ old.bytes)
+generation_refuses file old new g ps gives goes_on other first opens =
+    (refuses_counting file old g ps gives goes_on (λ s one replays. other one), opens.kept (λ are. other (first are)))
 
 -- payloads that lead nowhere are no store
-pub payloads_refuse : (old new : View) (g : ℕ) (ps : List (List ℕ)) → Gives old.bytes g ps → ((s : State) → Replays start ps s → ⊥) → Opens old new → IsNoStore old.bytes × (new.bytes ≡ old.bytes)
-payloads_refuse old new g ps gives none opens = (
-  λ s finds. none s (subst (λ (l : List (List ℕ)). Replays start l s) (sym (gives_once old.bytes g ps 1 finds.payloads gives finds.gives).1) finds.replays),
+pub payloads_refuse : (file : FileId) (old new : View) (g : ℕ) (ps : List (List ℕ)) → Gives old.bytes g ps → GoesOn old.bytes file → ((s : State) → Replays start ps s → ⊥) → Opens old new → IsRefused file old.bytes × (new.bytes ≡ old.bytes)
+payloads_refuse file old new g ps gives goes_on none opens = (
+  refuses_counting file old g ps gives goes_on (λ s one replays. none s replays),
   opens.kept (λ are. none start (subst (λ (l : List (List ℕ)). Replays start l start) (sym (blank_gives old.bytes g ps are gives).1) refl)),
 )
 

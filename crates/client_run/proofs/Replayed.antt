@@ -7,8 +7,10 @@ use Rattle.mutations.specs.declared.Batch.{Batch}
 use Rattle.record_codec.specs.declared.commit.Commit.TheVariants.{Enqueue}
 use Rattle.record_codec.specs.declared.commit.Commit.{Commit}
 use Rattle.record_codec.specs.Spelling.{spelling, HasSpelling}
-use Rattle.record_codec.proofs.Unique.{one_value}
-use Rattle.client_run.specs.State.{State, start, Fits, committed, Replays}
+use Rattle.record_codec.proofs.OneCommit.{one_value}
+use Rattle.host_api.specs.Host.{Files}
+use Rattle.disk_journal.proofs.Pairs.{gives_once}
+use Rattle.client_run.specs.State.{State, start, Fits, committed, Replays, FindsState}
 
 -- one payload more
 pub replays_push : (s : State) (ps : List (List ℕ)) (t : State) (p : List ℕ) (c : Commit) → Replays s ps t → HasSpelling c → p ≡ spelling c → Fits t c → Replays s (ps ++ p ∷ []) (committed t c)
@@ -36,6 +38,12 @@ replays_once s [] t u first second = first ∙ sym second
 replays_once s (p ∷ ps) t u (c, has, is, fits, rest) (d, also_has, also_is, also_fits, also_rest) =
     let same = one_value d c also_has has (sym also_is ∙ is) in
     replays_once (committed s c) ps t u rest (subst (λ (e : Commit). Replays (committed s e) ps u) same also_rest)
+
+-- two files find one state
+pub find_once : (files : Files) (a b : State) → FindsState files a → FindsState files b → a ≡ b
+find_once files a b first second =
+    let same = gives_once files 1 first.payloads 1 second.payloads first.gives second.gives in
+    replays_once start second.payloads a b (subst (λ (ps : List (List ℕ)). Replays start ps a) same.1 first.replays) second.replays
 
 -- ---- a loop over the payloads
 

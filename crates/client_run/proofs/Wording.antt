@@ -1,5 +1,5 @@
 -- The words of a call.
-use Rattle.std.proofs.Common.{◌≡◌, ◌≢◌, ◌↔◌, ℕ, ◌<◌, zero, suc, Bool, true, false, not, IsTrue, List, [], ◌∷◌, length, get_or, slice_index, map, codes, refl, sym, ap, subst, ◌∙◌, arith, rules}
+use Rattle.std.proofs.Common.{◌≡◌, ◌≢◌, ◌↔◌, ℕ, ◌<◌, not, IsTrue, List, [], ◌∷◌, length, get_or, slice_index, map, codes, sym, ap, subst, ◌∙◌, arith, rules}
 use Rattle.std.specs.Bool.{◌==◌}
 use Rattle.std.specs.String.{string_bytes}
 use Rattle.std.specs.declared.string.String.{String}

@@ -1,5 +1,5 @@
 -- The lines that are read, as the JSON trees that spell them. A tree is written from what it means; the code takes it apart.
-use Rattle.std.specs.Prelude.{◌≡◌, ◌⊎◌, ◌≢◌, ℕ, ◌<◌, ◌≤◌, ℤ, pos, List, [], ◌∷◌, length, codes, IsTrue, Some, slice_index, FitsSigned}
+use Rattle.std.specs.Prelude.{◌≡◌, ◌⊎◌, ℕ, ◌<◌, ◌≤◌, ℤ, pos, List, [], ◌∷◌, length, codes, IsTrue, Some, slice_index, FitsSigned}
 use Rattle.std.specs.Fmt.{signed_decimal}
 use Rattle.std.specs.Int.{w64}
 use Rattle.std.specs.List.{All, AllZip}
@@ -7,10 +7,9 @@ use Rattle.std.specs.Char.{is_ascii_alphanumeric, is_ascii_alphabetic}
 use Rattle.serde_json.specs.Data.{Data, string, array, object, item, no_items, Members, no_members, member}
 use Rattle.document_keys.specs.Names.{Root, IsKey, name_text}
 use Rattle.value_model.specs.Time.{time_of}
-use Rattle.value_model.specs.Fields.{IsAscending}
-use Rattle.value_model.specs.declared.fields.Field.{Field}
-use Rattle.value_model.specs.declared.value.Value.{Value}
-use Rattle.value_model.specs.declared.value.Value.TheVariants.{Integer}
+use Rattle.value_model.specs.Data as kind
+use Rattle.value_model.specs.Data.{Entries}
+use Rattle.value_model.specs.Fields.{AreFields}
 use Rattle.value_model.specs.declared.timestamp.Timestamp.{Timestamp}
 use Rattle.mutations.specs.declared.Write.{Write}
 use Rattle.client_run.specs.Trees.{one, two}
@@ -45,18 +44,18 @@ pub record SpellsInteger (text : List ℕ) (z : ℤ) : Type 0 where
   pub is : (text ≡ signed_decimal z) ⊎ ((text ≡ codes "-0") × (z ≡ pos 0))
 
 -- an object whose only member `integerValue` is a whole number as a text
-pub record SpellsValue (d : Data) (value : Value) : Type 0 where
+pub record SpellsValue (d : Data) (value : kind.Data) : Type 0 where
   pub text : List ℕ
   pub number : ℤ
   pub spelled : SpellsInteger text number
   pub is : d ≡ one (codes "integerValue") (string text)
-  pub means : value ≡ Integer number
+  pub means : value ≡ kind.integer number
 
 -- a member of `fields`: a plain name, and its value
-pub record SpellsField (e : List ℕ × Data) (field : Field) : Type 0 where
-  pub name_is : e.0 ≡ field.name
-  pub plain : IsPlainField field.name
-  pub spelled : SpellsValue e.1 field.value
+pub record SpellsField (e : List ℕ × Data) (field : List ℕ × kind.Data) : Type 0 where
+  pub name_is : e.0 ≡ field.0
+  pub plain : IsPlainField field.0
+  pub spelled : SpellsValue e.1 field.1
 
 -- an object of these members, in their order
 abbrev pub members_from : List (List ℕ × Data) → Members
@@ -64,10 +63,10 @@ members_from [] = no_members
 members_from (e ∷ es) = member e.0 e.1 (members_from es)
 
 -- an object whose members spell the fields, one each
-pub record SpellsFields (d : Data) (fields : List Field) : Type 0 where
+pub record SpellsFields (d : Data) (fields : Entries) : Type 0 where
   pub entries : List (List ℕ × Data)
   pub each : AllZip SpellsField entries fields
-  pub ascending : IsAscending fields
+  pub sound : AreFields fields
   pub is : d ≡ object (members_from entries)
 
 -- `{"update":{"fields":{..},"name":".."}}`

@@ -1,6 +1,8 @@
+pub mod Crash
 pub mod Grammar
 pub mod Output
 pub mod Reading
+pub mod Reported
 pub mod Run
 pub mod State
 pub mod Store

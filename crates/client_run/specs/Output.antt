@@ -1,12 +1,10 @@
 -- The lines that are written: compact JSON, members in the order of their names, each line with its newline.
-use Rattle.std.specs.Prelude.{ℕ, ◌+◌, Bool, true, false, List, [], ◌∷◌, ◌++◌, codes, Option, Some, None, fold}
-use Rattle.std.specs.Fmt.{signed_decimal}
-use Rattle.serde_json.specs.Data.{Data, boolean, number, unsigned, string, object, Members, no_members, put}
+use Rattle.std.specs.Prelude.{ℕ, true, false, List, [], ◌∷◌, ◌++◌, codes, Option, Some, None}
+use Rattle.serde_json.specs.Data.{Data, boolean, number, unsigned, string}
 use Rattle.serde_json.specs.Written.{compact_text}
 use Rattle.document_keys.specs.Names.{Root, name_text}
-use Rattle.value_model.specs.declared.value.Value.{Value}
-use Rattle.value_model.specs.declared.value.Value.TheVariants.{Integer}
-use Rattle.value_model.specs.declared.fields.Field.{Field}
+use Rattle.value_model.specs.Data.{Entries}
+use Rattle.json_model.specs.Printed.{printed_fields}
 use Rattle.client_run.specs.Trees.{one, two, three, four}
 use Rattle.client_run.specs.declared.refusal.Refusal.{Refusal}
 use Rattle.client_run.specs.declared.refusal.Refusal.TheVariants.{LineTooLong, BadLine, Unsupported}
@@ -37,17 +35,6 @@ refused_tree line LineTooLong = too_long_tree line
 refused_tree line BadLine = bad_line_tree line
 refused_tree line (Unsupported member) = unsupported_tree line member
 
--- a value: a whole number as a text
-abbrev pub value_tree : Value → Data
-value_tree (Integer z) = one (codes "integerValue") (string (signed_decimal z))
-
--- the members of fields, put one after another
-abbrev pub put_field : Members → Field → Members
-put_field members field = put field.name (value_tree field.value) members
-
-unfoldable pub fields_tree : List Field → Data
-fields_tree fields = object (fold put_field no_members fields)
-
 -- a document that isn't there
 abbrev pub missing_tree : List ℕ → Data
 missing_tree name = one (codes "document") (three (codes "exists") (boolean false) (codes "name") (string name) (codes "state") (string (codes "unknown")))
@@ -61,7 +48,7 @@ abbrev pub found_tree : List ℕ → Data → Data
 found_tree name fields = one (codes "document") (four (codes "exists") (boolean true) (codes "fields") fields (codes "name") (string name) (codes "state") (string (codes "pending")))
 
 -- `{"document":{..}}`: `fields` stands only where the document exists and has some
-abbrev pub document_tree : Root → List (List ℕ) → Option (List Field) → Data
+abbrev pub document_tree : Root → List (List ℕ) → Option Entries → Data
 document_tree root key None = missing_tree (name_text root key)
 document_tree root key (Some []) = empty_tree (name_text root key)
-document_tree root key (Some (field ∷ fields)) = found_tree (name_text root key) (fields_tree (field ∷ fields))
+document_tree root key (Some (field ∷ fields)) = found_tree (name_text root key) (printed_fields (field ∷ fields))

@@ -1,5 +1,6 @@
 -- What an item of the source is: an event, or why it is refused.
-use Rattle.std.specs.Prelude.{◌≡◌, ℕ, List, [], codes, Some, IsUtf8}
+use Rattle.std.specs.Prelude.{◌≡◌, ℕ, List, [], Some, IsUtf8, length, take}
+use Rattle.std.specs.List.{AllZip}
 use Rattle.host_api.specs.Items.{Item, Bytes, Overlong}
 use Rattle.serde_json.specs.Data.{Data, null, boolean, number, string, array, object, Members, no_members, member}
 use Rattle.serde_json.specs.Read.{read}
@@ -35,3 +36,7 @@ pub data Reads (root : Root) : Item → Reading → Type 0 where
   no_json : (text : List ℕ) → ((d : Data) → IsJson text d → ⊥) → Reads root (Bytes text) (Refused BadLine)
   no_event : (text name : List ℕ) (d : Data) → IsJson text d → ((event : Event) → Spells root d event → ⊥) → name ≡ only_name d → Reads root (Bytes text) (Refused (Unsupported name))
   an_event : (text : List ℕ) (d : Data) (event : Event) → IsJson text d → Spells root d event → Reads root (Bytes text) (Line event)
+
+-- what the first items are, one reading for each
+abbrev pub AreRead : Root → List Item → List Reading → Type 0
+AreRead root items readings = AllZip (Reads root) (take (length readings) items) readings

@@ -1,22 +1,19 @@
 -- The run: what a call answers, and what it writes and keeps.
-use Rattle.std.specs.Prelude.{◌≡◌, ◌⊎◌, ℕ, ◌+◌, ◌<◌, ◌≤◌, List, [], ◌∷◌, ◌++◌, length, take, IsTrue, Bool}
-use Rattle.std.specs.List.{AllZip}
-use Rattle.host_api.specs.Items.{Item}
+use Rattle.std.specs.Prelude.{◌≡◌, ◌⊎◌, ℕ, ◌+◌, ◌<◌, ◌≤◌, List, [], ◌∷◌, ◌++◌, length, drop, IsTrue, Bool}
+use Rattle.host_api.specs.Items.{Item, split, IsSuffix}
 use Rattle.host_api.specs.Counts.{Rises}
+use Rattle.host_api.specs.declared.host.FileId.{FileId}
 use Rattle.host_api.specs.Host.{View, IsPart}
 use Rattle.disk_journal.specs.File.{Gives}
 use Rattle.document_keys.specs.Names.{Root}
-use Rattle.client_run.specs.Reading.{Reads}
-use Rattle.client_run.specs.State.{State, FindsState}
-use Rattle.client_run.specs.Store.{IsNoStore}
+use Rattle.client_run.specs.Crash.{Keeps, Crashes}
+use Rattle.client_run.specs.Reading.{AreRead}
+use Rattle.client_run.specs.State.{State}
+use Rattle.client_run.specs.Store.{IsRefused, IsNoStore}
 use Rattle.client_run.specs.Turn.{run, turn, now, output_of, payloads_after}
 use Rattle.client_run.specs.declared.reading.Reading.{Reading}
 use Rattle.client_run.specs.declared.status.Status.{Status}
 use Rattle.client_run.specs.declared.status.Status.TheVariants as ended
-
--- what the first items are, one for each
-abbrev pub AreRead : Root → List Item → List Reading → Type 0
-AreRead root items readings = AllZip (Reads root) (take (length readings) items) readings
 
 -- How many items a run handled. Done comes where all were, before the budget was spent; Budget exactly where as many were
 -- handled as the budget allows; a fault before that.
@@ -29,6 +26,28 @@ Ends ended.SinkFault handled all budget = (handled < all) × (handled < budget)
 Ends ended.NoMemory handled all budget = (handled ≤ all) × (handled < budget)
 Ends ended.Usage handled all budget = ⊥
 Ends ended.NotAStore handled all budget = ⊥
+
+-- The first n items were taken from the source, and these bytes are left.
+abbrev pub Took : ℕ → List Item → List ℕ → Type 0
+Took n items left = split left ≡ drop n items
+
+-- The first n items were taken; of the bytes behind them a front may be gone, for the source failed in the next item.
+pub record TookAndFailed (n : ℕ) (items : List Item) (left : List ℕ) : Type 0 where
+  pub rest : List ℕ
+  pub others : Took n items rest
+  pub suffix : IsSuffix rest left
+
+-- Which items a run took from the source: those that were handled, and besides them the one that met a fault. A disk
+-- fault of the opening took none.
+abbrev pub Takes : Status → ℕ → List Item → List ℕ → Type 0
+Takes ended.Done handled items left = Took handled items left
+Takes ended.Budget handled items left = Took handled items left
+Takes ended.SourceFault handled items left = TookAndFailed handled items left
+Takes ended.DiskFault handled items left = Took (handled + 1) items left ⊎ ((handled ≡ 0) × Took 0 items left)
+Takes ended.SinkFault handled items left = Took (handled + 1) items left
+Takes ended.NoMemory handled items left = TookAndFailed handled items left ⊎ Took (handled + 1) items left
+Takes ended.Usage handled items left = Took 0 items left
+Takes ended.NotAStore handled items left = Took 0 items left
 
 -- a part of what the next item's turn writes
 pub record NextPart (root : Root) (items : List Item) (s : State) (readings : List Reading) (old new : List ℕ) : Type 0 where
@@ -47,14 +66,18 @@ Prints ended.NoMemory root items s readings old new = new ≡ old ++ output_of (
 Prints ended.NotAStore root items s readings old new = new ≡ old ++ output_of (run root s [] readings)
 Prints ended.Budget root items s readings old new = new ≡ old ++ output_of (run root s [] readings)
 
--- A run from a state: some items were handled, one after another. The readings are those of the handled items.
-pub record Ran (root : Root) (items : List Item) (s : State) (payloads : List (List ℕ)) (tells_out tells_files : Bool) (budget : ℕ) (status : Status) (old new : View) : Type 0 where
+-- A run from a state: some items were handled, one after another. The readings are those of the handled items, and `left`
+-- are the bytes that the source has left.
+pub record Ran {H : Type 0} (view : H → View) (root : Root) (items : List Item) (s : State) (payloads : List (List ℕ)) (tells_out tells_files : Bool) (budget : ℕ) (status : Status) (left : List ℕ) (old new : View) : Type 0 where
   pub readings : List Reading
   pub read : AreRead root items readings
   pub ends : Ends status (length readings) (length items) budget
+  pub taken : Takes status (length readings) items left
   pub output : IsTrue tells_out → Prints status root items s readings old.out new.out
   -- at Done and Budget the files give the payloads found and then those of the commits
   pub kept : IsTrue tells_files → (status ≡ ended.Done) ⊎ (status ≡ ended.Budget) → Gives new.bytes 1 (payloads_after payloads (run root s [] readings))
+  -- at each moment a crash finds a prefix of the commits that has every reported one
+  pub crash : IsTrue tells_out → IsTrue tells_files → Crashes view status root items s readings old new
 
 -- why a run stops before its end
 abbrev pub Faults : Status → ℕ → ℕ → View → View → Type 0
@@ -69,6 +92,7 @@ Faults ended.Budget before after old new = Unit {0}
 
 -- the files are no store, and stand as they did; nothing was written
 pub record LeavesForeign (tells_files : Bool) (old new : View) : Type 0 where
+  pub refused : IsTrue tells_files → (file : FileId) × IsRefused file old.bytes
   pub no_store : IsTrue tells_files → IsNoStore old.bytes
   pub bytes : IsTrue tells_files → new.bytes ≡ old.bytes
   pub out : new.out ≡ old.out
@@ -94,3 +118,14 @@ IsServed ended.NoMemory = Unit {0}
 IsServed ended.Budget = Unit {0}
 IsServed ended.Usage = ⊥
 IsServed ended.NotAStore = ⊥
+
+-- no count of faults rose
+pub record NoFaults (before after : ℕ) (old new : View) : Type 0 where
+  pub source : ¬ Rises before after
+  pub disk : ¬ Rises old.disk_faults new.disk_faults
+  pub sink : ¬ Rises old.sink_faults new.sink_faults
+
+-- A run over files that are a store's, of fewer items than the budget, in which no count of faults rose, comes to the
+-- end of its source, or to want of memory.
+abbrev pub Completes : List Item → ℕ → Status → ℕ → ℕ → View → View → Type 0
+Completes items budget status before after old new = Keeps old → length items < budget → NoFaults before after old new → (status ≡ ended.Done) ⊎ (status ≡ ended.NoMemory)

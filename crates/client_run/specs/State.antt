@@ -3,7 +3,7 @@ use Rattle.std.specs.Prelude.{◌≡◌, ℕ, ◌+◌, ◌<◌, List, [], ◌∷
 use Rattle.std.specs.Cmp.Lexicographic.{pointwise}
 use Rattle.host_api.specs.Host.{Files}
 use Rattle.disk_journal.specs.File.{Gives}
-use Rattle.value_model.specs.declared.fields.Field.{Field}
+use Rattle.value_model.specs.Data.{Entries}
 use Rattle.mutations.specs.declared.Batch.{Batch}
 use Rattle.record_codec.specs.declared.commit.Commit.{Commit}
 use Rattle.record_codec.specs.declared.commit.Commit.TheVariants.{Enqueue}
@@ -41,9 +41,9 @@ abbrev pub same_key : List (List ℕ) → List (List ℕ) → Bool
 same_key = pointwise (pointwise nat_eq)
 
 -- a document after a batch: an update of its key replaces all fields
-abbrev pub after_batch : List (List ℕ) → Option (List Field) → Batch → Option (List Field)
+abbrev pub after_batch : List (List ℕ) → Option Entries → Batch → Option Entries
 after_batch key document batch = if same_key batch.write.key key then Some batch.write.fields else document
 
 -- the document of a key: nothing, and then every pending batch, in order
-unfoldable pub local_document : List Batch → List (List ℕ) → Option (List Field)
+unfoldable pub local_document : List Batch → List (List ℕ) → Option Entries
 local_document batches key = fold (after_batch key) None batches

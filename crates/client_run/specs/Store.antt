@@ -1,7 +1,9 @@
 -- What an open store stands for.
 use Rattle.std.specs.Prelude.{◌≡◌, ℕ, List, [], ◌∷◌, ◌++◌, Result, IfOk}
 use Rattle.host_api.specs.Counts.{Rises}
+use Rattle.host_api.specs.declared.host.FileId.{FileId}
 use Rattle.host_api.specs.Host.{Files, View, Spans}
+use Rattle.disk_journal.specs.File.{IsForeign, IsFirstForeign, Gives, GoesOn}
 use Rattle.disk_journal.specs.Steps.{GivesBeforeOrAfter}
 use Rattle.disk_journal.specs.Place.{IsOpen}
 use Rattle.disk_journal.specs.declared.fault.OpenFault.{OpenFault}
@@ -24,10 +26,20 @@ pub record IsStored (store : LocalStore) (payloads : List (List ℕ)) (v : View)
 abbrev pub IsNoStore : Files → Type 0
 IsNoStore files = (s : State) → FindsState files s → ⊥
 
+-- Why two files are no store. This one is the first that is neither blank nor in the grammar; or each is one of these, this
+-- one counts, and its payloads aren't the commits of a store.
+pub data IsRefused (file : FileId) (files : Files) : Type 0 where
+  foreign : IsFirstForeign file files → IsRefused file files
+  no_commits : ((each : FileId) → ¬ IsForeign (files each)) → GoesOn files file → (generation : ℕ) (payloads : List (List ℕ)) → Gives files generation payloads → ((s : State) → generation ≡ 1 → Replays start payloads s → ⊥) → IsRefused file files
+
+-- files that are refused are no store
+abbrev pub RefusedFilesAreNoStore : Type 0
+RefusedFilesAreNoStore = (file : FileId) (files : Files) → IsRefused file files → IsNoStore files
+
 -- A refusal of the files has its cause in them, and leaves each byte as it was.
 abbrev pub Refuses : OpenFault → View → View → Type 0
 Refuses fault.DiskFault old new = Unit {0}
-Refuses (fault.NotAStore file) old new = IsNoStore old.bytes × (new.bytes ≡ old.bytes)
+Refuses (fault.NotAStore file) old new = IsRefused file old.bytes × (new.bytes ≡ old.bytes)
 Refuses fault.NoMemory old new = Unit {0}
 
 -- A commit whose payload this is: what a read gives, and what a crash now or at any moment of the call may have left,

@@ -1,6 +1,6 @@
 -- JSON objects with one to four members.
 use Rattle.std.specs.Prelude.{ℕ, List}
-use Rattle.serde_json.specs.Data.{Data, object, Members, no_members, member}
+use Rattle.serde_json.specs.Data.{Data, object, no_members, member}
 
 -- an object with this member alone
 abbrev pub one : List ℕ → Data → Data

@@ -1,7 +1,6 @@
 -- What one line does: at most one commit, and the lines that answer it; and the run of a list of lines.
 use Rattle.std.specs.Prelude.{ℕ, ◌+◌, List, [], ◌∷◌, ◌++◌, length, Option, Some, None}
 use Rattle.document_keys.specs.Names.{Root}
-use Rattle.mutations.specs.declared.Batch.{Batch}
 use Rattle.record_codec.specs.declared.commit.Commit.{Commit}
 use Rattle.record_codec.specs.declared.commit.Commit.TheVariants.{Enqueue}
 use Rattle.record_codec.specs.Spelling.{spelling}

@@ -1,10 +1,11 @@
-ghost use Rattle.std.specs.Prelude.{◌≡◌, ◌↔◌, ℕ, List, map, IsTrue};
+ghost use Rattle.std.specs.Prelude.{◌≡◌, ◌≢◌, ◌↔◌, ℕ, List, map, IsTrue};
 ghost use Rattle.std.specs.String.{string_bytes};
 ghost use Rattle.host_api.specs.Items.{split};
 ghost use Rattle.client_run.specs.Words.{AreRun, default_root};
+ghost use Rattle.client_run.specs.Crash.{Keeps};
 ghost use Rattle.client_run.specs.State.{State, FindsState};
 ghost use Rattle.client_run.specs.Store.{IsNoStore};
-ghost use Rattle.client_run.specs.Run.{Ran, Faults, LeavesForeign, IsRefusal};
+ghost use Rattle.client_run.specs.Run.{Ran, Faults, Completes, LeavesForeign, IsRefusal};
 
 use crate::running::run_within;
 use crate::status::Status;
@@ -14,7 +15,7 @@ use std::alloc::Global;
 
 /// What the program does for its words, which leave out its name: `run DIR` runs the lines of the source over the store that
 /// the host keeps, for the database `projects/demo/databases/(default)`, at most 4,294,967,296 of them. The host stands for
-/// the folder; its path isn't read here.
+/// the folder; its path isn't read here. What a crash leaves is said at [`run_within`].
 ///
 /// # Errors
 /// `Usage` exactly where the words aren't `run DIR` with a DIR that isn't empty and doesn't begin with `-`: nothing is read
@@ -30,9 +31,12 @@ pub fn run_client<S: Source, H: Host>(
     ensures usage { (result ≡ Status.Usage → AreRun (map string_bytes words.now) → ⊥) × ((AreRun (map string_bytes words.now) → ⊥) → result ≡ Status.Usage) }
     ensures untouched { result ≡ Status.Usage → (source.new ≡ source.old) × (host.new ≡ host.old) }
     ensures run { IsTrue S.tells → IsTrue H.tells_files → AreRun (map string_bytes words.now) → (s : State) → (finds : FindsState (H.view host.old).bytes s)
-        → Ran default_root (split (S.left source.old)) s finds.payloads H.tells_out H.tells_files 4294967296 result (H.view host.old) (H.view host.new) }
+        → Ran H.view default_root (split (S.left source.old)) s finds.payloads H.tells_out H.tells_files 4294967296 result (S.left source.new) (H.view host.old) (H.view host.new) }
     ensures not_a_store { result ≡ Status.NotAStore → LeavesForeign H.tells_files (H.view host.old) (H.view host.new) }
     ensures no_store { IsTrue H.tells_files → AreRun (map string_bytes words.now) → IsNoStore (H.view host.old).bytes → IsRefusal result }
+    ensures never_kept { IsTrue H.tells_files → Keeps (H.view host.old) → result ≢ Status.NotAStore }
+    ensures keeps { IsTrue H.tells_files → Keeps (H.view host.old) → Keeps (H.view host.new) }
+    ensures completes { IsTrue S.tells → IsTrue H.tells_files → AreRun (map string_bytes words.now) → Completes (split (S.left source.old)) 4294967296 result (S.faults source.old) (S.faults source.new) (H.view host.old) (H.view host.new) }
     ensures cause { Faults result (S.faults source.old) (S.faults source.new) (H.view host.old) (H.view host.new) }
 {
     if !are_run(words) {

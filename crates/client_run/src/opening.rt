@@ -2,7 +2,7 @@ ghost use Rattle.std.specs.Prelude.{◌≡◌, ℕ, ◌+◌, ◌^◌, ◌≤◌,
 ghost use Rattle.host_api.specs.Host.{KeepsOut};
 ghost use Rattle.host_api.specs.Counts.{Rises};
 ghost use Rattle.disk_journal.specs.File.{Gives};
-ghost use Rattle.disk_journal.specs.Steps.{Opens};
+ghost use Rattle.disk_journal.specs.Steps.{Opens, SettlesFirst};
 ghost use Rattle.client_run.specs.State.{State, start, Replays};
 ghost use Rattle.client_run.specs.Store.{IsStored, Refuses};
 
@@ -55,6 +55,7 @@ impl LocalStore {
         ensures stored { IfOk result (λ store. IsTrue H.tells_files → (payloads : List (List ℕ)) × Gives (H.view host.old).bytes 1 payloads × IsStored store payloads (H.view host.new)) }
         ensures refused { IfErr result (λ fault. IsTrue H.tells_files → Refuses fault (H.view host.old) (H.view host.new)) }
         ensures files { IsTrue H.tells_files → Opens (H.view host.old) (H.view host.new) }
+        ensures settled { IsTrue H.tells_files → SettlesFirst H.view result (H.view host.old) (H.view host.new) }
         ensures out { KeepsOut (H.view host.old) (H.view host.new) }
         ensures later { (H.view host.old).disk_faults ≤ (H.view host.new).disk_faults }
         ensures cause { IsErrOf result OpenFault.DiskFault → Rises (H.view host.old).disk_faults (H.view host.new).disk_faults }

@@ -2,16 +2,15 @@ ghost use Rattle.std.specs.Prelude.{◌≡◌, ℕ, ◌++◌, List, [], ◌∷�
 ghost use Rattle.std.specs.String.{string_bytes};
 ghost use Rattle.serde_json.specs.View.{view};
 ghost use Rattle.serde_json.specs.Written.{has_float};
-ghost use Rattle.serde_json.specs.Data.{string};
 ghost use Rattle.document_keys.specs.Names.{Root, name_text};
-ghost use Rattle.client_run.specs.Trees.{one};
-ghost use Rattle.client_run.specs.Output.{line_of, ok_tree, too_long_tree, bad_line_tree, unsupported_tree, refused_tree, fields_tree, value_tree, missing_tree, empty_tree, found_tree, document_tree};
+ghost use Rattle.client_run.specs.Output.{line_of, ok_tree, too_long_tree, bad_line_tree, unsupported_tree, refused_tree, missing_tree, empty_tree, found_tree, document_tree};
 
 use crate::refusal::Refusal;
 use document_keys::{Database, DocumentKey, NoMemory};
-use serde_json::{Map, Value as Json, json};
+use json_model::print_fields;
+use serde_json::{Value as Json, json};
 use std::alloc::{AllocError, Global};
-use value_model::{Field, Fields, Value};
+use value_model::Fields;
 
 /// The tree as a line, with its newline.
 #[tactic(auto, unfolding(crate::specs::Output::line_of))]
@@ -68,38 +67,6 @@ pub fn print_refusal(alloc: Global, line: u64, refusal: &Refusal) -> Result<Stri
     print_line(alloc, &json)
 }
 
-fn integer_json(alloc: Global, text: &str) -> Result<Json, AllocError>
-    ensures { IfOk result (λ json. view json ≡ one (codes "integerValue") (string text.now)) }
-{
-    json!(in alloc; {"integerValue": text})
-}
-
-/// The tree of a value.
-fn value_json(alloc: Global, value: &Value) -> Result<Json, NoMemory>
-    ensures { IfOk result (λ json. view json ≡ value_tree value.now) }
-{
-    match value {
-        Value::Integer(number) => {
-            let text = number.to_string(alloc)?;
-            Ok(integer_json(alloc, text.as_str())?)
-        }
-    }
-}
-
-/// The tree of fields.
-#[tactic(auto, unfolding(crate::specs::Output::fields_tree))]
-fn fields_json(alloc: Global, fields: &[Field]) -> Result<Json, NoMemory>
-    ensures digits { IfOk result (λ json. has_float (view json) ≡ false) }
-    ensures tree { IfOk result (λ json. view json ≡ fields_tree fields.now) }
-{
-    let mut members = Map::new(alloc);
-    for field in fields {
-        let name = String::from_str(alloc, field.name.as_str())?;
-        members.insert(name, value_json(alloc, &field.value)?)?;
-    }
-    Ok(Json::Object(members))
-}
-
 fn missing_json(alloc: Global, name: &str) -> Result<Json, AllocError>
     ensures { IfOk result (λ json. view json ≡ missing_tree name.now) }
 {
@@ -122,11 +89,10 @@ fn document_json(alloc: Global, name: &str, fields: &Fields) -> Result<Json, NoM
     ensures digits { IfOk result (λ json. has_float (view json) ≡ false) }
     ensures tree { IfOk result (λ json. (root : Root) (key : List (List ℕ)) → name.now ≡ name_text root key → view json ≡ document_tree root key (Some fields.now)) }
 {
-    let fields = fields.as_slice();
-    if fields.is_empty() {
+    if fields.len() == 0 {
         return Ok(empty_json(alloc, name)?);
     }
-    let fields = fields_json(alloc, fields)?;
+    let fields = print_fields(alloc, fields)?;
     Ok(found_json(alloc, name, fields)?)
 }
 

@@ -1,8 +1,9 @@
 ghost use Rattle.std.specs.Prelude.{◌≡◌, ◌≢◌, ℕ, ◌≤◌, List, IsTrue};
 ghost use Rattle.host_api.specs.Items.{split};
+ghost use Rattle.client_run.specs.Crash.{Keeps};
 ghost use Rattle.client_run.specs.State.{State, FindsState};
 ghost use Rattle.client_run.specs.Store.{IsNoStore};
-ghost use Rattle.client_run.specs.Run.{Ran, Faults, LeavesForeign, IsRefusal};
+ghost use Rattle.client_run.specs.Run.{Ran, Faults, Completes, LeavesForeign, IsRefusal};
 
 use crate::local_store::LocalStore;
 use crate::serving::serve;
@@ -13,7 +14,8 @@ use host_api::{Host, Source};
 use std::alloc::Global;
 
 /// A run of at most `budget` lines over the database `root`: the store is opened, and then each line is read, and what it
-/// commits is on the disk before its answer goes out.
+/// commits is on the disk before its answer goes out. So wherever a crash comes, the files find the state after the first
+/// commits of the run, among which is every one that a whole `ok` line names; and files of a store stay such.
 ///
 /// # Errors
 /// `NotAStore` exactly where the files, being read, aren't those of a store: nothing is changed then, and nothing is
@@ -28,9 +30,12 @@ pub fn run_within<S: Source, H: Host>(
 ) -> Status
     requires budget { 1 ≤ budget }
     ensures run { IsTrue S.tells → IsTrue H.tells_files → (s : State) → (finds : FindsState (H.view host.old).bytes s)
-        → Ran root (split (S.left source.old)) s finds.payloads H.tells_out H.tells_files budget result (H.view host.old) (H.view host.new) }
+        → Ran H.view root (split (S.left source.old)) s finds.payloads H.tells_out H.tells_files budget result (S.left source.new) (H.view host.old) (H.view host.new) }
     ensures not_a_store { result ≡ Status.NotAStore → LeavesForeign H.tells_files (H.view host.old) (H.view host.new) }
     ensures no_store { IsTrue H.tells_files → IsNoStore (H.view host.old).bytes → IsRefusal result }
+    ensures never_kept { IsTrue H.tells_files → Keeps (H.view host.old) → result ≢ Status.NotAStore }
+    ensures keeps { IsTrue H.tells_files → Keeps (H.view host.old) → Keeps (H.view host.new) }
+    ensures completes { IsTrue S.tells → IsTrue H.tells_files → Completes (split (S.left source.old)) budget result (S.faults source.old) (S.faults source.new) (H.view host.old) (H.view host.new) }
     ensures words { result ≢ Status.Usage }
     ensures cause { Faults result (S.faults source.old) (S.faults source.new) (H.view host.old) (H.view host.new) }
 {

@@ -1,5 +1,6 @@
 ghost use Rattle.std.specs.Prelude.{◌≡◌, ℕ, ◌≤◌, List, length, IsTrue};
 ghost use Rattle.host_api.specs.Items.{split};
+ghost use Rattle.client_run.specs.Crash.{Keeps};
 ghost use Rattle.client_run.specs.Store.{IsStored, state_of};
 ghost use Rattle.client_run.specs.Run.{Ran, Faults, IsServed};
 
@@ -22,7 +23,8 @@ pub fn serve<S: Source, H: Host>(
 ) -> Status
     requires stored { IsTrue H.tells_files → (payloads : List (List ℕ)) × IsStored store payloads (H.view host.old) }
     ensures run { IsTrue S.tells → (payloads : List (List ℕ)) → (IsTrue H.tells_files → IsStored store payloads (H.view host.old))
-        → Ran root.now (split (S.left source.old)) (state_of store) payloads H.tells_out H.tells_files budget result (H.view host.old) (H.view host.new) }
+        → Ran H.view root.now (split (S.left source.old)) (state_of store) payloads H.tells_out H.tells_files budget result (S.left source.new) (H.view host.old) (H.view host.new) }
+    ensures keeps { IsTrue H.tells_files → Keeps (H.view host.new) }
     ensures serving { IsServed result }
     ensures cause { Faults result (S.faults source.old) (S.faults source.new) (H.view host.old) (H.view host.new) }
 {

@@ -170,16 +170,29 @@ fn survives(rt: &HostRuntime, host: &MemHost, calls: u64, len0: u64) -> Result<b
     Ok(found)
 }
 
+// the host of a run whose call after these fails, so that its output is what stood after them
+fn host_stopped_after(rt: &HostRuntime, calls: u64) -> Result<MemHost, Fail> {
+    let mut host = host_over(rt, &[], &[], &[calls.saturating_add(1)])?;
+    let _ = run_lines(rt, &[GET, WRITE, GET], &mut host)?;
+    Ok(host)
+}
+
 #[test]
 fn crashes(rt: HostRuntime) -> Result<(), Fail> {
     let mut host = host_over(&rt, &[], &[], &[])?;
-    assert_eq!(rt; run_lines(&rt, &[WRITE], &mut host)?, Status::Done);
-    // the last two calls are the second sync of the append, and the answer
-    let reported = host.calls().saturating_sub(1);
+    assert_eq!(rt;
+        run_lines(&rt, &[GET, WRITE, GET], &mut host)?,
+        Status::Done
+    );
+    let reported = format!(in rt.alloc(); "{MISSING}{OK}")?;
+    let mut stands = false;
     for calls in 0..=host.calls() {
+        let stopped = host_stopped_after(&rt, calls)?;
+        stands = stopped.output().starts_with(reported.as_str().as_bytes());
         let short = survives(&rt, &host, calls, 0)?;
         let long = survives(&rt, &host, calls, u64::MAX)?;
-        assert!(rt; calls < reported || (short && long));
+        assert!(rt; !stands || (short && long));
     }
+    assert!(rt; stands);
     Ok(())
 }

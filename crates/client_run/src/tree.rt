@@ -1,8 +1,8 @@
 ghost use Rattle.std.specs.Prelude.{◌≡◌, ℕ, ◌<◌, ◌^◌, List, length, IfOk, IfSome, MatchOption};
 ghost use Rattle.serde_json.specs.View.{view};
 ghost use Rattle.serde_json.specs.Data.{Data, string};
-ghost use Rattle.value_model.specs.declared.fields.Field.{Field as FieldData};
-ghost use Rattle.value_model.specs.declared.value.Value.{Value as ValueData};
+ghost use Rattle.value_model.specs.Data.{Data as ValueData, Entries};
+ghost use Rattle.value_model.specs.Named.{field_data};
 ghost use Rattle.value_model.specs.declared.timestamp.Timestamp.{Timestamp as TimestampData};
 ghost use Rattle.mutations.specs.declared.Write.{Write as WriteData};
 ghost use Rattle.client_run.specs.Grammar.{SpellsValue, SpellsField, SpellsFields, SpellsWrite, SpellsWriteLine, SpellsGetLine, Spells};
@@ -19,7 +19,7 @@ use document_keys::{Database, DocumentKey, NoMemory, Text};
 use mutations::Write;
 use serde_json::Value as Json;
 use std::alloc::Global;
-use value_model::{Field, Fields, Timestamp, Value};
+use value_model::{Field, Fields, Kind, Timestamp, Value};
 
 /// The value that a tree spells.
 fn read_value(alloc: Global, json: &Json) -> Result<Option<Value>, NoMemory>
@@ -36,14 +36,15 @@ fn read_value(alloc: Global, json: &Json) -> Result<Option<Value>, NoMemory>
     let Some(number) = read_integer(alloc, text)? else {
         return Ok(None);
     };
-    Ok(Some(Value::Integer(number)))
+    let kind = Kind::Integer(number);
+    Ok(Some(Value { kind }))
 }
 
 /// The field that a member of `fields` spells.
 fn read_field(alloc: Global, name: &str, json: &Json) -> Result<Option<Field>, NoMemory>
     ensures { IfOk result (λ found. MatchOption found
-        ((field : FieldData) → SpellsField (name.now, view json.now) field → ⊥)
-        (λ field. SpellsField (name.now, view json.now) field)) }
+        ((field : List ℕ × ValueData) → SpellsField (name.now, view json.now) field → ⊥)
+        (λ field. SpellsField (name.now, view json.now) (field_data field))) }
 {
     if !is_plain_field(name) {
         return Ok(None);
@@ -59,7 +60,7 @@ fn read_field(alloc: Global, name: &str, json: &Json) -> Result<Option<Field>, N
 fn read_fields(alloc: Global, json: &Json) -> Result<Option<Fields>, NoMemory>
     ensures many { IfOk result (λ found. IfSome found (λ fields. length fields < 2 ^ 64)) }
     ensures is { IfOk result (λ found. MatchOption found
-        ((fields : List FieldData) → SpellsFields (view json.now) fields → ⊥)
+        ((fields : Entries) → SpellsFields (view json.now) fields → ⊥)
         (λ fields. SpellsFields (view json.now) fields)) }
 {
     let Json::Object(map) = json else {

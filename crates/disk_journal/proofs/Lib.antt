@@ -1,9 +1,10 @@
-pub mod Held
-pub mod Lists
+pub mod Appending
 pub mod Files
 pub mod Formats
-pub mod Appending
+pub mod Held
+pub mod Lists
+pub mod Once
 pub mod Openings
 pub mod Pairs
 pub mod Parts
-pub mod Once
+pub mod Settling

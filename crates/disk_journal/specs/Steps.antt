@@ -1,11 +1,13 @@
 -- What a call on a journal does to the files.
-use Rattle.std.specs.Prelude.{◌≡◌, ℕ, List, [], ◌∷◌, ◌++◌, length, ◌⊎◌, Result, OnOk, IfOk}
+use Rattle.std.specs.Prelude.{◌≡◌, ℕ, List, [], ◌∷◌, ◌++◌, length, ◌⊎◌, Result, Ok, Err, OnOk, IfOk}
 use Rattle.host_api.specs.declared.host.FileId.{FileId}
 use Rattle.host_api.specs.declared.host.FileId.TheVariants.{One}
 use Rattle.host_api.specs.declared.host.Failed.{Failed}
-use Rattle.host_api.specs.Host.{Files, View, Torn, over, IsOnDisk, Spans, Steps}
+use Rattle.host_api.specs.Host.{Files, View, Torn, over, IsOnDisk, Spans, Stays, Steps}
 use Rattle.disk_journal.specs.File.{AreBlank, Gives}
 use Rattle.disk_journal.specs.Place.{Place, IsOpen}
+use Rattle.disk_journal.specs.declared.fault.OpenFault.{OpenFault}
+use Rattle.disk_journal.specs.declared.fault.OpenFault.TheVariants as fault
 
 -- the piece stands in the file, and on the disk
 pub record HasLanded (file : FileId) (at : ℕ) (piece : List ℕ) (old new : View) : Type 0 where
@@ -41,3 +43,24 @@ pub record Opens (old new : View) : Type 0 where
   pub second : new.bytes One ≡ old.bytes One
   pub crash : (c : Files) → new.may_leave c → old.may_leave c ⊎ GiveSame old.bytes c
   pub time : Spans old new (λ o c. (o ≡ old.out) × (old.may_leave c ⊎ GiveSame old.bytes c))
+
+-- a pair is that of old, or gives the same
+abbrev pub IsOrGivesSame : Files → Files → Type 0
+IsOrGivesSame old c = ((file : FileId) → c file ≡ old file) ⊎ GiveSame old c
+
+-- The host as the two opening syncs left it: up to then nothing changed, so that a crash left what it might have left
+-- before. From then on it leaves what the files read, or what gives the same.
+pub record Settled {H : Type 0} (view : H → View) (old new : View) : Type 0 where
+  pub host : H
+  pub out : (view host).out ≡ old.out
+  pub stays : Stays old (view host)
+  pub on_disk : (file : FileId) → IsOnDisk file (view host)
+  pub time : Spans (view host) new (λ o c. (o ≡ old.out) × IsOrGivesSame old.bytes c)
+  pub crash : (c : Files) → new.may_leave c → IsOrGivesSame old.bytes c
+
+-- An opening settles both files first. Only a disk fault may come before that, and nothing changed then.
+abbrev pub SettlesFirst : {H T : Type 0} → (H → View) → Result T OpenFault → View → View → Type 0
+SettlesFirst view (Ok opened) old new = Settled view old new
+SettlesFirst view (Err fault.DiskFault) old new = Stays old new ⊎ Settled view old new
+SettlesFirst view (Err (fault.NotAStore file)) old new = Settled view old new
+SettlesFirst view (Err fault.NoMemory) old new = Settled view old new

@@ -5,7 +5,7 @@ ghost use Rattle.disk_journal.specs.Place.{Place, IsOpen};
 ghost use Rattle.disk_journal.specs.File.{AreBlank, Gives, GoesOn};
 ghost use Rattle.host_api.specs.declared.host.FileId.TheVariants.{Zero};
 ghost use Rattle.disk_journal.specs.Opening.{IsCause};
-ghost use Rattle.disk_journal.specs.Steps.{Appends, Opens};
+ghost use Rattle.disk_journal.specs.Steps.{Appends, Opens, SettlesFirst};
 
 use crate::choice::{Choice, choose};
 use crate::fault::OpenFault;
@@ -64,6 +64,7 @@ impl Journal {
         ensures small { IfOk result (λ o. (length o.2.items ≤ o.0.end) × (o.0.end ≤ 2 ^ 62)) }
         ensures place { IfOk result (λ o. o.1 ≡ o.0.file) }
         ensures files { IsTrue H.tells_files → Opens (H.view host.old) (H.view host.new) }
+        ensures settled { IsTrue H.tells_files → SettlesFirst H.view result (H.view host.old) (H.view host.new) }
         ensures out { KeepsOut (H.view host.old) (H.view host.new) }
         ensures later { (H.view host.old).disk_faults ≤ (H.view host.new).disk_faults }
         ensures cause { IfErr result (λ fault. IsCause H.tells_files fault (H.view host.old) (H.view host.new)) }

@@ -4,6 +4,7 @@ ghost use Rattle.host_api.specs.Host.{KeepsOut, Stays, IsOnDisk};
 ghost use Rattle.host_api.specs.declared.host.FileId.{FileId};
 ghost use Rattle.disk_journal.specs.Reading.{IsReading, IsWithin};
 ghost use Rattle.disk_journal.specs.Opening.{IsReadCause, Settles, Seen};
+ghost use Rattle.disk_journal.specs.Steps.{SettlesFirst};
 
 use crate::fault::OpenFault;
 use crate::reading::{Reading, reading_of};
@@ -64,6 +65,7 @@ pub(crate) fn look<H: Host>(alloc: Global, host: &mut H) -> Result<(Reading, Rea
     ensures readings { IfOk result (λ r. IsTrue H.tells_files → Seen r.0 r.1 (H.view host.new)) }
     ensures within { IfOk result (λ r. IsWithin r.0 × IsWithin r.1) }
     ensures files { IsTrue H.tells_files → Stays (H.view host.old) (H.view host.new) }
+    ensures settled { IsTrue H.tells_files → SettlesFirst H.view result (H.view host.old) (H.view host.new) }
     ensures out { KeepsOut (H.view host.old) (H.view host.new) }
     ensures later { (H.view host.old).disk_faults ≤ (H.view host.new).disk_faults }
     ensures cause { IfErr result (λ fault. IsReadCause fault (H.view host.old) (H.view host.new)) }

@@ -3,7 +3,7 @@ use Rattle.std.proofs.Common.{◌≡◌, ◌≢◌, ℕ, ◌^◌, ◌<◌, List,
 use Rattle.std.proofs.lemmas.List.{append-nil, append_cancel_left}
 use Rattle.value_model.specs.Time.{IsMoment}
 use Rattle.value_model.specs.declared.timestamp.Timestamp.{Timestamp}
-use Rattle.value_model.specs.declared.fields.Field.{Field}
+use Rattle.value_model.specs.Data.{Entries}
 use Rattle.mutations.specs.declared.Write.{Write}
 use Rattle.mutations.specs.declared.Batch.{Batch}
 use Rattle.record_codec.specs.declared.commit.Commit.{Commit}
@@ -11,7 +11,9 @@ use Rattle.record_codec.specs.declared.commit.Commit.TheVariants.{Enqueue}
 use Rattle.record_codec.specs.Spelling.{number, key, time, fields, write, batch, spelling, IsSpelledKey, AreSpelledFields, IsSpelledWrite, IsSpelledBatch, HasSpelling}
 use Rattle.record_codec.specs.Reading.{Begins, BeginsNone}
 use Rattle.record_codec.proofs.Wide.{unique_number}
-use Rattle.record_codec.proofs.Unique.{plain, write_on, batch_on, unique_key, unique_fields, unique_time, unique_commit}
+use Rattle.record_codec.proofs.Unique.{plain, write_on, batch_on, unique_key, unique_time}
+use Rattle.record_codec.proofs.Values.{unique_fields}
+use Rattle.record_codec.proofs.OneCommit.{unique_commit}
 use Rattle.record_codec.proofs.Forms.{next}
 
 abbrev IsWord : ℕ → Type 0
@@ -35,16 +37,16 @@ from_fields : (bytes rest : List ℕ) (k : List (List ℕ)) (after : List ℕ) �
     → (k ≡ w.key) × (after ≡ fields w.fields ++ (plain ++ more))
 from_fields bytes rest k after first second w more b = next key IsSpelledKey unique_key rest k after second w.key (fields w.fields ++ (plain ++ more)) b.fits.key (from_key bytes rest first w more b)
 
-pub write_no_fields : (bytes rest : List ℕ) (k : List (List ℕ)) (after : List ℕ) → bytes ≡ 1 ∷ rest → Begins key IsSpelledKey rest k after → BeginsNone fields AreSpelledFields after → BeginsNone write IsSpelledWrite bytes
+pub write_no_fields : (bytes rest : List ℕ) (k : List (List ℕ)) (after : List ℕ) → bytes ≡ 1 ∷ rest → Begins key IsSpelledKey rest k after → BeginsNone fields (AreSpelledFields 20) after → BeginsNone write IsSpelledWrite bytes
 write_no_fields bytes rest k after first second none w more b = none w.fields (plain ++ more) (record { parts = (from_fields bytes rest k after first second w more b).1; fits = b.fits.fields })
 
-pub write_not_plain : (bytes rest : List ℕ) (k : List (List ℕ)) (after : List ℕ) (fs : List Field) (end : List ℕ) → bytes ≡ 1 ∷ rest → Begins key IsSpelledKey rest k after → Begins fields AreSpelledFields after fs end
+pub write_not_plain : (bytes rest : List ℕ) (k : List (List ℕ)) (after : List ℕ) (fs : Entries) (end : List ℕ) → bytes ≡ 1 ∷ rest → Begins key IsSpelledKey rest k after → Begins fields (AreSpelledFields 20) after fs end
     → ((more : List ℕ) → end ≢ plain ++ more) → BeginsNone write IsSpelledWrite bytes
 write_not_plain bytes rest k after fs end first second third not w more b =
-    let is = next fields AreSpelledFields unique_fields after fs end third w.fields (plain ++ more) b.fits.fields (from_fields bytes rest k after first second w more b).1 in
+    let is = next fields (AreSpelledFields 20) (unique_fields 20) after fs end third w.fields (plain ++ more) b.fits.fields (from_fields bytes rest k after first second w more b).1 in
     not more is.1
 
-pub write_read : (bytes rest : List ℕ) (k : List (List ℕ)) (after : List ℕ) (fs : List Field) (end more : List ℕ) → bytes ≡ 1 ∷ rest → Begins key IsSpelledKey rest k after → Begins fields AreSpelledFields after fs end → end ≡ plain ++ more
+pub write_read : (bytes rest : List ℕ) (k : List (List ℕ)) (after : List ℕ) (fs : Entries) (end more : List ℕ) → bytes ≡ 1 ∷ rest → Begins key IsSpelledKey rest k after → Begins fields (AreSpelledFields 20) after fs end → end ≡ plain ++ more
     → Begins write IsSpelledWrite bytes (record { key = k; fields = fs }) more
 write_read bytes rest k after fs end more first second third fourth = record {
   parts = first ∙ ap (λ (r : List ℕ). 1 ∷ r) (second.parts ∙ ap (λ (r : List ℕ). key k ++ r) (third.parts ∙ ap (λ (r : List ℕ). fields fs ++ r) fourth)) ∙ sym (write_on (record { key = k; fields = fs }) more);

@@ -1,8 +1,13 @@
 pub mod Batches
+pub mod Entries
 pub mod Forms
-pub mod Parts
-pub mod Shown
+pub mod Leaves
+pub mod Moments
+pub mod OneCommit
+pub mod Puts
+pub mod Tagged
+pub mod Tags
 pub mod Texts
 pub mod Unique
+pub mod Values
 pub mod Wide
-pub mod Puts

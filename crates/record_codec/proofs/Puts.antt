@@ -22,3 +22,7 @@ unfolding time
 time_put old one two bytes t fits first second is =
     second ∙ (λ i. first i ++ is i) ∙ ap (λ (z : _). (old ++ number (cast_unsigned w64 z)) ++ to_be_bytes w32 t.nanos) (to_z-of_z w64 t.seconds fits)
     ∙ append_assoc old (number (cast_unsigned w64 t.seconds)) (to_be_bytes w32 t.nanos)
+
+-- a byte, and then what stands behind it
+pub byte_put : (old one two body whole : List ℕ) (tag : ℕ) → one ≡ old ++ tag ∷ [] → two ≡ one ++ body → whole ≡ tag ∷ body → two ≡ old ++ whole
+byte_put old one two body whole tag first second is = second ∙ ap (λ (r : List ℕ). r ++ body) first ∙ append_assoc old (tag ∷ []) body ∙ ap (λ (r : List ℕ). old ++ r) (sym is)

@@ -6,13 +6,9 @@ use Rattle.std.proofs.lemmas.Int.{ints}
 use Rattle.std.proofs.lemmas.List.Elements.{recursion_from_All}
 use Rattle.value_model.specs.Time.{IsMoment}
 use Rattle.value_model.specs.declared.timestamp.Timestamp.{Timestamp}
-use Rattle.value_model.specs.declared.value.Value.TheVariants.{Integer}
-use Rattle.value_model.specs.declared.fields.Field.{Field}
 use Rattle.mutations.specs.declared.Write.{Write}
 use Rattle.mutations.specs.declared.Batch.{Batch}
-use Rattle.record_codec.specs.declared.commit.Commit.{Commit}
-use Rattle.record_codec.specs.declared.commit.Commit.TheVariants.{Enqueue}
-use Rattle.record_codec.specs.Spelling.{number, text, key, time, value, field, fields, write, batch, spelling, IsNameText, IsSegmentText, IsSpelledValue, IsSpelledField, IsSpelledKey, AreSpelledFields, IsSpelledWrite, IsSpelledBatch, HasSpelling}
+use Rattle.record_codec.specs.Spelling.{number, text, key, time, fields, write, batch, IsNameText, IsSegmentText, IsSpelledKey}
 use Rattle.record_codec.proofs.Wide.{IsUnique, fronts, unique_wide, wide32, unique_number, unique_signed}
 
 -- ---- how a spelling goes on
@@ -28,14 +24,6 @@ key_on k s = append_assoc (number (length k)) (flat_map text k) s
 pub time_on : (t : Timestamp) (s : List ℕ) → time t ++ s ≡ number (cast_unsigned w64 t.seconds) ++ (to_be_bytes w32 t.nanos ++ s)
 unfolding time
 time_on t s = append_assoc (number (cast_unsigned w64 t.seconds)) (to_be_bytes w32 t.nanos) s
-
-pub field_on : (f : Field) (s : List ℕ) → field f ++ s ≡ text f.name ++ (value f.value ++ s)
-unfolding field
-field_on f s = append_assoc (text f.name) (value f.value) s
-
-pub fields_on : (fs : List Field) (s : List ℕ) → fields fs ++ s ≡ number (length fs) ++ (flat_map field fs ++ s)
-unfolding fields
-fields_on fs s = append_assoc (number (length fs)) (flat_map field fs) s
 
 -- no mask, no transform and no precondition
 abbrev pub plain : List ℕ
@@ -113,47 +101,3 @@ short_name s fits = omega (arith, fits.field.long.most)
 
 pub unique_name : IsUnique text IsNameText
 unique_name = unique_narrower text IsShort IsNameText short_name unique_text
-
-pub unique_value : IsUnique value IsSpelledValue
-unique_value (Integer a) (Integer b) s t fits_a fits_b e =
-    let n = unique_signed a b s t fits_a fits_b cc in
-    (ap Integer n.0, n.1)
-
-pub unique_field : IsUnique field IsSpelledField
-unique_field a b s t fits_a fits_b e =
-    let n = unique_name a.name b.name (value a.value ++ s) (value b.value ++ t) fits_a.name fits_b.name (sym (field_on a s) ∙ e ∙ field_on b t) in
-    let v = unique_value a.value b.value s t fits_a.value fits_b.value n.1 in
-    ((λ i. record { name = n.0 i; value = v.0 i }), v.1)
-
-pub unique_fields : IsUnique fields AreSpelledFields
-unique_fields a b s t fits_a fits_b e =
-    let n = unique_number (length a) (length b) (flat_map field a ++ s) (flat_map field b ++ t) fits_a.many fits_b.many (sym (fields_on a s) ∙ e ∙ fields_on b t) in
-    unique_many field IsSpelledField unique_field a b s t n.0 (recursion_from_All IsSpelledField a fits_a.each) (recursion_from_All IsSpelledField b fits_b.each) n.1
-
--- ---- commits
-
-behind : (x y : ℕ) (s t : List ℕ) → x ∷ s ≡ y ∷ t → s ≡ t
-behind x y s t e = cc
-
-pub unique_write : IsUnique write IsSpelledWrite
-unique_write a b s t fits_a fits_b e =
-    let from_key = behind 1 1 _ _ (sym (write_on a s) ∙ e ∙ write_on b t) in
-    let k = unique_key a.key b.key (fields a.fields ++ (plain ++ s)) (fields b.fields ++ (plain ++ t)) fits_a.key fits_b.key from_key in
-    let f = unique_fields a.fields b.fields (plain ++ s) (plain ++ t) fits_a.fields fits_b.fields k.1 in
-    ((λ i. record { key = k.0 i; fields = f.0 i }), (fronts plain plain s t refl f.1).1)
-
-pub unique_batch : IsUnique batch IsSpelledBatch
-unique_batch a b s t fits_a fits_b e =
-    let n = unique_number a.id b.id (time a.at ++ (number 1 ++ (write a.write ++ s))) (time b.at ++ (number 1 ++ (write b.write ++ t))) fits_a.id fits_b.id (sym (batch_on a s) ∙ e ∙ batch_on b t) in
-    let m = unique_time a.at b.at (number 1 ++ (write a.write ++ s)) (number 1 ++ (write b.write ++ t)) fits_a.at fits_b.at n.1 in
-    let w = unique_write a.write b.write s t fits_a.write fits_b.write (fronts (number 1) (number 1) (write a.write ++ s) (write b.write ++ t) refl m.1).1 in
-    ((λ i. record { id = n.0 i; at = m.0 i; write = w.0 i }), w.1)
-
-pub unique_commit : IsUnique spelling HasSpelling
-unfolding spelling
-unique_commit (Enqueue a) (Enqueue b) s t fits_a fits_b e =
-    let same = unique_batch a b s t fits_a fits_b (behind 1 1 (batch a ++ s) (batch b ++ t) (behind 1 1 (1 ∷ (batch a ++ s)) (1 ∷ (batch b ++ t)) e)) in
-    (ap Enqueue same.0, same.1)
-
-pub one_value : (a b : Commit) → HasSpelling a → HasSpelling b → spelling a ≡ spelling b → a ≡ b
-one_value a b fits_a fits_b e = (unique_commit a b [] [] fits_a fits_b (ap (λ (bytes : List ℕ). bytes ++ []) e)).0

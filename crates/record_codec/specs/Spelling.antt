@@ -1,16 +1,16 @@
 -- Commits as bytes. Numbers are big-endian, signed ones two's complement.
-use Rattle.std.specs.Prelude.{ℕ, ◌<◌, ◌^◌, List, [], ◌∷◌, ◌++◌, length, flat_map, FitsSigned}
+use Rattle.std.specs.Prelude.{ℕ, ◌<◌, ◌≤◌, if◌then◌else◌, ◌^◌, List, [], ◌∷◌, ◌++◌, length, flat_map}
 use Rattle.std.specs.List.{All}
 use Rattle.std.specs.Int.{w32, w64, to_be_bytes, cast_unsigned}
 use Rattle.std.specs.Str.{IsUtf8}
 use Rattle.document_keys.specs.Names.{IsKey, IsSegment}
 use Rattle.document_keys.specs.Paths.{IsFieldName}
 use Rattle.value_model.specs.Time.{IsMoment}
-use Rattle.value_model.specs.Fields.{IsAscending}
+use Rattle.value_model.specs.Data as kind
+use Rattle.value_model.specs.Data.{Data, Items, Members, Entries, list_of, entries_of, depth, entries_depth}
+use Rattle.value_model.specs.Storable.{IsStorable, AreStorable}
 use Rattle.value_model.specs.declared.timestamp.Timestamp.{Timestamp}
-use Rattle.value_model.specs.declared.value.Value.{Value}
-use Rattle.value_model.specs.declared.value.Value.TheVariants.{Integer}
-use Rattle.value_model.specs.declared.fields.Field.{Field}
+use Rattle.value_model.specs.declared.reference.RefName.{RefName}
 use Rattle.mutations.specs.declared.Write.{Write}
 use Rattle.mutations.specs.declared.Batch.{Batch}
 use Rattle.record_codec.specs.declared.commit.Commit.{Commit}
@@ -32,17 +32,40 @@ key segments = number (length segments) ++ flat_map text segments
 unfoldable pub time : Timestamp → List ℕ
 time t = number (cast_unsigned w64 t.seconds) ++ to_be_bytes w32 t.nanos
 
--- 2, and the whole number
-abbrev pub value : Value → List ℕ
-value (Integer z) = 2 ∷ number (cast_unsigned w64 z)
+-- the project, the database and the key
+unfoldable pub name : RefName → List ℕ
+name r = text r.project ++ (text r.database ++ key r.key)
 
--- the name, and the value
-unfoldable pub field : Field → List ℕ
-field f = text f.name ++ value f.value
+-- A byte for the kind, and what it holds: a boolean as 0 or 1, a whole number, a time, a text, bytes, the parts of a name, or
+-- the number of items or members and each of them. A time that isn't known yet is in nothing that has a spelling.
+unfoldable mutual
+  pub value : Data → List ℕ
+  value kind.null = 0 ∷ []
+  value (kind.boolean b) = 1 ∷ (if b then 1 else 0) ∷ []
+  value (kind.integer z) = 2 ∷ number (cast_unsigned w64 z)
+  value (kind.time t) = 3 ∷ time t
+  value (kind.pending t) = 4 ∷ time t
+  value (kind.text s) = 5 ∷ text s
+  value (kind.bytes s) = 6 ∷ text s
+  value (kind.reference r) = 7 ∷ name r
+  value (kind.array ds) = 8 ∷ (number (length (list_of ds)) ++ items ds)
+  value (kind.map ms) = 9 ∷ (number (length (entries_of ms)) ++ members ms)
+
+  pub items : Items → List ℕ
+  items kind.no_items = []
+  items (kind.item d ds) = value d ++ items ds
+
+  pub members : Members → List ℕ
+  members kind.no_members = []
+  members (kind.member n d ms) = text n ++ (value d ++ members ms)
+
+-- a name, and its value
+unfoldable pub entry : List ℕ × Data → List ℕ
+entry e = text e.0 ++ value e.1
 
 -- the number of fields, and each
-unfoldable pub fields : List Field → List ℕ
-fields fs = number (length fs) ++ flat_map field fs
+unfoldable pub fields : Entries → List ℕ
+fields es = number (length es) ++ flat_map entry es
 
 -- 1 for an update, key and fields; then no mask, no transform and no precondition
 unfoldable pub write : Write → List ℕ
@@ -71,14 +94,10 @@ pub record IsSegmentText (name : List ℕ) : Type 0 where
   pub utf8 : IsUtf8 name
   pub segment : IsSegment name
 
--- a whole number of 64 bits with sign
-abbrev pub IsSpelledValue : Value → Type 0
-IsSpelledValue (Integer z) = FitsSigned w64 z
-
--- a field that has a spelling
-pub record IsSpelledField (f : Field) : Type 0 where
-  pub name : IsNameText f.name
-  pub value : IsSpelledValue f.value
+-- a value that can be stored, nested at most so deep
+pub record IsSpelledValue (limit : ℕ) (d : Data) : Type 0 where
+  pub storable : IsStorable d
+  pub nested : depth d ≤ limit
 
 -- a key of UTF-8 segments, whose number eight bytes have
 pub record IsSpelledKey (segments : List (List ℕ)) : Type 0 where
@@ -86,16 +105,15 @@ pub record IsSpelledKey (segments : List (List ℕ)) : Type 0 where
   pub texts : All IsUtf8 segments
   pub many : length segments < 2 ^ 64
 
--- fields that each have a spelling, strictly ascending by name, whose number eight bytes have
-pub record AreSpelledFields (fs : List Field) : Type 0 where
-  pub each : All IsSpelledField fs
-  pub many : length fs < 2 ^ 64
-  pub ascending : IsAscending fs
+-- fields that can be stored, whose values are nested at most so deep
+pub record AreSpelledFields (limit : ℕ) (es : Entries) : Type 0 where
+  pub storable : AreStorable es
+  pub nested : entries_depth es ≤ limit
 
--- an update that has a spelling
+-- an update that has a spelling: its values are nested at most 20 deep
 pub record IsSpelledWrite (w : Write) : Type 0 where
   pub key : IsSpelledKey w.key
-  pub fields : AreSpelledFields w.fields
+  pub fields : AreSpelledFields 20 w.fields
 
 -- a batch that has a spelling: its id fits eight bytes, and its time is one of the years 1 to 9999
 pub record IsSpelledBatch (b : Batch) : Type 0 where
@@ -106,11 +124,3 @@ pub record IsSpelledBatch (b : Batch) : Type 0 where
 -- what has a spelling
 abbrev pub HasSpelling : Commit → Type 0
 HasSpelling (Enqueue b) = IsSpelledBatch b
-
--- what the code's types leave open of whether a commit has a spelling: the range of its time and the names of its fields
-pub record IsSoundBatch (b : Batch) : Type 0 where
-  pub at : IsMoment b.at
-  pub names : All (λ (f : Field). IsFieldName f.name) b.write.fields
-
-abbrev pub IsSound : Commit → Type 0
-IsSound (Enqueue b) = IsSoundBatch b

@@ -4,9 +4,10 @@ ghost use Rattle.record_codec.specs.Reading.{Reads};
 
 use crate::commit::Commit;
 use crate::fault::ReadError;
-use crate::fields::{fields_of, time_of};
+use crate::fields::fields_of;
 use crate::names::key_of;
 use crate::numbers::{after, u64_of};
+use crate::times::time_of;
 use mutations::{Batch, Write};
 use std::alloc::Global;
 
@@ -19,6 +20,9 @@ pub(crate) const ENQUEUE: u8 = 1;
 /// The byte that begins an update among the writes.
 pub(crate) const UPDATE: u8 = 1;
 
+/// How deep the values of a document may be nested.
+const DEPTH: u32 = 20;
+
 /// What ends an update: no mask, an empty list of transforms, no precondition.
 pub(crate) const PLAIN: [u8; 10] = [0, 0, 0, 0, 0, 0, 0, 0, 0, 0];
 
@@ -28,7 +32,7 @@ fn write_of(alloc: Global, bytes: &[u8]) -> Result<(Write, &[u8]), ReadError>
 {
     let rest = after(bytes, &[UPDATE])?;
     let (key, rest) = key_of(alloc, rest)?;
-    let (fields, rest) = fields_of(alloc, rest)?;
+    let (fields, rest) = fields_of(alloc, DEPTH, rest)?;
     let rest = after(rest, &PLAIN)?;
     Ok((Write { key, fields }, rest))
 }

@@ -1,79 +1,122 @@
-ghost use Rattle.std.specs.Prelude.{◌≡◌, ◌↔◌, IsTrue, flat_map};
-ghost use Rattle.value_model.specs.Time.{IsMoment};
-ghost use Rattle.record_codec.specs.Spelling.{time, value, field, fields, IsSpelledValue, IsSpelledField, AreSpelledFields};
+ghost use Rattle.std.specs.Prelude.{◌≡◌, ◌+◌, ◌∷◌, flat_map};
+ghost use Rattle.record_codec.specs.Spelling.{value, fields, IsSpelledValue, AreSpelledFields};
 ghost use Rattle.record_codec.specs.Reading.{Reads, AreMany};
+ghost use Rattle.record_codec.specs.Kinds.{field, IsSpelledField};
 
 use crate::fault::ReadError;
 use crate::names::name_of;
-use crate::numbers::{after, i64_of, u32_of, u64_of};
+use crate::numbers::u64_of;
+use crate::scalars::scalar_of;
 use std::alloc::Global;
-use value_model::{Field, Fields, Timestamp, Value};
+use value_model::{Field, Fields, Value};
 
-/// The byte that begins a whole number among the values.
-pub(crate) const INTEGER: u8 = 2;
+/// The byte that begins an array among the values.
+pub(crate) const ARRAY: u8 = 8;
 
-/// Whether the time lies in the years 1 to 9999, and has less than a second of nanoseconds.
-fn is_moment(at: &Timestamp) -> bool
-    ensures { IsTrue result ↔ IsMoment at.now }
+/// The byte that begins a map.
+pub(crate) const MAP: u8 = 9;
+
+/// A value that is nested at most so deep, and what follows it.
+#[cycle(values)]
+fn value_of(alloc: Global, limit: u32, bytes: &[u8]) -> Result<(Value, &[u8]), ReadError>
+    ensures { Reads value (IsSpelledValue limit) bytes.now (λ x. (x.0, x.1.now)) result }
 {
-    if at.seconds < -62_135_596_800 || at.seconds > 253_402_300_799 {
-        return false;
-    }
-    at.nanos < 1_000_000_000
-}
-
-/// A time, and what follows it.
-pub(crate) fn time_of(bytes: &[u8]) -> Result<(Timestamp, &[u8]), ReadError>
-    ensures { Reads time IsMoment bytes.now (λ x. (x.0, x.1.now)) result }
-{
-    let (seconds, rest) = i64_of(bytes)?;
-    let (nanos, rest) = u32_of(rest)?;
-    let at = Timestamp { seconds, nanos };
-    if is_moment(&at) {
-        Ok((at, rest))
-    } else {
-        Err(ReadError::NotSpelled)
+    let Some((tag, rest)) = bytes.split_first() else {
+        return Err(ReadError::NotSpelled);
+    };
+    match *tag {
+        ARRAY => array_of(alloc, limit, rest),
+        MAP => map_of(alloc, limit, rest),
+        tag => scalar_of(alloc, tag, rest),
     }
 }
 
-/// A value, and what follows it.
-fn value_of(bytes: &[u8]) -> Result<(Value, &[u8]), ReadError>
-    ensures { Reads value IsSpelledValue bytes.now (λ x. (x.0, x.1.now)) result }
+/// So many values, and what follows them.
+#[cycle(values)]
+fn values_of(
+    alloc: Global,
+    limit: u32,
+    count: u64,
+    bytes: &[u8],
+) -> Result<(Vec<Value>, &[u8]), ReadError>
+    ensures { Reads (flat_map value) (AreMany (IsSpelledValue limit) count) bytes.now (λ x. (x.0.items, x.1.now)) result }
 {
-    let rest = after(bytes, &[INTEGER])?;
-    let (number, rest) = i64_of(rest)?;
-    Ok((Value::Integer(number), rest))
+    let mut values = Vec::new(alloc);
+    let mut rest = bytes;
+    for _ in 0..count {
+        let (value, next) = value_of(alloc, limit, rest)?;
+        values.push(value)?;
+        rest = next;
+    }
+    Ok((values, rest))
 }
 
-/// A field, and what follows it.
-fn field_of(alloc: Global, bytes: &[u8]) -> Result<(Field, &[u8]), ReadError>
-    ensures { Reads field IsSpelledField bytes.now (λ x. (x.0, x.1.now)) result }
+/// What follows the byte of an array that is nested at most so deep, and what follows that.
+#[cycle(values)]
+fn array_of(alloc: Global, limit: u32, bytes: &[u8]) -> Result<(Value, &[u8]), ReadError>
+    ensures { Reads value (IsSpelledValue limit) (8 ∷ bytes.now) (λ x. (x.0, x.1.now)) result }
+{
+    if limit == 0 {
+        return Err(ReadError::NotSpelled);
+    }
+    let (count, rest) = u64_of(bytes)?;
+    let (values, rest) = values_of(alloc, limit - 1, count, rest)?;
+    Ok((Value::array(values), rest))
+}
+
+/// What follows the byte of a map that is nested at most so deep, and what follows that.
+#[cycle(values)]
+fn map_of(alloc: Global, limit: u32, bytes: &[u8]) -> Result<(Value, &[u8]), ReadError>
+    ensures { Reads value (IsSpelledValue limit) (9 ∷ bytes.now) (λ x. (x.0, x.1.now)) result }
+{
+    if limit == 0 {
+        return Err(ReadError::NotSpelled);
+    }
+    let (content, rest) = fields_of(alloc, limit - 1, bytes)?;
+    Ok((Value::map(content), rest))
+}
+
+/// A field whose value is nested at most so deep, and what follows it.
+#[cycle(values)]
+fn field_of(alloc: Global, limit: u32, bytes: &[u8]) -> Result<(Field, &[u8]), ReadError>
+    ensures { Reads field (IsSpelledField limit) bytes.now (λ x. (x.0, x.1.now)) result }
 {
     let (name, rest) = name_of(alloc, bytes)?;
-    let (value, rest) = value_of(rest)?;
+    let (value, rest) = value_of(alloc, limit, rest)?;
     Ok((Field { name, value }, rest))
 }
 
 /// So many fields, and what follows them.
-fn entries_of(alloc: Global, count: u64, bytes: &[u8]) -> Result<(Vec<Field>, &[u8]), ReadError>
-    ensures { Reads (flat_map field) (AreMany IsSpelledField count) bytes.now (λ x. (x.0.items, x.1.now)) result }
+#[cycle(values)]
+fn entries_of(
+    alloc: Global,
+    limit: u32,
+    count: u64,
+    bytes: &[u8],
+) -> Result<(Vec<Field>, &[u8]), ReadError>
+    ensures { Reads (flat_map field) (AreMany (IsSpelledField limit) count) bytes.now (λ x. (x.0.items, x.1.now)) result }
 {
     let mut entries = Vec::new(alloc);
     let mut rest = bytes;
     for _ in 0..count {
-        let (entry, next) = field_of(alloc, rest)?;
+        let (entry, next) = field_of(alloc, limit, rest)?;
         entries.push(entry)?;
         rest = next;
     }
     Ok((entries, rest))
 }
 
-/// The fields of a document, and what follows them.
-pub(crate) fn fields_of(alloc: Global, bytes: &[u8]) -> Result<(Fields, &[u8]), ReadError>
-    ensures { Reads fields AreSpelledFields bytes.now (λ x. (x.0, x.1.now)) result }
+/// Fields whose values are nested at most so deep, and what follows them.
+#[cycle(values)]
+pub(crate) fn fields_of(
+    alloc: Global,
+    limit: u32,
+    bytes: &[u8],
+) -> Result<(Fields, &[u8]), ReadError>
+    ensures { Reads fields (AreSpelledFields limit) bytes.now (λ x. (x.0, x.1.now)) result }
 {
     let (count, rest) = u64_of(bytes)?;
-    let (entries, rest) = entries_of(alloc, count, rest)?;
+    let (entries, rest) = entries_of(alloc, limit, count, rest)?;
     match Fields::from_entries(entries) {
         Some(content) => Ok((content, rest)),
         None => Err(ReadError::NotSpelled),

@@ -8,10 +8,12 @@ mod fields;
 mod laws;
 mod names;
 mod numbers;
+mod scalars;
+mod times;
 mod writing;
 
 pub use commit::{Commit, decode, encode};
-pub use laws::{no_front, one_commit, show_spelling};
+pub use laws::{no_front, one_commit};
 
 #[cfg(test)]
 mod tests;

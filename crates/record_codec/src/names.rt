@@ -8,7 +8,7 @@ use document_keys::{DocumentKey, Segment, Text, check_field_name};
 use std::alloc::Global;
 
 /// A text, lent, and what follows it.
-fn text_of(bytes: &[u8]) -> Result<(&str, &[u8]), ReadError>
+pub(crate) fn text_of(bytes: &[u8]) -> Result<(&str, &[u8]), ReadError>
     ensures { Reads text IsText bytes.now (λ x. (x.0.now, x.1.now)) result }
 {
     let (len, rest) = u64_of(bytes)?;
@@ -23,7 +23,7 @@ fn text_of(bytes: &[u8]) -> Result<(&str, &[u8]), ReadError>
 }
 
 /// A segment, and what follows it.
-fn segment_of(alloc: Global, bytes: &[u8]) -> Result<(Segment, &[u8]), ReadError>
+pub(crate) fn segment_of(alloc: Global, bytes: &[u8]) -> Result<(Segment, &[u8]), ReadError>
     ensures { Reads text IsSegmentText bytes.now (λ x. (x.0, x.1.now)) result }
 {
     let (content, rest) = text_of(bytes)?;

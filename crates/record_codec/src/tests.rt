@@ -1,7 +1,7 @@
 use super::*;
 use std::alloc::Global;
 use std::test::*;
-use value_model::{Timestamp, Value};
+use value_model::Timestamp;
 
 /// An update of `rooms/a` with the field `n` of 1, at 2024-05-01T00:00:01Z.
 const PAYLOAD: [u8; 97] = [
@@ -39,9 +39,71 @@ fn both_ways(rt: HostRuntime) -> Result<(), Fail> {
     assert_eq!(rt; batch.write.key.len(), 2);
     assert_eq!(rt; batch.write.key.segment(0), Some("rooms"));
     assert_eq!(rt; batch.write.key.segment(1), Some("a"));
-    for field in batch.write.fields.as_slice() {
-        assert_eq!(rt; field.name.as_str(), "n");
-        assert_eq!(rt; field.value, Value::Integer(1));
+    assert_eq!(rt; batch.write.fields.name_at(0), Some("n"));
+    Ok(())
+}
+
+/// The spelling of a value in place of the payload's.
+fn with_value(alloc: Global, value: &[u8]) -> Result<Vec<u8>, Fail> {
+    changed(alloc, 78, 87, value)
+}
+
+/// An array of an array and so on, so deep.
+fn nested(alloc: Global, depth: u64) -> Result<Vec<u8>, Fail> {
+    let mut bytes = Vec::new(alloc);
+    for level in 0..depth {
+        let count: u64 = if level + 1 < depth { 1 } else { 0 };
+        bytes.push(8)?;
+        bytes.extend_from_slice(&count.to_be_bytes())?;
+    }
+    Ok(bytes)
+}
+
+#[test]
+fn kinds_both_ways(rt: HostRuntime) -> Result<(), Fail> {
+    let rows: [&[u8]; 11] = [
+        &[0],
+        &[1, 0],
+        &[1, 1],
+        &[2, 0x80, 0, 0, 0, 0, 0, 0, 0],
+        &[3, 0, 0, 0, 0, 0x66, 0x31, 0x86, 1, 0, 0, 0, 9],
+        &[5, 0, 0, 0, 0, 0, 0, 0, 2, 0xc3, 0xa9],
+        &[6, 0, 0, 0, 0, 0, 0, 0, 1, 0xff],
+        &[
+            7, 0, 0, 0, 0, 0, 0, 0, 1, 0x70, 0, 0, 0, 0, 0, 0, 0, 1, 0x64, 0, 0, 0, 0, 0, 0, 0, 2,
+            0, 0, 0, 0, 0, 0, 0, 1, 0x63, 0, 0, 0, 0, 0, 0, 0, 1, 0x61,
+        ],
+        &[8, 0, 0, 0, 0, 0, 0, 0, 2, 0, 1, 1],
+        &[9, 0, 0, 0, 0, 0, 0, 0, 0],
+        &[
+            9, 0, 0, 0, 0, 0, 0, 0, 1, 0, 0, 0, 0, 0, 0, 0, 1, 0x61, 8, 0, 0, 0, 0, 0, 0, 0, 0,
+        ],
+    ];
+    for value in rows {
+        let payload = with_value(rt.alloc(), value)?;
+        let read = decode(rt.alloc(), &payload).ok().ok_or("memory")?;
+        let commit = read.ok_or("the bytes are a commit")?;
+        let written = encode(rt.alloc(), &commit).ok().ok_or("memory")?;
+        assert_eq!(rt; written.as_slice(), payload.as_slice());
+    }
+    let rows: [(&str, &[u8]); 4] = [
+        ("a pending time", &[4, 0, 0, 0, 0, 0, 0, 0, 0, 0, 0, 0, 0]),
+        ("a boolean of 2", &[1, 2]),
+        ("no kind", &[10]),
+        (
+            "a text that isn't UTF-8",
+            &[5, 0, 0, 0, 0, 0, 0, 0, 1, 0xff],
+        ),
+    ];
+    for (what, value) in rows {
+        let payload = with_value(rt.alloc(), value)?;
+        let read = decode(rt.alloc(), &payload).ok().ok_or("memory")?;
+        assert!(rt; read.is_none(), "{what}");
+    }
+    for (depth, reads) in [(20, true), (21, false)] {
+        let payload = with_value(rt.alloc(), &nested(rt.alloc(), depth)?)?;
+        let read = decode(rt.alloc(), &payload).ok().ok_or("memory")?;
+        assert_eq!(rt; read.is_some(), reads);
     }
     Ok(())
 }

@@ -1,13 +1,14 @@
-ghost use Rattle.std.specs.Prelude.{◌≡◌, ◌++◌, OnOk};
+ghost use Rattle.std.specs.Prelude.{◌≡◌, ◌++◌, length, flat_map, OnOk};
 ghost use Rattle.std.specs.Int.{w64, cast_unsigned};
-ghost use Rattle.record_codec.specs.Spelling.{number, text, key, time, value, field, fields, write, batch, spelling};
+ghost use Rattle.record_codec.specs.Spelling.{number, text, key, time, name, value, fields, write, batch, spelling};
 
 use crate::commit::Commit;
 use crate::commits::{ENQUEUE, FORMAT, PLAIN, UPDATE};
-use crate::fields::INTEGER;
+use crate::fields::{ARRAY, MAP};
+use crate::scalars::{BOOLEAN, BYTES, INTEGER, NULL, PENDING, REFERENCE, TEXT, TIME};
 use document_keys::{DocumentKey, NoMemory};
 use mutations::{Batch, Write};
-use value_model::{Field, Fields, Timestamp, Value};
+use value_model::{Fields, Kind, RefName, Timestamp, Value};
 
 fn put_number(out: &mut Vec<u8>, n: u64) -> Result<(), NoMemory>
     ensures { OnOk result (out.new.items ≡ out.old.items ++ number n) }
@@ -55,25 +56,80 @@ fn put_time(out: &mut Vec<u8>, at: Timestamp) -> Result<(), NoMemory>
     Ok(())
 }
 
-fn put_value(out: &mut Vec<u8>, content: Value) -> Result<(), NoMemory>
-    ensures { OnOk result (out.new.items ≡ out.old.items ++ value content) }
+#[tactic(auto, unfolding(crate::specs::Spelling::text))]
+fn put_bytes(out: &mut Vec<u8>, content: &[u8]) -> Result<(), NoMemory>
+    ensures { OnOk result (out.new.items ≡ out.old.items ++ text content.now) }
 {
-    match content {
-        Value::Integer(n) => {
+    put_number(out, content.len() as u64)?;
+    out.extend_from_slice(content)?;
+    Ok(())
+}
+
+#[tactic(auto, unfolding(crate::specs::Spelling::name))]
+fn put_name(out: &mut Vec<u8>, content: &RefName) -> Result<(), NoMemory>
+    ensures { OnOk result (out.new.items ≡ out.old.items ++ name content.now) }
+{
+    put_text(out, content.project.as_str())?;
+    put_text(out, content.database.as_str())?;
+    put_key(out, &content.key)
+}
+
+#[cycle(putting)]
+#[tactic(auto, unfolding(crate::specs::Spelling::value))]
+fn put_value(out: &mut Vec<u8>, content: &Value) -> Result<(), NoMemory>
+    ensures { OnOk result (out.new.items ≡ out.old.items ++ value content.now) }
+{
+    match &content.kind {
+        Kind::Null => out.push(NULL)?,
+        Kind::Boolean(is) => out.extend_from_slice(&[BOOLEAN, *is as u8])?,
+        Kind::Integer(n) => {
             out.push(INTEGER)?;
-            put_signed(out, n)
+            put_signed(out, *n)?;
+        }
+        Kind::Time(time) => {
+            out.push(TIME)?;
+            put_time(out, *time)?;
+        }
+        Kind::Pending(time) => {
+            out.push(PENDING)?;
+            put_time(out, *time)?;
+        }
+        Kind::Text(text) => {
+            out.push(TEXT)?;
+            put_text(out, text.as_str())?;
+        }
+        Kind::Bytes(bytes) => {
+            out.push(BYTES)?;
+            put_bytes(out, bytes.as_slice())?;
+        }
+        Kind::Reference(name) => {
+            out.push(REFERENCE)?;
+            put_name(out, name)?;
+        }
+        Kind::Array(values) => {
+            out.push(ARRAY)?;
+            put_values(out, values)?;
+        }
+        Kind::Map(content) => {
+            out.push(MAP)?;
+            put_fields(out, content)?;
         }
     }
+    Ok(())
 }
 
-#[tactic(auto, unfolding(crate::specs::Spelling::field))]
-fn put_field(out: &mut Vec<u8>, entry: &Field) -> Result<(), NoMemory>
-    ensures { OnOk result (out.new.items ≡ out.old.items ++ field entry.now) }
+#[cycle(putting)]
+fn put_values(out: &mut Vec<u8>, values: &Vec<Value>) -> Result<(), NoMemory>
+    ensures { OnOk result (out.new.items ≡ out.old.items ++ (number (length values.now.items) ++ flat_map value values.now.items)) }
 {
-    put_text(out, entry.name.as_str())?;
-    put_value(out, entry.value)
+    put_number(out, values.len() as u64)?;
+    for value in values {
+        put_value(out, value)?;
+    }
+    Ok(())
 }
 
+#[cycle(putting)]
 #[tactic(auto, unfolding(crate::specs::Spelling::fields))]
 fn put_fields(out: &mut Vec<u8>, content: &Fields) -> Result<(), NoMemory>
     ensures { OnOk result (out.new.items ≡ out.old.items ++ fields content.now) }
@@ -81,7 +137,8 @@ fn put_fields(out: &mut Vec<u8>, content: &Fields) -> Result<(), NoMemory>
     let entries = content.as_slice();
     put_number(out, entries.len() as u64)?;
     for entry in entries {
-        put_field(out, entry)?;
+        put_text(out, entry.name.as_str())?;
+        put_value(out, &entry.value)?;
     }
     Ok(())
 }

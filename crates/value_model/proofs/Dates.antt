@@ -1,5 +1,5 @@
 -- Dates that the calendar has.
-use Rattle.std.proofs.Common.{◌≡◌, ℕ, ◌<◌, ◌≤◌, Some, ℤ, pos, FitsSigned, w8, w16, w64, to_z, of_z, ◌≤ℤ◌, neg_ℤ, inl, inr, rules, arith, refl, ap, sym, ◌∙◌, subst}
+use Rattle.std.proofs.Common.{◌≡◌, ℕ, ◌<◌, Some, ℤ, pos, FitsSigned, w8, w16, w64, to_z, of_z, ◌≤ℤ◌, neg_ℤ, inl, inr, rules, arith, refl, ap, ◌∙◌}
 use Rattle.std.specs.Int.{IsInRange}
 use Rattle.std.proofs.lemmas.Bool.{le-leb}
 use Rattle.std.proofs.lemmas.Int.{ints, to_z-of_z}
@@ -12,7 +12,7 @@ use Rattle.jiff_core.proofs.MarchLemmas.{day_count-early}
 use Rattle.jiff_core.proofs.DateLemmas.{cases_date, epoch_day-lt, epoch_day_same}
 use Rattle.value_model.specs.Time.{date_of}
 
-found : (y m d : ℕ) (r : ℤ) → 0 < y → IsInRange 1 12 m → IsInRange 1 (days_in_month (pos y) m) d → r ≡ days_from_civil (pos y) m d → Some r ≡ date_of y m d
+pub found : (y m d : ℕ) (r : ℤ) → 0 < y → IsInRange 1 12 m → IsInRange 1 (days_in_month (pos y) m) d → r ≡ days_from_civil (pos y) m d → Some r ≡ date_of y m d
 found y m d r positive month day is =
     rw (le-leb 1 y positive, le-leb 1 m month.0, le-leb m 12 month.1, le-leb 1 d day.0, le-leb d (days_in_month (pos y) m) day.1) (ap Some is)
 
@@ -49,4 +49,16 @@ late_day d year =
       ])
       | inr (inl after) ↦ omega (arith, signed_arith, days_from_civil-first, epoch_day-lt first_date d after)
       | inr (inr same) ↦ omega (arith, signed_arith, days_from_civil-first, epoch_day_same d first_date same.0 same.1 same.2)
+    ]
+
+pub early_year : (d : Date) → neg_ℤ (pos 719162) ≤ℤ epoch_day d → pos 1 ≤ℤ d.year
+unfolding first_date
+early_year d late =
+    elim (cases_date d first_date) [
+      | inl before ↦ absurd (omega (arith, signed_arith, days_from_civil-first, epoch_day-lt d first_date before))
+      | inr (inl after) ↦ elim after [
+        | inl lt ↦ omega (arith, signed_arith, lt)
+        | inr (same, rest) ↦ omega (arith, signed_arith, same)
+      ]
+      | inr (inr same) ↦ omega (arith, signed_arith, same.0)
     ]

@@ -1,5 +1,5 @@
 -- depths of the values that a loop has seen
-use Rattle.std.proofs.Common.{◌≡◌, ◌∙◌, ℕ, zero, suc, ◌+◌, ◌<◌, ◌≤◌, List, [], ◌∷◌, length, get_or, take, sym, ap, subst, add-one, arith}
+use Rattle.std.proofs.Common.{◌≡◌, ℕ, zero, suc, ◌+◌, ◌<◌, ◌≤◌, List, [], ◌∷◌, length, get_or, take, sym, subst, add-one, arith}
 use Rattle.value_model.specs.declared.fields.Field.{Field}
 use Rattle.value_model.specs.Data.{Data, depth, items_depth, items_of, entries_depth}
 use Rattle.value_model.specs.Named.{fields_data}

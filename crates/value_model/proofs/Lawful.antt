@@ -1,5 +1,5 @@
 -- the laws of values and their order
-use Rattle.std.proofs.Common.{◌≡◌, ◌∙◌, ◌⊎◌, inl, inr, Ordering, Less, Equal, Greater, refl, sym, subst, lit<}
+use Rattle.std.proofs.Common.{◌≡◌, ◌∙◌, ◌⊎◌, inl, inr, Ordering, Less, Equal, Greater, refl, subst, lit<}
 use Rattle.std.specs.Cmp.{tied_itself}
 use Rattle.value_model.specs.Data.{Data}
 use Rattle.value_model.specs.Order.{Before, kind_first, RanksValues}

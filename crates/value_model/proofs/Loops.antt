@@ -1,12 +1,12 @@
 -- the loops of a comparison: over the items of arrays, and over the fields of maps
-use Rattle.std.proofs.Common.{◌≡◌, ◌≢◌, ◌∙◌, ℕ, suc, ◌+◌, ◌<◌, ◌≤◌, Bool, true, false, Ordering, Less, Equal, Greater, List, [], ◌∷◌, ◌++◌, length, get_or, take, min, refl, sym, ap, arith}
+use Rattle.std.proofs.Common.{◌≡◌, ◌≢◌, ◌∙◌, ℕ, suc, ◌+◌, ◌<◌, true, false, Ordering, Equal, List, [], ◌∷◌, ◌++◌, length, get_or, take, min, refl, sym, ap, arith}
 use Rattle.std.specs.Cmp.{tied_itself}
 use Rattle.std.specs.Cmp.Lexicographic.{slice_cmp}
 use Rattle.std.specs.Ordering.{ordering_then, nat_cmp, is_ne}
 use Rattle.std.proofs.lemmas.List.{get_or-map, get_or_default, take_more}
 use Rattle.document_keys.proofs.Order.{texts_compute}
 use Rattle.value_model.specs.declared.fields.Field.{Field}
-use Rattle.value_model.specs.Data.{Data, Entries, array_of, map_of}
+use Rattle.value_model.specs.Data.{Data, array_of, map_of}
 use Rattle.value_model.specs.Named.{field_data, fields_data}
 use Rattle.value_model.specs.Order.{RanksValues}
 use Rattle.value_model.proofs.Exact.{cmp, itself, ranks_values, ranked_by, items_cmp, field_cmp, members_cmp}

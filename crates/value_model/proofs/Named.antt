@@ -1,10 +1,9 @@
 -- the names of fields: that each is a field's name, and that they ascend
-use Rattle.std.proofs.Common.{◌≡◌, ◌∙◌, Bool, true, is_ge, ℕ, zero, suc, ◌+◌, ◌-◌, ◌<◌, ◌≤◌, Ordering, Less, List, [], ◌∷◌, length, get_or, refl, sym, ap, subst, arith}
+use Rattle.std.proofs.Common.{◌≡◌, ◌∙◌, Bool, true, is_ge, ℕ, zero, suc, ◌+◌, ◌-◌, ◌<◌, Less, List, [], ◌∷◌, length, get_or, refl, sym, ap, subst, arith}
 use Rattle.std.specs.Cmp.Lexicographic.{slice_cmp}
 use Rattle.std.specs.Ordering.{nat_cmp}
 use Rattle.std.specs.List.{All, AllPairs, AllAdjacentBelow}
 use Rattle.std.specs.Map.{keys_of}
-use Rattle.std.proofs.lemmas.List.{get_or-map}
 use Rattle.document_keys.specs.Order.{TextBefore}
 use Rattle.document_keys.proofs.Order.{texts_compute}
 use Rattle.value_model.specs.declared.fields.Field.{Field}

@@ -1,8 +1,8 @@
 -- the parts of arrays and maps, as lists and as data
-use Rattle.std.proofs.Common.{◌≡◌, ℕ, zero, suc, ◌+◌, ◌<◌, ◌≤◌, List, [], ◌∷◌, length, get_or, refl, ap, arith}
+use Rattle.std.proofs.Common.{◌≡◌, ℕ, zero, suc, ◌<◌, ◌≤◌, List, [], ◌∷◌, length, get_or, refl, ap, arith}
 use Rattle.std.specs.List.{All}
 use Rattle.std.proofs.lemmas.List.Elements.{All-cons, All-head, All-nil, All-tail}
-use Rattle.value_model.specs.Data.{Data, Items, no_items, item, Members, no_members, member, Entries, items_of, list_of, members_of, entries_of, array, map, depth, items_depth, entries_depth}
+use Rattle.value_model.specs.Data.{Data, Items, no_items, item, Members, no_members, member, Entries, items_of, list_of, members_of, entries_of, depth, items_depth, entries_depth}
 use Rattle.value_model.specs.Storable.{IsStorable, AreStorableItems, AreStorableMembers}
 
 pub list_items : (ds : List Data) → list_of (items_of ds) ≡ ds

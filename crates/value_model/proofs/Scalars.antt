@@ -1,6 +1,6 @@
 -- comparisons of two steps, and the orders of the scalar kinds
-use Rattle.std.proofs.Common.{◌≡◌, ◌≢◌, ◌∙◌, ◌⊎◌, inl, inr, ℕ, zero, suc, ◌<◌, ℤ, ◌<ℤ◌, Bool, true, false, Ordering, Less, Equal, Greater, List, [], ◌∷◌, length, get_or, take, min, refl, sym, ap, arith}
-use Rattle.std.specs.Cmp.{IsTotalOrder, nat_cmp_total, int_cmp_total, nat_cmp_is, int_cmp_is, on_total, then_total}
+use Rattle.std.proofs.Common.{◌≡◌, ◌≢◌, ◌∙◌, ◌⊎◌, inl, inr, ℕ, zero, suc, ◌<◌, ◌<ℤ◌, Ordering, Less, Equal, Greater, List, [], ◌∷◌, length, get_or, take, min, refl, sym, ap, arith}
+use Rattle.std.specs.Cmp.{nat_cmp_total, int_cmp_total, nat_cmp_is, int_cmp_is, on_total, then_total}
 use Rattle.std.specs.Cmp.Lexicographic.{slice_cmp}
 use Rattle.std.specs.Ordering.{ordering_then, ordering_reverse, nat_cmp, int_cmp}
 use Rattle.std.proofs.lemmas.Cmp.{ranked, int_ranked}

@@ -1,5 +1,5 @@
 -- an item is smaller than its list, and a field's value than the fields
-use Rattle.std.proofs.Common.{◌≡◌, ℕ, zero, suc, ◌+◌, ◌<◌, ◌≤◌, List, [], ◌∷◌, length, get_or, arith}
+use Rattle.std.proofs.Common.{ℕ, zero, suc, ◌+◌, ◌<◌, ◌≤◌, List, [], ◌∷◌, length, get_or, arith}
 use Rattle.value_model.specs.declared.fields.Field.{Field}
 use Rattle.value_model.specs.Data.{Data, Entries, items_of}
 use Rattle.value_model.specs.Codes.{data_size, items_size, entries_size}

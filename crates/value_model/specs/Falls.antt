@@ -1,5 +1,5 @@
 -- Parts of a value are smaller than it: what the recursions over values rest on. No meaning stands here.
-use Rattle.std.specs.Prelude.{ℕ, ◌+◌, ◌≤◌, max, List, [], ◌∷◌}
+use Rattle.std.specs.Prelude.{◌+◌, ◌≤◌, max, List, [], ◌∷◌}
 use Rattle.std.proofs.Common.{arith}
 use denote.Param.Weighed.{most}
 use Rattle.value_model.specs.declared.fields.Field.{Field}

@@ -2,6 +2,8 @@
 #![tactic(auto)]
 
 mod bytes;
+#[cfg(test)]
+mod copy_tests;
 mod document;
 mod documents;
 mod entries;
@@ -11,7 +13,10 @@ mod message;
 mod names;
 mod nesting;
 mod order;
+mod printing;
 mod reference;
+#[cfg(test)]
+mod store_tests;
 mod target_ids;
 #[cfg(test)]
 mod tests;
@@ -27,6 +32,7 @@ pub use message::{
     ChangeKind, DocumentChange, DocumentDelete, DocumentRemove, ExistenceFilter, ListenResponse,
     TargetChange,
 };
+pub use printing::times_read_back;
 pub use reference::RefName;
 pub use target_ids::TargetIds;
 pub use timestamp::Timestamp;

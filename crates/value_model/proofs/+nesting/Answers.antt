@@ -1,5 +1,3 @@
-use Rattle.std.proofs.Common.{sym, subst, ap}
-use Rattle.value_model.specs.Data.{depth}
 use Rattle.value_model.proofs.Depths.{values_on, values_out, fields_on, fields_out}
 use Rattle.value_model.proofs.+nesting.Goals as goal
 

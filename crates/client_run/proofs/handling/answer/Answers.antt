@@ -1,5 +1,4 @@
-use Rattle.host_api.specs.Host.{Emits}
-use Rattle.std.proofs.Common.{subst, List, ℕ, ◌≡◌, sym, Ok, Err}
+use Rattle.std.proofs.Common.{Ok, Err}
 use Rattle.client_run.proofs.Handled.{emits_stored, answered, emits_as}
 use Rattle.client_run.proofs.handling.answer.Goals as goal
 

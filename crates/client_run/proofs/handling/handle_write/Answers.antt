@@ -1,4 +1,4 @@
-use Rattle.std.proofs.Common.{rules, Ok, Err, ◌∙◌}
+use Rattle.std.proofs.Common.{Ok, Err, ◌∙◌}
 use Rattle.client_run.specs.Turn.{turn}
 use Rattle.client_run.proofs.Handled.{turned_nothing, commit_failed, commit_answered, emits_stored, emits_as}
 use Rattle.client_run.proofs.handling.handle_write.Goals as goal

@@ -1,6 +1,6 @@
-use Rattle.std.proofs.Common.{rules, ◌≡◌, false, IsTrue, Some, None, ◌∙◌, sym}
+use Rattle.std.proofs.Common.{◌∙◌}
 use Rattle.serde_json.specs.View.{view}
-use Rattle.client_run.specs.Reading.{IsJson, an_event, no_event, no_json}
+use Rattle.client_run.specs.Reading.{an_event, no_event, no_json}
 use Rattle.client_run.proofs.line.read_line.Goals as goal
 
 pub returns-in-Err-clause-is : goal.returns-in-Err-clause-is

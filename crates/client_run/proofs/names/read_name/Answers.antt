@@ -1,4 +1,3 @@
-use Rattle.std.proofs.Common.{rules}
 use Rattle.client_run.proofs.Named.{none_if_not_plain, none_if_fault}
 use Rattle.client_run.proofs.names.read_name.Goals as goal
 

@@ -1,4 +1,4 @@
-use Rattle.std.proofs.Common.{rules, codes, ◌≡◌, List, ℕ, ◌∙◌, sym}
+use Rattle.std.proofs.Common.{codes, ◌∙◌}
 use Rattle.client_run.proofs.Numerals.{differ, no_number, no_number_found}
 use Rattle.client_run.proofs.numbers.read_integer.Goals as goal
 

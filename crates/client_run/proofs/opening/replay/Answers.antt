@@ -1,6 +1,4 @@
-use Rattle.std.proofs.Common.{rules, ◌≡◌, ◌+◌, ◌∙◌, length, sym, ap, subst, arith}
-use Rattle.record_codec.specs.declared.commit.Commit.{Commit}
-use Rattle.record_codec.specs.Spelling.{spelling, HasSpelling}
+use Rattle.std.proofs.Common.{◌+◌, ◌∙◌, sym, arith}
 use Rattle.client_run.proofs.Replayed.{stuck, other_id, leads_on, spelled_as}
 use Rattle.client_run.proofs.opening.replay.Goals as goal
 

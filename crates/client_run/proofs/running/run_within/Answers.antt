@@ -1,21 +1,27 @@
-use Rattle.std.proofs.Common.{rules, ◌≡◌, List, ℕ, IsTrue}
-use Rattle.client_run.proofs.Began.{disk_first, memory_first, Opened, finds_of, opened_runs}
+use Rattle.std.proofs.Common.{inr, refl}
+use Rattle.client_run.proofs.Began.{disk_first, memory_first, finds_of, opened_runs, opens_keeps, kept_is_store, completed}
+use Rattle.client_run.proofs.Opened.{refused_is_none}
 use Rattle.client_run.proofs.running.run_within.Goals as goal
 
 pub returns-in-Err-DiskFault-clause-run : goal.returns-in-Err-DiskFault-clause-run
-returns-in-Err-DiskFault-clause-run g c = λ tells told s finds. disk_first _ _ _ _ _ _ _ _ _ c.requires.budget c.in-Err-DiskFault.ensures.out.out
+returns-in-Err-DiskFault-clause-run g c = λ tells told s finds.
+    let settled = rw c.in-Err-DiskFault.field-0-is at c.in-Err-DiskFault.ensures.settled told in
+    disk_first g.H.Host.view _ _ _ _ _ _ _ (g.H.Host.view c.args.host.now) (g.H.Host.view c.open.new.host) c.requires.budget c.in-Err-DiskFault.ensures.out.out finds settled
 
 pub returns-in-Err-NoMemory-clause-run : goal.returns-in-Err-NoMemory-clause-run
-returns-in-Err-NoMemory-clause-run g c = λ tells told s finds. memory_first _ _ _ _ _ _ _ _ _ c.requires.budget c.in-Err-NoMemory.ensures.out.out
+returns-in-Err-NoMemory-clause-run g c = λ tells told s finds.
+    let settled = rw c.in-Err-NoMemory.field-0-is at c.in-Err-NoMemory.ensures.settled told in
+    memory_first g.H.Host.view _ _ _ _ _ _ _ (g.H.Host.view c.args.host.now) (g.H.Host.view c.open.new.host) c.requires.budget c.in-Err-NoMemory.ensures.out.out finds (inr settled)
 
 pub returns-in-Err-NotAStore-clause-run : goal.returns-in-Err-NotAStore-clause-run
 returns-in-Err-NotAStore-clause-run g c = λ tells told s finds.
     let refuses = rw c.in-Err-NotAStore.field-0-is at c.in-Err-NotAStore.ensures.refused told in
-    absurd (refuses.0 s finds)
+    absurd (refused_is_none _ _ refuses.0 s finds)
 
 pub returns-in-Err-NotAStore-clause-not_a_store : goal.returns-in-Err-NotAStore-clause-not_a_store
 returns-in-Err-NotAStore-clause-not_a_store g c = λ is. record {
-  no_store = λ told. let refuses = rw c.in-Err-NotAStore.field-0-is at c.in-Err-NotAStore.ensures.refused told in refuses.0;
+  refused = λ told. let refuses = rw c.in-Err-NotAStore.field-0-is at c.in-Err-NotAStore.ensures.refused told in (_, refuses.0);
+  no_store = λ told. let refuses = rw c.in-Err-NotAStore.field-0-is at c.in-Err-NotAStore.ensures.refused told in refused_is_none _ _ refuses.0;
   bytes = λ told. let refuses = rw c.in-Err-NotAStore.field-0-is at c.in-Err-NotAStore.ensures.refused told in refuses.1;
   out = c.in-Err-NotAStore.ensures.out.out;
 }
@@ -23,9 +29,39 @@ returns-in-Err-NotAStore-clause-not_a_store g c = λ is. record {
 pub returns-clause-run : goal.returns-clause-run
 returns-clause-run g c = λ tells told s finds.
     let st = c.in-Ok.ensures.stored told in
-    opened_runs _ _ s _ _ _ _ c.in-Ok.store _ _ _ finds c.in-Ok.ensures.out.out (record { payloads = st.0; gives = st.1; stored = st.2 }) (λ payloads is. c.serve.ensures.run tells payloads is)
+    opened_runs g.H.Host.view _ _ s _ _ _ _ _ c.in-Ok.store _ _ _ finds c.in-Ok.ensures.out.out (record { payloads = st.0; gives = st.1; stored = st.2 }) (c.in-Ok.ensures.settled told) (λ payloads is. c.serve.ensures.run tells payloads is)
 
 pub returns-clause-no_store : goal.returns-clause-no_store
 returns-clause-no_store g c = λ told none.
     let st = c.in-Ok.ensures.stored told in
     absurd (none _ (finds_of c.in-Ok.store (g.H.Host.view c.args.host.now) (g.H.Host.view c.open.new.host) (record { payloads = st.0; gives = st.1; stored = st.2 })))
+
+pub returns-in-Err-DiskFault-clause-keeps : goal.returns-in-Err-DiskFault-clause-keeps
+returns-in-Err-DiskFault-clause-keeps g c = λ told keeps. opens_keeps (c.in-Err-DiskFault.ensures.files told) (g.met.H.Host.may_stay _ told) keeps
+
+pub returns-in-Err-NotAStore-clause-keeps : goal.returns-in-Err-NotAStore-clause-keeps
+returns-in-Err-NotAStore-clause-keeps g c = λ told keeps. opens_keeps (c.in-Err-NotAStore.ensures.files told) (g.met.H.Host.may_stay _ told) keeps
+
+pub returns-in-Err-NoMemory-clause-keeps : goal.returns-in-Err-NoMemory-clause-keeps
+returns-in-Err-NoMemory-clause-keeps g c = λ told keeps. opens_keeps (c.in-Err-NoMemory.ensures.files told) (g.met.H.Host.may_stay _ told) keeps
+
+pub returns-in-Err-DiskFault-clause-completes : goal.returns-in-Err-DiskFault-clause-completes
+returns-in-Err-DiskFault-clause-completes g c = λ tells told keeps few none.
+    let cause = rw c.in-Err-DiskFault.field-0-is at c.in-Err-DiskFault.ensures.cause in
+    absurd (none.disk (cause refl))
+
+pub returns-in-Err-NotAStore-clause-completes : goal.returns-in-Err-NotAStore-clause-completes
+returns-in-Err-NotAStore-clause-completes g c = λ tells told keeps few none.
+    let refuses = rw c.in-Err-NotAStore.field-0-is at c.in-Err-NotAStore.ensures.refused told in
+    absurd (kept_is_store keeps (refused_is_none _ _ refuses.0))
+
+pub returns-clause-completes : goal.returns-clause-completes
+returns-clause-completes g c = λ tells told keeps few none.
+    let st = c.in-Ok.ensures.stored told in
+    let ran = c.serve.ensures.run tells st.0 (λ files. st.2) in
+    completed c.serve.result _ _ c.args.budget _ _ _ _ _ c.in-Ok.ensures.later c.in-Ok.ensures.out.faults ran.ends c.serve.ensures.cause few none
+
+pub returns-in-Err-NotAStore-clause-never_kept : goal.returns-in-Err-NotAStore-clause-never_kept
+returns-in-Err-NotAStore-clause-never_kept g c = λ told keeps.
+    let refuses = rw c.in-Err-NotAStore.field-0-is at c.in-Err-NotAStore.ensures.refused told in
+    absurd (kept_is_store keeps (refused_is_none _ _ refuses.0))

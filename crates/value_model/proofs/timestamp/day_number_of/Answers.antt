@@ -1,5 +1,5 @@
-use Rattle.std.proofs.Common.{◌≡◌, pos, refl, subst, sym, rules}
-use Rattle.jiff_core.specs.Calendar.{IsEpochDay, days_from_civil}
+use Rattle.std.proofs.Common.{◌≡◌, pos, subst, sym}
+use Rattle.jiff_core.specs.Calendar.{IsEpochDay}
 use Rattle.jiff_core.specs.Date.{epoch_day}
 use Rattle.jiff_core.proofs.DateLemmas.{epoch_day_range}
 use Rattle.value_model.specs.Time.{IsDay}

@@ -1,5 +1,4 @@
-use Rattle.std.proofs.Common.{rules, ◌≡◌, ◌+◌, ◌++◌, ◌∷◌, [], ◌∙◌, sym, ap}
-use Rattle.disk_journal.specs.Place.{Place}
+use Rattle.std.proofs.Common.{◌++◌, ◌∷◌, [], ◌∙◌, ap}
 use Rattle.client_run.proofs.Committed.{nothing_done, append_commits, appends_payload, state_more, replays_more}
 use Rattle.client_run.proofs.local_store.LocalStore.commit.Goals as goal
 

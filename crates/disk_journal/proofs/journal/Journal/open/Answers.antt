@@ -3,6 +3,7 @@ use Rattle.disk_journal.specs.Place.{Place}
 use Rattle.disk_journal.specs.File.{Gives, GoesOn}
 use Rattle.disk_journal.proofs.Appending.{seen_as}
 use Rattle.disk_journal.proofs.Openings.{never_blank, opens_none, opens_after, opens_new, counted_before, fresh_as}
+use Rattle.disk_journal.proofs.Settling.{settled_opens, settles}
 use Rattle.disk_journal.proofs.journal.Journal.open.Goals as goal
 
 pub returns-in_err-zero-clause-files : goal.returns-in_err-zero-clause-files
@@ -49,3 +50,15 @@ returns-in-Counting-clause-first g c told are =
     let seen = c.in_ok-zero.ensures.readings told in
     let counts = c.in-Counting.ensures.choice (g.H.Host.view c.look.new.host).bytes seen.zero_is seen.one_is in
     absurd (never_blank (counted_before (c.look.ensures.files told) counts.0 counts.1) are)
+
+pub returns-in_err-journal-in-Fresh-clause-settled : goal.returns-in_err-journal-in-Fresh-clause-settled
+returns-in_err-journal-in-Fresh-clause-settled g c told =
+    let seen = c.in_ok-zero.ensures.readings told in
+    let blank = c.in-Fresh.ensures.choice (g.H.Host.view c.look.new.host).bytes seen.zero_is seen.one_is in
+    settles g.H.Host.view _ (settled_opens g.H.Host.view c.look.ensures.out.out (c.look.ensures.files told).bytes (c.in_ok-zero.ensures.settled told) (opens_new (fresh_as blank.0 blank.1 seen.on_disk) (c.format.ensures.files told)))
+
+pub returns-in_ok-journal-in-Fresh-clause-settled : goal.returns-in_ok-journal-in-Fresh-clause-settled
+returns-in_ok-journal-in-Fresh-clause-settled g c told =
+    let seen = c.in_ok-zero.ensures.readings told in
+    let blank = c.in-Fresh.ensures.choice (g.H.Host.view c.look.new.host).bytes seen.zero_is seen.one_is in
+    settled_opens g.H.Host.view c.look.ensures.out.out (c.look.ensures.files told).bytes (c.in_ok-zero.ensures.settled told) (opens_new (fresh_as blank.0 blank.1 seen.on_disk) (c.format.ensures.files told))

@@ -1,0 +1,101 @@
+-- All that a run asks of the turn of a line: it writes whole lines, which report no number above that after its commit, and
+-- its commit fits and has a spelling.
+use Rattle.std.proofs.Common.{◌≡◌, ℕ, ◌+◌, ◌<◌, ◌≤◌, ◌^◌, List, [], ◌∷◌, length, codes, Option, Some, None, IfSome, refl, sym, subst, arith}
+use Rattle.std.specs.List.{All}
+use Rattle.std.proofs.lemmas.List.Elements.{All-nil, All-cons}
+use Rattle.json.specs.Tree.{HasNumbers, ItemsHaveNumbers, MembersHaveNumbers}
+use Rattle.json.proofs.Printed.Decimals.{IsNumber-decimal}
+use Rattle.serde_json.specs.Data as json
+use Rattle.serde_json.specs.Find.{get}
+use Rattle.serde_json.specs.Written.{outline, items_outline, members_outline, compact_text}
+use Rattle.document_keys.specs.Names.{Root}
+use Rattle.value_model.specs.Data as kind
+use Rattle.value_model.specs.Data.{Data, Items, Members, Entries, members_of}
+use Rattle.json_model.specs.Printed.{printed_value, printed_items, printed_members, values_tree, fields_tree}
+use Rattle.record_codec.specs.Spelling.{HasSpelling}
+use Rattle.client_run.specs.Trees.{one}
+use Rattle.client_run.specs.Output.{line_of, ok_tree, refused_tree, document_tree}
+use Rattle.client_run.specs.Reported.{Reports, ReportsWithin, ReportedWithin}
+use Rattle.client_run.specs.State.{State, Fits, local_document}
+use Rattle.client_run.specs.Turn.{Turn, Past, turn, after}
+use Rattle.client_run.specs.Turned.{IsSpelledReading}
+use Rattle.client_run.specs.declared.event.Event.TheVariants as event
+use Rattle.client_run.specs.declared.reading.Reading.{Reading}
+use Rattle.client_run.specs.declared.reading.Reading.TheVariants.{Line, Refused}
+use Rattle.client_run.specs.declared.refusal.Refusal.{Refusal}
+use Rattle.client_run.specs.declared.refusal.Refusal.TheVariants.{LineTooLong, BadLine, Unsupported}
+use Rattle.client_run.proofs.Breaks.{open_on, one_line, nothing_open}
+use Rattle.client_run.proofs.Parsed.{no_report, ok_within}
+
+-- whole lines that report no number above this one
+pub record IsWithin (most : ℕ) (output : List ℕ) : Type 0 where
+  pub whole : open_on [] output ≡ []
+  pub within : ReportedWithin most output
+
+pub record IsHonest (s : State) (reading : Reading) (t : Turn) : Type 0 where
+  pub output : IsWithin (after s t.commit).number t.output
+  pub commit : IsSpelledReading reading → IfSome t.commit (λ c. Fits s c × HasSpelling c)
+
+-- ---- one line
+
+line_within : (most : ℕ) (d : json.Data) → ((n : ℕ) → Reports (compact_text d) n → n ≤ most) → IsWithin most (line_of d)
+line_within most d within = record {
+  whole = nothing_open d;
+  within = subst (λ (ls : List (List ℕ)). All (ReportsWithin most) ls) (sym (one_line d)) (All-cons (ReportsWithin most) (compact_text d) [] within (All-nil (ReportsWithin most)));
+}
+
+-- an object with one member that isn't `ok`
+quiet_within : (most : ℕ) (name : List ℕ) (d : json.Data) → HasNumbers (outline d) → ((e : json.Data) → get (codes "ok") (one name e) ≡ None) → IsWithin most (line_of (one name d))
+quiet_within most name d numbers other = line_within most (one name d) (λ n reports. absurd (no_report name d numbers other n reports))
+
+refused_within : (most line : ℕ) (refusal : Refusal) → line < 2 ^ 64 → IsWithin most (line_of (refused_tree line refusal))
+refused_within most line LineTooLong small = quiet_within most (codes "refused") _ (tt, (IsNumber-decimal line small, (IsNumber-decimal 11 (omega arith), tt))) (λ e. refl)
+refused_within most line BadLine small = quiet_within most (codes "refused") _ (tt, (IsNumber-decimal line small, (tt, (IsNumber-decimal 1 (omega arith), tt)))) (λ e. refl)
+refused_within most line (Unsupported name) small = quiet_within most (codes "refused") _ (tt, (IsNumber-decimal line small, (tt, (IsNumber-decimal 3 (omega arith), tt)))) (λ e. refl)
+
+-- ---- a document
+
+values_numbers : (ds : json.Items) → ItemsHaveNumbers (items_outline ds) → HasNumbers (outline (values_tree ds))
+values_numbers json.no_items numbers = tt
+values_numbers (json.item d ds) numbers = (numbers, tt)
+
+fields_numbers : (ms : json.Members) → MembersHaveNumbers (members_outline ms) → HasNumbers (outline (fields_tree ms))
+fields_numbers json.no_members numbers = tt
+fields_numbers (json.member name d ms) numbers = (numbers, tt)
+
+mutual
+  value_numbers : (value : Data) → HasNumbers (outline (printed_value value))
+  value_numbers kind.null = (tt, tt)
+  value_numbers (kind.array ds) = (values_numbers (printed_items ds) (items_numbers ds), tt)
+  value_numbers (kind.map ms) = (fields_numbers (printed_members ms) (members_numbers ms), tt)
+  value_numbers value = (tt, tt)
+
+  items_numbers : (ds : Items) → ItemsHaveNumbers (items_outline (printed_items ds))
+  items_numbers kind.no_items = tt
+  items_numbers (kind.item d ds) = (value_numbers d, items_numbers ds)
+
+  members_numbers : (ms : Members) → MembersHaveNumbers (members_outline (printed_members ms))
+  members_numbers kind.no_members = tt
+  members_numbers (kind.member name d ms) = (value_numbers d, members_numbers ms)
+
+document_within : (most : ℕ) (root : Root) (key : List (List ℕ)) (document : Option Entries) → IsWithin most (line_of (document_tree root key document))
+document_within most root key None = quiet_within most (codes "document") _ (tt, (tt, (tt, tt))) (λ e. refl)
+document_within most root key (Some []) = quiet_within most (codes "document") _ (tt, (tt, (tt, tt))) (λ e. refl)
+document_within most root key (Some (field ∷ fields)) = quiet_within most (codes "document") _ (tt, (members_numbers (members_of (field ∷ fields)), (tt, (tt, tt)))) (λ e. refl)
+
+-- ---- each turn
+
+pub turn_honest : (root : Root) (s : State) (past : Past) (reading : Reading) → s.number ≤ 2 ^ 62 → s.next_batch ≤ s.number + 1 → length past + 1 < 2 ^ 64 → IsHonest s reading (turn root s past reading)
+unfolding turn
+turn_honest root s past (Refused refusal) few next long = record {
+  output = refused_within s.number (length past + 1) refusal long;
+  commit = λ spelled. tt;
+}
+turn_honest root s past (Line (event.Write at write)) few next long = record {
+  output = line_within (s.number + 1) (ok_tree s.next_batch (s.number + 1)) (ok_within s.next_batch (s.number + 1) (omega (arith, few, next)) (omega (arith, few)));
+  commit = λ spelled. ((refl, omega (arith, few)), record { id = omega (arith, few, next); at = spelled.0; write = spelled.1 });
+}
+turn_honest root s past (Line (event.Get key)) few next long = record {
+  output = document_within s.number root key (local_document s.batches key);
+  commit = λ spelled. tt;
+}

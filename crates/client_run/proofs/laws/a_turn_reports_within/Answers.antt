@@ -1,0 +1,5 @@
+use Rattle.client_run.proofs.Honest.{turn_honest}
+use Rattle.client_run.proofs.laws.a_turn_reports_within.Goals as goal
+
+pub returns : goal.returns
+returns c = λ root s past reading few next long. (turn_honest root s past reading few next long).output.within

@@ -1,0 +1,47 @@
+-- What an output reports: the numbers of commits that its whole lines name.
+use Rattle.std.specs.Prelude.{◌≡◌, ℕ, ◌≤◌, ◌<◌, ◌^◌, ◌==◌, List, [], ◌∷◌, ◌++◌, codes, Option, Some, option_and_then, if◌then◌else◌}
+use Rattle.std.specs.List.{All}
+use Rattle.serde_json.specs.Data.{Data}
+use Rattle.serde_json.specs.Find.{get, as_number, as_u64}
+use Rattle.serde_json.specs.Read.{read}
+use Rattle.serde_json.specs.Written.{compact_text}
+use Rattle.client_run.specs.Output.{ok_tree}
+
+-- the whole lines of a text without their newlines, where `line` is what the first one begins with
+abbrev pub lines_on : List ℕ → List ℕ → List (List ℕ)
+lines_on line [] = []
+lines_on line (byte ∷ rest) = if byte == 10 then line ∷ lines_on [] rest else lines_on (line ++ byte ∷ []) rest
+
+-- The whole lines of a text: what stands before each newline. What stands behind the last one is no whole line.
+abbrev pub whole_lines : List ℕ → List (List ℕ)
+whole_lines text = lines_on [] text
+
+-- the number in the member `commit` of an object
+abbrev pub commit_in : Data → Option ℕ
+commit_in d = option_and_then as_u64 (option_and_then as_number (get (codes "commit") d))
+
+-- the number that a tree reports: that in the member `commit` of its member `ok`
+abbrev pub reported_in : Data → Option ℕ
+reported_in d = option_and_then commit_in (get (codes "ok") d)
+
+-- A line reports a number: it is JSON (RFC 8259), and its tree reports it.
+pub record Reports (line : List ℕ) (reported : ℕ) : Type 0 where
+  pub tree : Data
+  pub is_json : read line ≡ Some tree
+  pub is : reported_in tree ≡ Some reported
+
+-- the line reports no number above this one
+abbrev pub ReportsWithin : ℕ → List ℕ → Type 0
+ReportsWithin most line = (reported : ℕ) → Reports line reported → reported ≤ most
+
+-- No whole line of the text reports a number above this one: it is at least the greatest that one reports.
+abbrev pub ReportedWithin : ℕ → List ℕ → Type 0
+ReportedWithin most text = All (ReportsWithin most) (whole_lines text)
+
+-- a line reports at most one number
+abbrev pub ALineReportsOnce : Type 0
+ALineReportsOnce = (line : List ℕ) (a b : ℕ) → Reports line a → Reports line b → a ≡ b
+
+-- the printed answer of a write reports its commit
+abbrev pub OkReports : Type 0
+OkReports = (batch n : ℕ) → batch < 2 ^ 64 → n < 2 ^ 64 → Reports (compact_text (ok_tree batch n)) n
