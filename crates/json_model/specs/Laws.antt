@@ -1,12 +1,13 @@
 -- Laws of trees and what they spell.
-use Rattle.std.specs.Prelude.{ℕ, ◌≤◌, List, []}
+use Rattle.std.specs.Prelude.{◌≡◌, ℕ, ◌≤◌, List, []}
 use Rattle.serde_json.specs.Data.{Data as Json}
 use Rattle.value_model.specs.Data.{Data, Entries, entries_depth}
 use Rattle.value_model.specs.Storable.{AreStorable}
 use Rattle.json_model.specs.declared.side.Side.{Side}
 use Rattle.json_model.specs.declared.place.Place.TheVariants as place
 use Rattle.json_model.specs.Faults.{FaultsAt}
-use Rattle.json_model.specs.Grammar.{SpellsValue, SpellsFields, max_nesting}
+use Rattle.json_model.specs.declared.fault.JsonFault.{JsonFault}
+use Rattle.json_model.specs.Grammar.{SpellsValue, SpellsFields, FieldsFaults, max_nesting}
 use Rattle.json_model.specs.Printed.{printed_fields}
 
 -- a tree without faults spells a value
@@ -16,3 +17,7 @@ NoFaultSpells = (side : Side) (limit : ℕ) (name : List ℕ) (d : Json) → Fau
 -- the printed tree of fields that can be stored, in whose values at most 20 arrays and maps nest, spells them
 abbrev pub PrintedFieldsReadBack : Type 0
 PrintedFieldsReadBack = (side : Side) (fields : Entries) → AreStorable fields → entries_depth fields ≤ max_nesting → SpellsFields side (printed_fields fields) fields
+
+-- a tree has at most one list of faults
+abbrev pub FaultsAreOne : Type 0
+FaultsAreOne = (side : Side) (d : Json) (a b : List JsonFault) → FieldsFaults side d a → FieldsFaults side d b → a ≡ b
