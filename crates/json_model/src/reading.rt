@@ -370,13 +370,14 @@ pub fn read_fields(
     ensures storable { IfOk result AreStorable }
     ensures deep { IfOk result (λ fields. entries_depth fields ≤ max_nesting) }
     ensures fault { IfErr result (λ fault. IsFault (FieldsFaults side (view json.now)) fault) }
-    ensures unspelled { IfErr result (λ fault. fault ≢ json_fault.NoMemory → (es : Entries) → ¬ (SpellsFields side (view json.now) es)) }
+    ensures clean { IfOk result (λ _. FieldsFaults side (view json.now) []) }
 {
-    if let Some(fields) = build_tree(alloc, side, json)? {
-        return Ok(fields);
+    let fault = find_fault(alloc, side, MAX_NESTING, Place::Fields, "fields", json)?;
+    if let Some(fault) = fault {
+        return Err(fault);
     }
-    match find_fault(alloc, side, MAX_NESTING, Place::Fields, "fields", json)? {
-        Some(fault) => Err(fault),
+    match build_tree(alloc, side, json)? {
+        Some(fields) => Ok(fields),
         None => unreachable!(),
     }
 }

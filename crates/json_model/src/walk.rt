@@ -79,9 +79,13 @@ fn limit_inside(place: Place, limit: u64) -> u64
     }
 }
 
-/// The fault of a tree at a place, under that name, where so many arrays and maps may nest.
+/// The first fault of the least kind of a tree at a place, under that name, where so many arrays and maps may nest; none when
+/// the tree has no fault.
+///
+/// # Errors
+/// `NoMemory` alone.
 #[cycle(find)]
-pub(crate) fn find_fault(
+pub fn find_fault(
     alloc: Global,
     side: Side,
     limit: u64,
