@@ -14,3 +14,4 @@ pub mod Good
 pub mod Stored
 pub mod ReadBack
 pub mod Deep
+pub mod Once

@@ -177,11 +177,11 @@ known_not p (x ∷ es) rest key value text keyed odd = by (is_strange p (string_
     by false later = later
 
 -- a text that is a reference has no fault as one
-under_name : (root : Root) (text : List ℕ) (path : List (List ℕ)) → 0 < length path → text ≡ name_text root path → IsUnder root text
+pub under_name : (root : Root) (text : List ℕ) (path : List (List ℕ)) → 0 < length path → text ≡ name_text root path → IsUnder root text
 under_name root text [] some is = absurd (omega arith)
 under_name root text (k ∷ path) some is = (k ++ path_text path, is)
 
-same_root : (a b : Root) → a.project ≡ b.project → a.name ≡ b.name → a ≡ b
+pub same_root : (a b : Root) → a.project ≡ b.project → a.name ≡ b.name → a ≡ b
 same_root a b projects names = λ i. record { project = projects i; name = names i }
 
 reference_no : (text : List ℕ) (name : RefName) (why : NamingFault) → SpellsReference text name → HasReferenceFault text why → ⊥

@@ -1,5 +1,5 @@
 -- Laws of trees and what they spell.
-use Rattle.std.specs.Prelude.{ℕ, ◌≤◌, List, []}
+use Rattle.std.specs.Prelude.{◌≡◌, ℕ, ◌≤◌, List, []}
 use Rattle.serde_json.specs.Data.{Data as Json}
 use Rattle.value_model.specs.Data.{Data, Entries, entries_depth}
 use Rattle.value_model.specs.Storable.{AreStorable}
@@ -16,3 +16,8 @@ NoFaultSpells = (side : Side) (limit : ℕ) (name : List ℕ) (d : Json) → Fau
 -- the printed tree of fields that can be stored, in whose values at most 20 arrays and maps nest, spells them
 abbrev pub PrintedFieldsReadBack : Type 0
 PrintedFieldsReadBack = (side : Side) (fields : Entries) → AreStorable fields → entries_depth fields ≤ max_nesting → SpellsFields side (printed_fields fields) fields
+
+-- a tree spells one value at most, and one list of fields
+pub record ATreeSpellsOnce : Type 0 where
+  pub value : (side : Side) (limit : ℕ) (d : Json) (v w : Data) → SpellsValue side limit d v → SpellsValue side limit d w → v ≡ w
+  pub fields : (side : Side) (d : Json) (a b : Entries) → SpellsFields side d a → SpellsFields side d b → a ≡ b

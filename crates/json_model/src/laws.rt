@@ -1,6 +1,6 @@
 //! Laws of trees and what they spell. Nothing is done when they run.
 
-ghost use Rattle.json_model.specs.Laws.{NoFaultSpells, PrintedFieldsReadBack};
+ghost use Rattle.json_model.specs.Laws.{ATreeSpellsOnce, NoFaultSpells, PrintedFieldsReadBack};
 
 /// A tree without faults spells a value.
 pub fn no_fault_spells()
@@ -10,4 +10,9 @@ pub fn no_fault_spells()
 /// What fields print reads back as them, where they can be stored and nest at most 20 deep.
 pub fn printed_fields_read_back()
     ensures { PrintedFieldsReadBack }
+{}
+
+/// A tree spells one value at most, and one list of fields.
+pub fn a_tree_spells_once()
+    ensures { ATreeSpellsOnce }
 {}
