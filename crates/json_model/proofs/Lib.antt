@@ -15,3 +15,4 @@ pub mod Stored
 pub mod ReadBack
 pub mod Deep
 pub mod OneList
+pub mod Once

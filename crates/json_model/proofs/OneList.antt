@@ -1,5 +1,5 @@
 -- A tree has one list of faults.
-use Rattle.std.proofs.Common.{◌≡◌, ◌≢◌, ◌∙◌, ◌⊎◌, inl, inr, ℕ, List, [], ◌∷◌, ◌++◌, Bool, true, false, refl, sym, ap, subst}
+use Rattle.std.proofs.Common.{◌≡◌, ◌∙◌, inl, inr, ℕ, List, [], ◌∷◌, ◌++◌, Bool, true, false, refl, sym, ap, subst}
 use Rattle.document_keys.specs.Names.{Root, IsRoot}
 use Rattle.document_keys.specs.Faults.{HasKeyFault}
 use Rattle.document_keys.specs.declared.faults.NameFault.TheVariants as name_fault
@@ -13,7 +13,6 @@ use Rattle.json_model.specs.declared.fault.NamingFault.{NamingFault}
 use Rattle.json_model.specs.declared.fault.NamingFault.TheVariants.{WrongRoot, BadSegment, OddLength, BadPath, ReservedField}
 use Rattle.json_model.specs.References.{HasReferenceFault, HasFieldFault, IsUnder}
 use Rattle.json_model.specs.Faults.{Unless, bad_name, ReferenceFaults, FieldNameFaults, InText, in_text, in_other, KindFaults, InObject, InList, OwnName, Named, AtMember, FaultsAt, ItemsFaults, MembersFaults, holds_object, holds_list, own_faults, depth_faults, limit_inside}
-use Rattle.json_model.specs.Members.{is_left_out}
 use Rattle.json_model.specs.Places.{member_place}
 use Rattle.json_model.specs.Grammar.{FieldsFaults}
 use Rattle.json_model.proofs.Cuts.{one_root}
@@ -151,6 +150,7 @@ joined_one first rest one other a b x y z w fx fy rz rw_ is also =
 
 mutual
   unfolding FaultsAt ItemsFaults MembersFaults
+
   pub faults_one : (side : Side) (limit : ℕ) (p : Place) (name : List ℕ) (d : Json) → IsOne (FaultsAt side limit p name d)
   faults_one side limit p name null a b x y = kind_one side p name null a b x y
   faults_one side limit p name (boolean is) a b x y = kind_one side p name (boolean is) a b x y
@@ -160,7 +160,7 @@ mutual
       in_list_one (holds_list p) (KindFaults side p name (array ds)) (ItemsFaults side limit name ds) (kind_one side p name (array ds)) (items_one side limit name ds) a b x y
   faults_one side limit p name (object ms) a b x y =
       in_object_one (holds_object p) (KindFaults side p name (object ms)) (own_faults p name ms) (depth_faults p limit) (MembersFaults side (limit_inside p limit) p ms)
-          (kind_one side p name (object ms)) (members_one side (limit_inside p limit) p ms) a b x y
+      (kind_one side p name (object ms)) (members_one side (limit_inside p limit) p ms) a b x y
 
   items_one : (side : Side) (limit : ℕ) (name : List ℕ) (ds : Items) → IsOne (ItemsFaults side limit name ds)
   items_one side limit name no_items a b x y = x ∙ sym y
@@ -171,8 +171,8 @@ mutual
   members_one side limit p no_members a b x y = x ∙ sym y
   members_one side limit p (member name d ms) a b x y =
       joined_one (AtMember p name d (FaultsAt side limit (member_place p name) name d)) (MembersFaults side limit p ms)
-          (at_member_one p name d (FaultsAt side limit (member_place p name) name d) (faults_one side limit (member_place p name) name d)) (members_one side limit p ms)
-          a b x.0 y.0 x.1 y.1 x.2 y.2 x.3 y.3 x.4 y.4
+      (at_member_one p name d (FaultsAt side limit (member_place p name) name d) (faults_one side limit (member_place p name) name d)) (members_one side limit p ms)
+      a b x.0 y.0 x.1 y.1 x.2 y.2 x.3 y.3 x.4 y.4
 
 pub fields_faults_once : (side : Side) (d : Json) (a b : List JsonFault) → FieldsFaults side d a → FieldsFaults side d b → a ≡ b
 fields_faults_once side d a b x y = faults_one side _ place.Fields _ d a b x y

@@ -21,3 +21,8 @@ PrintedFieldsReadBack = (side : Side) (fields : Entries) → AreStorable fields 
 -- a tree has at most one list of faults
 abbrev pub FaultsAreOne : Type 0
 FaultsAreOne = (side : Side) (d : Json) (a b : List JsonFault) → FieldsFaults side d a → FieldsFaults side d b → a ≡ b
+
+-- a tree spells one value at most, and one list of fields
+pub record ATreeSpellsOnce : Type 0 where
+  pub value : (side : Side) (limit : ℕ) (d : Json) (v w : Data) → SpellsValue side limit d v → SpellsValue side limit d w → v ≡ w
+  pub fields : (side : Side) (d : Json) (a b : Entries) → SpellsFields side d a → SpellsFields side d b → a ≡ b

@@ -1,6 +1,6 @@
 //! Laws of trees and what they spell. Nothing is done when they run.
 
-ghost use Rattle.json_model.specs.Laws.{FaultsAreOne, NoFaultSpells, PrintedFieldsReadBack};
+ghost use Rattle.json_model.specs.Laws.{ATreeSpellsOnce, FaultsAreOne, NoFaultSpells, PrintedFieldsReadBack};
 
 /// A tree without faults spells a value.
 pub fn no_fault_spells()
@@ -15,4 +15,9 @@ pub fn printed_fields_read_back()
 /// A tree that is to spell fields has one list of faults.
 pub fn faults_are_one()
     ensures { FaultsAreOne }
+{}
+
+/// A tree spells one value at most, and one list of fields.
+pub fn a_tree_spells_once()
+    ensures { ATreeSpellsOnce }
 {}

@@ -1,0 +1,203 @@
+-- A tree spells one value at most.
+use Rattle.std.proofs.Common.{◌≡◌, ℕ, zero, suc, ◌-◌, ℤ, pos, codes, Option, ◌==◌, ◌++◌, ◌%◌, ◌/◌, ◌*◌, ◌+◌, List, [], ◌∷◌, length, map, replicate, slice_index, cond, Ok, refl, sym, ap, subst, inl, inr, ◌∙◌}
+use Rattle.std.proofs.lemmas.List.{map-append}
+use Rattle.std.proofs.Math.ListN as listn
+use Rattle.base64.specs.GeneralPurpose.{encode_of, decode_of}
+use Rattle.base64.specs.Engines.{standard, standard_no_pad, standard_pad_indifferent, standard_no_pad_indifferent, url_safe}
+use Rattle.base64.specs.Rfc4648.{encode_symbols, padding_len}
+use Rattle.base64.proofs.EngineFacts.{decode_of-encode_of}
+use Rattle.json_model.specs.Bytes.{SpellsBytes}
+use Rattle.std.proofs.lemmas.List.Elements.{All-weaker}
+use Rattle.serde_json.specs.Data as json
+use Rattle.document_keys.specs.Names.{IsPart, IsSegment, name_text}
+use Rattle.document_keys.proofs.Lawful.{named_once}
+use Rattle.value_model.specs.Data.{Data, boolean, integer, time, text, bytes, reference, array_of, map_of, Entries}
+use Rattle.value_model.specs.Fields.{with_field}
+use Rattle.value_model.specs.Time.{time_of}
+use Rattle.value_model.specs.declared.reference.RefName.{RefName}
+use Rattle.json_model.specs.declared.side.Side.{Side}
+use Rattle.json_model.specs.declared.place.Place.{Place}
+use Rattle.json_model.specs.declared.place.Place.TheVariants as place
+use Rattle.json_model.specs.Grammar.{SpellsScalar, SpellsValue, of_kind, SpellsKind, as_scalar, as_array as by_array, as_map as by_map, SpellsList, no_list, a_list, SpellsItems, no_item, an_item, SpellsMap, no_map, a_map, SpellsMembers, no_member, left_out, a_member, SpellsFields, max_nesting}
+use Rattle.json_model.specs.Laws.{ATreeSpellsOnce}
+use Rattle.json_model.specs.Members.{given, kinds_given}
+use Rattle.json_model.specs.Numbers.{SpellsInteger, IsNumber, SpellsWhole, as_number, as_text}
+use Rattle.json_model.specs.Places.{value_member}
+use Rattle.json_model.specs.References.{SpellsReference, root_of}
+use Rattle.json_model.proofs.Cuts.{one_root}
+use Rattle.json_model.proofs.Numerals.{spells_one_integer}
+use Rattle.json_model.proofs.Spelled.{under_name, same_root}
+
+-- ---- bytes
+
+-- the symbol of the standard alphabet in place of one of the URL alphabet
+abbrev to_standard : ℕ → ℕ
+to_standard c = cond (c == 45) 43 (cond (c == 95) 47 c)
+
+map_replicate : (n c : ℕ) → map to_standard (replicate n c) ≡ replicate n (to_standard c)
+map_replicate zero c = refl
+map_replicate (suc n) c = ap (λ l. to_standard c ∷ l) (map_replicate n c)
+
+symbol : (t : List ℕ) (i : ℕ) → to_standard (slice_index t i) ≡ slice_index (map to_standard t) i
+symbol t i = sym (listn.get_or-map to_standard t i 0)
+
+symbols_mapped : (t m : List ℕ) → map to_standard (encode_symbols t m) ≡ encode_symbols (map to_standard t) m
+unfolding encode_symbols
+symbols_mapped t [] = refl
+symbols_mapped t (a ∷ []) = λ i. symbol t (a / 4) i ∷ symbol t (a % 4 * 16) i ∷ []
+symbols_mapped t (a ∷ b ∷ []) = λ i. symbol t (a / 4) i ∷ symbol t (a % 4 * 16 + b / 16) i ∷ symbol t (b % 16 * 4) i ∷ []
+symbols_mapped t (a ∷ b ∷ c ∷ rest) = λ i. symbol t (a / 4) i ∷ symbol t (a % 4 * 16 + b / 16) i ∷ symbol t (b % 16 * 4 + c / 64) i ∷ symbol t (c % 64) i ∷ symbols_mapped t rest i
+
+standard_kept : map to_standard standard.encode_table ≡ standard.encode_table
+standard_kept = refl
+
+url_mapped : map to_standard url_safe.encode_table ≡ standard.encode_table
+url_mapped = refl
+
+-- under a table that becomes the standard one, symbols and padding become the standard ones
+mapped : (t m pad : List ℕ) → map to_standard t ≡ standard.encode_table → map to_standard pad ≡ pad → map to_standard (encode_symbols t m ++ pad) ≡ encode_symbols standard.encode_table m ++ pad
+mapped t m pad table kept = map-append to_standard (encode_symbols t m) pad ∙ (λ i. (symbols_mapped t m ∙ ap (λ s. encode_symbols s m) table) i ++ kept i)
+
+-- the bytes that a text spells are decoded from its standard symbols, whatever the padding
+decoded : (content those : List ℕ) → SpellsBytes content those → decode_of standard_pad_indifferent (map to_standard content) ≡ Ok those
+decoded content those spelled = elim spelled.is [
+  | inl is ↦ padded (ap (map to_standard) is ∙ mapped standard.encode_table those (replicate (padding_len (length those)) 61) standard_kept (map_replicate _ 61))
+  | inr others ↦ elim others [
+    | inl is ↦ bare (ap (map to_standard) is ∙ mapped standard.encode_table those [] standard_kept refl)
+    | inr urls ↦ elim urls [
+      | inl is ↦ padded (ap (map to_standard) is ∙ mapped url_safe.encode_table those (replicate (padding_len (length those)) 61) url_mapped (map_replicate _ 61))
+      | inr is ↦ bare (ap (map to_standard) is ∙ mapped url_safe.encode_table those [] url_mapped refl)
+    ]
+  ]
+]
+  where
+    padded : map to_standard content ≡ encode_of standard those → decode_of standard_pad_indifferent (map to_standard content) ≡ Ok those
+    padded is = ap (decode_of standard_pad_indifferent) is ∙ decode_of-encode_of standard_pad_indifferent those tt spelled.each
+
+    bare : map to_standard content ≡ encode_of standard_no_pad those → decode_of standard_pad_indifferent (map to_standard content) ≡ Ok those
+    bare is = ap (decode_of standard_no_pad_indifferent) is ∙ decode_of-encode_of standard_no_pad_indifferent those tt spelled.each
+
+-- a text spells one list of bytes at most
+pub bytes_once : (content a b : List ℕ) → SpellsBytes content a → SpellsBytes content b → a ≡ b
+bytes_once content a b one two = let e = sym (decoded content a one) ∙ decoded content b two in cc
+
+-- ---- numbers, references and the other scalars
+
+same_text : (d : json.Data) (a b : List ℕ) → d ≡ json.string a → d ≡ json.string b → a ≡ b
+same_text d a b one two = let e = sym one ∙ two in cc
+
+number_once : (d : json.Data) (y z : ℤ) → IsNumber d y → IsNumber d z → y ≡ z
+number_once d y z (inl one) (inl two) = let e = sym one.1 ∙ two.1 in let n : one.0 ≡ two.0 = cc in one.2 ∙ ap pos n ∙ sym two.2
+number_once d y z (inl one) (inr two) = let e = sym one.1 ∙ two in cc
+number_once d y z (inr one) (inl two) = let e = sym one ∙ two.1 in cc
+number_once d y z (inr one) (inr two) = let e = sym one ∙ two in cc
+
+no_text_number : (d : json.Data) (z : ℤ) (content : List ℕ) → IsNumber d z → d ≡ json.string content → ⊥
+no_text_number d z content (inl one) is = let e = sym one.1 ∙ is in cc
+no_text_number d z content (inr one) is = let e = sym one ∙ is in cc
+
+pub whole_once : (d : json.Data) (y z : ℤ) → SpellsWhole d y → SpellsWhole d z → y ≡ z
+whole_once d y z (as_number fits one) (as_number fits_too two) = number_once d y z one two
+whole_once d y z (as_number fits one) (as_text content at spelled) = absurd (no_text_number d y content one at)
+whole_once d y z (as_text content at spelled) (as_number fits two) = absurd (no_text_number d z content two at)
+whole_once d y z (as_text content at one) (as_text other at_too two) = spells_one_integer content y z one (subst (λ t. SpellsInteger t z) (same_text d other content at_too at) two)
+
+pub reference_once : (content : List ℕ) (a b : RefName) → SpellsReference content a → SpellsReference content b → a ≡ b
+reference_once content a b one two =
+    let here = under_name (root_of a) content a.key one.names.some one.is in
+    let there = under_name (root_of b) content b.key two.names.some two.is in
+    let parts = one_root content (root_of a) (root_of b) one.database.project.part one.database.name.part two.database.project.part two.database.name.part here there in
+    let root = same_root (root_of a) (root_of b) parts.0 parts.1 in
+    let texts : name_text (root_of a) a.key ≡ name_text (root_of a) b.key = sym one.is ∙ two.is ∙ ap (λ r. name_text r b.key) (sym root) in
+    let keys = named_once (root_of a) a.key b.key (All-weaker IsSegment IsPart (λ s is. is.part) a.key one.names.segments) (All-weaker IsSegment IsPart (λ s is. is.part) b.key two.names.segments) texts in
+    λ i. record { project = parts.0 i; database = parts.1 i; key = keys i }
+
+scalar_once : (p : Place) (d : json.Data) (v w : Data) → SpellsScalar p d v → SpellsScalar p d w → v ≡ w
+scalar_once place.Null d v w s t = s.1 ∙ sym t.1
+scalar_once place.Boolean d v w s t = let e = sym s.1 ∙ t.1 in let is : s.0 ≡ t.0 = cc in s.2 ∙ ap boolean is ∙ sym t.2
+scalar_once place.Integer d v w s t = s.2 ∙ ap integer (whole_once d s.0 t.0 s.1 t.1) ∙ sym t.2
+scalar_once place.Time d v w s t =
+    let e = sym s.1.2 ∙ ap time_of (same_text d s.0 t.0 s.1.1 t.1.1) ∙ t.1.2 in
+    let at : s.1.0 ≡ t.1.0 = cc in
+    s.1.3 ∙ ap time at ∙ sym t.1.3
+scalar_once place.Text d v w s t = s.2 ∙ ap text (same_text d s.0 t.0 s.1 t.1) ∙ sym t.2
+scalar_once place.Bytes d v w s t = s.1.3 ∙ ap bytes (bytes_once s.0 s.1.0 t.1.0 s.1.2 (subst (λ c. SpellsBytes c t.1.0) (same_text d t.0 s.0 t.1.1 s.1.1) t.1.2)) ∙ sym t.1.3
+scalar_once place.Reference d v w s t = s.1.3 ∙ ap reference (reference_once s.0 s.1.0 t.1.0 s.1.2 (subst (λ c. SpellsReference c t.1.0) (same_text d t.0 s.0 t.1.1 s.1.1) t.1.2)) ∙ sym t.1.3
+scalar_once place.Value d v w s t = absurd s
+scalar_once place.Array d v w s t = absurd s
+scalar_once place.Values d v w s t = absurd s
+scalar_once place.Map d v w s t = absurd s
+scalar_once place.Fields d v w s t = absurd s
+scalar_once place.Unsupported d v w s t = absurd s
+scalar_once place.Unknown d v w s t = absurd s
+
+-- ---- trees
+
+same_object : (d : json.Data) (ms ns : json.Members) → d ≡ json.object ms → d ≡ json.object ns → ms ≡ ns
+same_object d ms ns one two = let e = sym one ∙ two in cc
+
+same_array : (d : json.Data) (xs ys : json.Items) → d ≡ json.array xs → d ≡ json.array ys → xs ≡ ys
+same_array d xs ys one two = let e = sym one ∙ two in cc
+
+abbrev head_name : List (List ℕ × json.Data) → List ℕ
+head_name [] = []
+head_name (e ∷ es) = e.0
+
+abbrev head_tree : List (List ℕ × json.Data) → json.Data
+head_tree [] = json.null
+head_tree (e ∷ es) = e.1
+
+module _ (side : Side) where
+  -- what a value's only kind spells
+  kind_in : (limit : ℕ) (d : json.Data) (ms : json.Members) (name : List ℕ) (inner : json.Data) (v : Data) → d ≡ json.object ms → kinds_given ms ≡ (name, inner) ∷ [] → SpellsValue side limit d v → SpellsKind side limit (value_member name) inner v
+  kind_in limit d ms name inner v is kinds (of_kind ns other e at those known spelled) =
+      let same : (other, e) ∷ [] ≡ (name, inner) ∷ [] = sym those ∙ ap kinds_given (same_object d ns ms at is) ∙ kinds in
+      let names : other ≡ name = ap head_name same in
+      let trees : e ≡ inner = ap head_tree same in
+      subst (λ n. SpellsKind side limit (value_member n) inner v) names (subst (λ t. SpellsKind side limit (value_member other) t v) trees spelled)
+
+  mutual
+    pub value_once : (limit : ℕ) (d : json.Data) (v w : Data) → SpellsValue side limit d v → SpellsValue side limit d w → v ≡ w
+    value_once limit d v w (of_kind ms name inner at kinds known spelled) second = kind_once limit _ inner v w spelled (kind_in limit d ms name inner w at kinds second)
+
+    kind_once : (limit : ℕ) (p : Place) (d : json.Data) (v w : Data) → SpellsKind side limit p d v → SpellsKind side limit p d w → v ≡ w
+    kind_once limit p d v w (as_scalar s) (as_scalar t) = scalar_once p d v w s t
+    kind_once limit p d v w (as_scalar s) (by_array ms ds room at known list means) = absurd s
+    kind_once limit p d v w (as_scalar s) (by_map ms es room at untyped known fields means) = absurd s
+    kind_once limit p d v w (by_array ms ds room at known list means) (as_scalar t) = absurd t
+    kind_once limit p d v w (by_array ms ds room at known list means) (by_array ns vs room_too at_too known_too list_too means_too) =
+        means ∙ ap array_of (list_once (limit - 1) _ ds vs list (subst (λ m. SpellsList side (limit - 1) (given (codes "values") m) vs) (same_object d ns ms at_too at) list_too)) ∙ sym means_too
+    kind_once limit p d v w (by_map ms es room at untyped known fields means) (as_scalar t) = absurd t
+    kind_once limit p d v w (by_map ms es room at untyped known fields means) (by_map ns fs room_too at_too untyped_too known_too fields_too means_too) =
+        means ∙ ap map_of (map_once (limit - 1) _ es fs fields (subst (λ m. SpellsMap side (limit - 1) (given (codes "fields") m) fs) (same_object d ns ms at_too at) fields_too)) ∙ sym means_too
+
+    list_once : (limit : ℕ) (o : Option json.Data) (vs ws : List Data) → SpellsList side limit o vs → SpellsList side limit o ws → vs ≡ ws
+    list_once limit o vs ws no_list no_list = refl
+    list_once limit o vs ws (a_list items d at spelled) (a_list others e at_too spelled_too) = items_once limit items vs ws spelled (subst (λ l. SpellsItems side limit l ws) (same_array d others items at_too at) spelled_too)
+
+    items_once : (limit : ℕ) (items : json.Items) (vs ws : List Data) → SpellsItems side limit items vs → SpellsItems side limit items ws → vs ≡ ws
+    items_once limit items vs ws no_item no_item = refl
+    items_once limit items vs ws (an_item first rest) (an_item first_too rest_too) =
+        let one = value_once limit _ _ _ first first_too in
+        let more = items_once limit _ _ _ rest rest_too in
+        λ i. one i ∷ more i
+
+    map_once : (limit : ℕ) (o : Option json.Data) (es fs : Entries) → SpellsMap side limit o es → SpellsMap side limit o fs → es ≡ fs
+    map_once limit o es fs no_map no_map = refl
+    map_once limit o es fs (a_map ms d at spelled) (a_map ns e at_too spelled_too) = members_once limit ms [] es fs spelled (subst (λ m. SpellsMembers side limit m [] fs) (same_object d ns ms at_too at) spelled_too)
+
+    pub members_once : (limit : ℕ) (ms : json.Members) (old es fs : Entries) → SpellsMembers side limit ms old es → SpellsMembers side limit ms old fs → es ≡ fs
+    members_once limit ms old es fs no_member no_member = refl
+    members_once limit ms old es fs (left_out is rest) (left_out is_too rest_too) = members_once limit _ old es fs rest rest_too
+    members_once limit ms old es fs (left_out is rest) (a_member v some named spelled rest_too) = let e = sym is ∙ some in cc
+    members_once limit ms old es fs (a_member v some named spelled rest) (left_out is rest_too) = let e = sym is ∙ some in cc
+    members_once limit ms old es fs (a_member {name = n} {ms = more} v some named spelled rest) (a_member w some_too named_too spelled_too rest_too) =
+        let one = value_once limit _ v w spelled spelled_too in
+        members_once limit more (with_field old n v) es fs rest (subst (λ x. SpellsMembers side limit more (with_field old n x) fs) (sym one) rest_too)
+
+-- an object spells its fields once
+pub spells_fields_once : (side : Side) (d : json.Data) (a b : Entries) → SpellsFields side d a → SpellsFields side d b → a ≡ b
+spells_fields_once side d a b one two = members_once side max_nesting one.members [] a b one.spelled (subst (λ m. SpellsMembers side max_nesting m [] b) (same_object d two.members one.members two.is one.is) two.spelled)
+
+pub once : ATreeSpellsOnce
+once = record { value = value_once; fields = spells_fields_once }
