@@ -1,5 +1,5 @@
 -- A tree without faults spells what is to stand there.
-use Rattle.std.proofs.Common.{◌≡◌, ◌⊎◌, ℕ, ◌-◌, ◌<◌, List, [], ◌∷◌, ◌++◌, length, Bool, true, false, not, ◌&&◌, cond, codes, Option, Some, None, is_some, refl, sym, ap, subst, inl, inr, ◌∙◌, arith}
+use Rattle.std.proofs.Common.{◌≡◌, ◌⊎◌, ℕ, ◌-◌, ◌<◌, List, [], ◌∷◌, ◌++◌, length, Bool, true, false, not, ◌&&◌, cond, codes, Option, Some, None, refl, sym, ap, subst, inl, inr, ◌∙◌, arith}
 use Rattle.std.specs.Bool.{◌==◌, if◌then◌else◌}
 use Rattle.std.specs.Option.{option_and_then}
 use Rattle.std.specs.Str.{bytes_eq}
@@ -22,7 +22,7 @@ use Rattle.json_model.specs.declared.place.Place.{Place}
 use Rattle.json_model.specs.declared.place.Place.TheVariants as place
 use Rattle.json_model.specs.declared.fault.JsonFault.{JsonFault}
 use Rattle.json_model.specs.declared.fault.JsonFault.TheVariants as json_fault
-use Rattle.json_model.specs.Members.{is_null, is_unknown, is_left_out, says_kind, kinds_given, given, unless_null}
+use Rattle.json_model.specs.Members.{is_null, is_vector, is_unknown, is_left_out, says_kind, kinds_given, given, unless_null}
 use Rattle.json_model.specs.Places.{value_member, member_place}
 use Rattle.json_model.specs.Faults.{Unless, InText, in_text, KindFaults, FaultsAt, ItemsFaults, MembersFaults, AtMember, OwnName, FieldNameFaults, ReferenceFaults, InObject, InList, holds_object, holds_list, own_faults, limit_inside, depth_faults}
 use Rattle.json_model.specs.Grammar.{SpellsScalar, SpellsValue, of_kind, SpellsKind, as_scalar, as_array as by_array, as_map as by_map, SpellsList, no_list, a_list, SpellsItems, no_item, an_item, SpellsMap, no_map, a_map, SpellsMembers, no_member, left_out, a_member, are_known, none_strange}
@@ -252,7 +252,7 @@ array_good side limit d ms is room all =
     let list = values_good side (limit - 1) ms all (given (codes "values") ms) refl in
     (array_of list.0, by_array ms list.0 room is (known side (limit - 1) place.Array ms all) list.1 refl)
 
-map_good : (side : Side) (limit : ℕ) (d : json.Data) (ms : json.Members) → d ≡ json.object ms → given (codes "__type__") ms ≡ None → 0 < limit → AllGood side (limit - 1) place.Map ms → Good side limit place.Map d
+map_good : (side : Side) (limit : ℕ) (d : json.Data) (ms : json.Members) → d ≡ json.object ms → is_vector ms ≡ false → 0 < limit → AllGood side (limit - 1) place.Map ms → Good side limit place.Map d
 map_good side limit d ms is untyped room all =
     let made = fields_good side (limit - 1) ms all (given (codes "fields") ms) refl in
     (map_of made.0, by_map ms made.0 room is untyped (known side (limit - 1) place.Map ms all) made.1 refl)
@@ -278,11 +278,11 @@ in_object side limit place.Value name ms h members = by (length (kinds_given ms)
 in_object side limit place.Array name ms h members =
     let room = not_deep limit h.0 h.2 in
     array_good side limit (json.object ms) ms refl room.0 (members (limit - 1) (subst (MembersFaults side (limit - 1) place.Array ms) room.1 h.1))
-in_object side limit place.Map name ms h members = by (given (codes "__type__") ms) refl h
+in_object side limit place.Map name ms h members = by (is_vector ms) refl h
   where
-    by : (o : Option json.Data) → given (codes "__type__") ms ≡ o → InObject true (KindFaults side place.Map name (json.object ms)) (if is_some o then json_fault.Unsupported (codes "vectorValue") ∷ [] else []) (depth_faults place.Map limit) (MembersFaults side (limit - 1) place.Map ms) [] → Good side limit place.Map (json.object ms)
-    by (Some d) typed g = cc
-    by None typed g =
+    by : (b : Bool) → is_vector ms ≡ b → InObject true (KindFaults side place.Map name (json.object ms)) (if b then json_fault.Unsupported (codes "vectorValue") ∷ [] else []) (depth_faults place.Map limit) (MembersFaults side (limit - 1) place.Map ms) [] → Good side limit place.Map (json.object ms)
+    by true typed g = cc
+    by false typed g =
         let room = not_deep limit g.0 g.2 in
         map_good side limit (json.object ms) ms refl typed room.0 (members (limit - 1) (subst (MembersFaults side (limit - 1) place.Map ms) room.1 g.1))
 in_object side limit place.Fields name ms h members =

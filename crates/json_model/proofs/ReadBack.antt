@@ -1,11 +1,12 @@
 -- What is printed of a value that can be stored spells it.
-use Rattle.std.proofs.Common.{◌≡◌, ℕ, ◌-◌, ◌<◌, ◌≤◌, zero, suc, List, [], ◌∷◌, ◌++◌, length, get_or, true, false, not, ◌&&◌, cond, codes, Some, None, Equal, Greater, refl, sym, ap, subst, inl, ◌∙◌, append-nil, append_assoc, arith}
+use Rattle.std.proofs.Common.{◌≡◌, ℕ, ◌-◌, ◌<◌, ◌≤◌, zero, suc, List, [], ◌∷◌, ◌++◌, length, get_or, true, false, not, ◌&&◌, cond, codes, Option, Some, None, is_some, Ordering, Less, Equal, Greater, refl, sym, ap, subst, inl, ◌∙◌, append-nil, append_assoc, arith}
 use Rattle.std.specs.List.{All, AllPairs}
 use Rattle.std.specs.Map.{keys_of}
 use Rattle.std.specs.Fmt.{signed_decimal}
 use Rattle.std.specs.Ordering.{nat_cmp, match_ordering}
 use Rattle.std.specs.Cmp.Lexicographic.{slice_cmp}
 use Rattle.serde_json.specs.Data as json
+use Rattle.serde_json.specs.Find.{as_object, get_member}
 use Rattle.document_keys.specs.Names.{name_text}
 use Rattle.document_keys.specs.Order.{TextBefore}
 use Rattle.document_keys.specs.Paths.{IsFieldName}
@@ -24,7 +25,7 @@ use Rattle.std.proofs.lemmas.Cmp.{nat_list_cmp_total, tied_itself}
 use Rattle.std.proofs.lemmas.List.Elements.{All-head, All-tail}
 use Rattle.json_model.specs.Bytes.{SpellsBytes, printed_bytes}
 use Rattle.json_model.proofs.Stored.{entries_back}
-use Rattle.json_model.specs.Members.{is_null, is_unknown, is_left_out, says_kind, given, unless_null}
+use Rattle.json_model.specs.Members.{is_vector, has_type, is_null, is_unknown, is_left_out, says_kind, given, unless_null}
 use Rattle.json_model.specs.Numbers.{as_text as by_text}
 use Rattle.json_model.specs.Places.{value_member, member_place}
 use Rattle.json_model.specs.References.{root_of}
@@ -93,8 +94,19 @@ same_text xs = tied_itself nat_list_cmp_total xs
 given_one : (name : List ℕ) (inner : json.Data) → is_null inner ≡ false → given name (json.member name inner json.no_members) ≡ Some inner
 given_one name inner some = ap (λ o. option_and_then unless_null (match_ordering o None (Some inner) None)) (same_text name) ∙ ap (λ b. cond b None (Some inner)) some
 
-untyped : (inner : json.Data) → given (codes "__type__") (json.member (codes "fields") inner json.no_members) ≡ None
-untyped inner = refl
+-- no field has a reserved name
+unless_same : (n : List ℕ) (o : Ordering) (e : json.Data) (rest : Option json.Data) → slice_cmp nat_cmp (codes "__type__") n ≡ o → IsFieldName n → rest ≡ None → match_ordering o rest (Some e) rest ≡ None
+unless_same n Less e rest is names none = none
+unless_same n Equal e rest is names none = absurd (names.free (codes "type", sym (texts_compute.exact (codes "__type__") n is)))
+unless_same n Greater e rest is names none = none
+
+no_type : (ms : Members) → All IsFieldName (keys_of (entries_of ms)) → get_member (codes "__type__") (printed_members ms) ≡ None
+no_type no_members names = refl
+no_type (member n d ms) names =
+    unless_same n (slice_cmp nat_cmp (codes "__type__") n) (printed_value d) (get_member (codes "__type__") (printed_members ms)) refl (All-head IsFieldName n (keys_of (entries_of ms)) names) (no_type ms (All-tail IsFieldName n (keys_of (entries_of ms)) names))
+
+untyped : (ms : Members) → All IsFieldName (keys_of (entries_of ms)) → is_vector (json.member (codes "fields") (json.object (printed_members ms)) json.no_members) ≡ false
+untyped ms names = ap (λ o. has_type (option_and_then as_object o)) (given_one (codes "fields") (json.object (printed_members ms)) refl) ∙ ap (λ o. is_some (option_and_then unless_null o)) (no_type ms names)
 
 printed_some : (v : Data) → is_null (printed_value v) ≡ false
 printed_some null = refl
@@ -168,7 +180,7 @@ map_back : TimesReadBack → (side : Side) (limit : ℕ) (ms : Members) → dept
     → SpellsKind side limit place.Map (fields_tree (printed_members ms)) (map ms)
 map_back times side limit no_members deep names members = by_map json.no_members [] (omega arith) refl refl (known_none side place.Map) no_map refl
 map_back times side limit (member n d ms) deep names members =
-    by_map (json.member (codes "fields") (json.object (printed_members (member n d ms))) json.no_members) (entries_of (member n d ms)) (omega arith) refl (untyped (json.object (printed_members (member n d ms))))
+    by_map (json.member (codes "fields") (json.object (printed_members (member n d ms))) json.no_members) (entries_of (member n d ms)) (omega arith) refl (untyped (member n d ms) names.sound.names)
     (known_one side place.Map (codes "fields") (json.object (printed_members (member n d ms))) (ap is_unknown fields_place))
     (subst (λ o. SpellsMap side (limit - 1) o (entries_of (member n d ms))) (sym (given_one (codes "fields") (json.object (printed_members (member n d ms))) refl)) (a_map (printed_members (member n d ms)) (json.object (printed_members (member n d ms))) refl (members (limit - 1) (omega arith) [] names.sound.names names.sound.ascending))) (ap map (sym (members_back (member n d ms))))
 

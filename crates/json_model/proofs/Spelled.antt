@@ -12,7 +12,7 @@ use Rattle.value_model.specs.Fields.{with_field}
 use Rattle.json_model.specs.declared.side.Side.{Side}
 use Rattle.json_model.specs.declared.place.Place.{Place}
 use Rattle.json_model.specs.declared.place.Place.TheVariants as place
-use Rattle.json_model.specs.Members.{is_null, given, kinds_given}
+use Rattle.json_model.specs.Members.{is_null, is_vector, given, kinds_given}
 use Rattle.json_model.specs.Places.{value_member}
 use Rattle.json_model.specs.Grammar.{are_known, is_strange, none_strange, SpellsScalar, SpellsValue, of_kind, SpellsKind, as_scalar, as_array as by_array, as_map as by_map, SpellsList, no_list, a_list, SpellsItems, no_item, an_item, SpellsMap, no_map, a_map, SpellsMembers, no_member, left_out, a_member, SpellsFields, FieldsFaults}
 use Rattle.document_keys.specs.Names.{Root, path_text, name_text}
@@ -94,22 +94,14 @@ pub full_array : (side : Side) (limit : ℕ) (d e : json.Data) (ms : json.Member
 full_array side limit d e ms items vs v room is known there list spelled means =
     by_array ms vs (omega arith) (object_at d ms is) (sym known) (subst (λ o. SpellsList side (limit - 1) o vs) there (a_list items e (array_at e items list) spelled)) means
 
-pub empty_map : (side : Side) (limit : ℕ) (d : json.Data) (ms : json.Members) (es : Entries) (v : Data) → limit ≢ 0 → Some ms ≡ as_object d → false ≡ is_some (given (codes "__type__") ms) → true ≡ are_known side place.Map ms → None ≡ given (codes "fields") ms → es ≡ [] → v ≡ map_of es → SpellsKind side limit place.Map d v
+pub empty_map : (side : Side) (limit : ℕ) (d : json.Data) (ms : json.Members) (es : Entries) (v : Data) → limit ≢ 0 → Some ms ≡ as_object d → false ≡ is_vector ms → true ≡ are_known side place.Map ms → None ≡ given (codes "fields") ms → es ≡ [] → v ≡ map_of es → SpellsKind side limit place.Map d v
 empty_map side limit d ms es v room is untyped known none empty means =
-    by_map ms [] (omega arith) (object_at d ms is) (not_given _ untyped) (sym known) (subst (λ o. SpellsMap side (limit - 1) o []) none no_map) (means ∙ ap map_of empty)
-  where
-    not_given : (o : Option json.Data) → false ≡ is_some o → o ≡ None
-    not_given None e = refl
-    not_given (Some x) e = cc
+    by_map ms [] (omega arith) (object_at d ms is) (sym untyped) (sym known) (subst (λ o. SpellsMap side (limit - 1) o []) none no_map) (means ∙ ap map_of empty)
 
-pub full_map : (side : Side) (limit : ℕ) (d e : json.Data) (ms ns : json.Members) (es : Entries) (v : Data) → limit ≢ 0 → Some ms ≡ as_object d → false ≡ is_some (given (codes "__type__") ms) → true ≡ are_known side place.Map ms → Some e ≡ given (codes "fields") ms → Some ns ≡ as_object e
+pub full_map : (side : Side) (limit : ℕ) (d e : json.Data) (ms ns : json.Members) (es : Entries) (v : Data) → limit ≢ 0 → Some ms ≡ as_object d → false ≡ is_vector ms → true ≡ are_known side place.Map ms → Some e ≡ given (codes "fields") ms → Some ns ≡ as_object e
     → SpellsMembers side (limit - 1) ns [] es → v ≡ map_of es → SpellsKind side limit place.Map d v
 full_map side limit d e ms ns es v room is untyped known there inner spelled means =
-    by_map ms es (omega arith) (object_at d ms is) (not_given _ untyped) (sym known) (subst (λ o. SpellsMap side (limit - 1) o es) there (a_map ns e (object_at e ns inner) spelled)) means
-  where
-    not_given : (o : Option json.Data) → false ≡ is_some o → o ≡ None
-    not_given None e = refl
-    not_given (Some x) e = cc
+    by_map ms es (omega arith) (object_at d ms is) (sym untyped) (sym known) (subst (λ o. SpellsMap side (limit - 1) o es) there (a_map ns e (object_at e ns inner) spelled)) means
 
 -- one item more
 items_push : (side : Side) (limit : ℕ) (items : List Json) (one : Json) (vs : List Data) (v : Data) → SpellsItems side limit (items_view items) vs → SpellsValue side limit (view one) v → SpellsItems side limit (items_view (items ++ one ∷ [])) (vs ++ v ∷ [])

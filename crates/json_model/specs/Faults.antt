@@ -1,6 +1,6 @@
 -- The faults of a tree, in the order of the walk: members in byte order of their names, lists in order. The wrong shape of
 -- an object, and a value that doesn't have exactly one kind, come before what is inside, and are then the only fault there.
-use Rattle.std.specs.Prelude.{◌≡◌, ◌≢◌, ℤ, is_some, Option, ◌⊎◌, ℕ, ◌-◌, ◌==◌, List, [], ◌∷◌, ◌++◌, length, Bool, true, false, codes, Some, if◌then◌else◌}
+use Rattle.std.specs.Prelude.{◌≡◌, ◌≢◌, ℤ, Option, ◌⊎◌, ℕ, ◌-◌, ◌==◌, List, [], ◌∷◌, ◌++◌, length, Bool, true, false, codes, Some, if◌then◌else◌}
 use Rattle.document_keys.specs.Names.{Root, IsKey, name_text}
 use Rattle.value_model.specs.declared.reference.RefName.{RefName}
 use Rattle.document_keys.specs.Paths.{IsFieldName}
@@ -15,7 +15,7 @@ use Rattle.json_model.specs.declared.fault.JsonFault.{JsonFault}
 use Rattle.json_model.specs.declared.fault.JsonFault.TheVariants as json_fault
 use Rattle.json_model.specs.declared.fault.NamingFault.{NamingFault}
 use Rattle.json_model.specs.Bytes.{SpellsBytes}
-use Rattle.json_model.specs.Members.{is_left_out, kinds_given, given}
+use Rattle.json_model.specs.Members.{is_vector, is_left_out, kinds_given}
 use Rattle.json_model.specs.Numbers.{SpellsWhole}
 use Rattle.json_model.specs.Places.{member_place}
 use Rattle.json_model.specs.Ranks.{first_of_least}
@@ -116,11 +116,11 @@ abbrev pub holds_list : Place → Bool
 holds_list place.Values = true
 holds_list _ = false
 
--- What an object has in place of what is inside it: a value has exactly one kind, and a map with a member `__type__` is a
+-- What an object has in place of what is inside it: a value has exactly one kind, and a map with a field `__type__` is a
 -- vector.
 abbrev pub own_faults : Place → List ℕ → Members → List JsonFault
 own_faults place.Value name ms = if length (kinds_given ms) == 1 then [] else json_fault.BadShape name ∷ []
-own_faults place.Map name ms = if is_some (given (codes "__type__") ms) then json_fault.Unsupported (codes "vectorValue") ∷ [] else []
+own_faults place.Map name ms = if is_vector ms then json_fault.Unsupported (codes "vectorValue") ∷ [] else []
 own_faults _ name ms = []
 
 -- an array or a map where none may nest any more

@@ -14,7 +14,7 @@ use Rattle.json_model.specs.declared.place.Place.TheVariants as place
 use Rattle.json_model.specs.Bytes.{SpellsBytes}
 use Rattle.json_model.specs.declared.fault.JsonFault.{JsonFault}
 use Rattle.json_model.specs.Faults.{IsNullTree, FaultsAt}
-use Rattle.json_model.specs.Members.{is_null, is_unknown, given, kinds_given}
+use Rattle.json_model.specs.Members.{is_vector, is_null, is_unknown, given, kinds_given}
 use Rattle.json_model.specs.Numbers.{SpellsWhole}
 use Rattle.json_model.specs.Places.{value_member, member_place}
 use Rattle.json_model.specs.References.{SpellsReference}
@@ -55,7 +55,7 @@ mutual
     as_scalar : {limit : ℕ} {p : Place} {d : json.Data} {v : Data} → SpellsScalar p d v → SpellsKind side limit p d v
     as_array : {limit : ℕ} {d : json.Data} {v : Data} (ms : json.Members) (ds : List Data) → 0 < limit → d ≡ json.object ms → are_known side place.Array ms ≡ true
         → SpellsList side (limit - 1) (given (codes "values") ms) ds → v ≡ array_of ds → SpellsKind side limit place.Array d v
-    as_map : {limit : ℕ} {d : json.Data} {v : Data} (ms : json.Members) (es : Entries) → 0 < limit → d ≡ json.object ms → given (codes "__type__") ms ≡ None → are_known side place.Map ms ≡ true
+    as_map : {limit : ℕ} {d : json.Data} {v : Data} (ms : json.Members) (es : Entries) → 0 < limit → d ≡ json.object ms → is_vector ms ≡ false → are_known side place.Map ms ≡ true
         → SpellsMap side (limit - 1) (given (codes "fields") ms) es → v ≡ map_of es → SpellsKind side limit place.Map d v
 
   -- a list of values, which may be left out where it is empty

@@ -1,7 +1,7 @@
 -- The members of JSON objects. A member whose value is null counts as left out.
-use Rattle.std.specs.Prelude.{ℕ, List, [], ◌∷◌, Bool, true, false, not, ◌&&◌, Option, Some, None, cond, option_and_then}
+use Rattle.std.specs.Prelude.{ℕ, List, [], ◌∷◌, Bool, true, false, not, ◌&&◌, Option, Some, None, cond, is_some, codes, option_and_then}
 use Rattle.serde_json.specs.Data.{Data as Json, null, boolean, number, string, array, object, Members, no_members, member}
-use Rattle.serde_json.specs.Find.{get_member}
+use Rattle.serde_json.specs.Find.{as_object, get_member}
 use Rattle.json_model.specs.declared.place.Place.{Place}
 use Rattle.json_model.specs.declared.place.Place.TheVariants as place
 use Rattle.json_model.specs.Places.{value_member}
@@ -20,6 +20,14 @@ unless_null d = cond (is_null d) None (Some d)
 -- the value of the member of that name, where it is there and isn't null
 abbrev pub given : List ℕ → Members → Option Json
 given name ms = option_and_then unless_null (get_member name ms)
+
+abbrev pub has_type : Option Members → Bool
+has_type None = false
+has_type (Some fields) = is_some (given (codes "__type__") fields)
+
+-- a map is a vector where one of its fields has the name `__type__`
+abbrev pub is_vector : Members → Bool
+is_vector ms = has_type (option_and_then as_object (given (codes "fields") ms))
 
 -- the member is left out: its value is null, and null isn't what is to stand there
 abbrev pub is_left_out : Place → Json → Bool

@@ -1,7 +1,7 @@
 ghost use Rattle.std.specs.Prelude.{◌≡◌, ◌≢◌, [], ◌∷◌, length, MatchOption, option_map};
 ghost use Rattle.serde_json.specs.Find.{get_member};
 ghost use Rattle.serde_json.specs.View.{view, members_view};
-ghost use Rattle.json_model.specs.Members.{given as given_of, kinds_given, says_kind as says_kind_of};
+ghost use Rattle.json_model.specs.Members.{given as given_of, is_vector as is_vector_of, kinds_given, says_kind as says_kind_of};
 
 use crate::place::{Place, value_member};
 use serde_json::{Map, Value as Json};
@@ -22,6 +22,19 @@ pub fn given<'a>(members: &'a Map<String, Json>, name: &str) -> Option<&'a Json>
         return None;
     }
     Some(value)
+}
+
+/// Whether the map of these members is a vector: one of its fields has the name `__type__`.
+pub(crate) fn is_vector(members: &Map<String, Json>) -> bool
+    ensures { result ≡ is_vector_of (members_view members.now.entries) }
+{
+    let Some(json) = given(members, "fields") else {
+        return false;
+    };
+    let Some(fields) = json.as_object() else {
+        return false;
+    };
+    given(fields, "__type__").is_some()
 }
 
 /// Whether the member says of which kind a value is.

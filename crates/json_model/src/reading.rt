@@ -13,7 +13,7 @@ ghost use Rattle.json_model.specs.Faults.{IsFault};
 use crate::bytes::read_bytes;
 use crate::fault::JsonFault;
 use crate::kinds::is_null_tree;
-use crate::members::{given, only_kind};
+use crate::members::{given, is_vector, only_kind};
 use crate::names::read_reference;
 use crate::numbers::read_whole;
 use crate::place::{Place, member_place, value_member};
@@ -294,7 +294,7 @@ fn build_map(alloc: Global, side: Side, limit: u64, json: &Json) -> Result<Optio
     let Some(members) = json.as_object() else {
         return Ok(None);
     };
-    if given(members, "__type__").is_some() {
+    if is_vector(members) {
         return Ok(None);
     }
     if !are_known(side, Place::Map, members) {

@@ -102,10 +102,11 @@ fn faults(rt: HostRuntime) -> Result<(), Fail> {
         ),
         ("{\"a\":{\"foo\":1,\"integerValue\":\"1\"}}", 1, "foo"),
         (
-            "{\"a\":{\"mapValue\":{\"fields\":5,\"__type__\":1}}}",
+            "{\"a\":{\"mapValue\":{\"fields\":{\"A\":5,\"__type__\":{}}}}}",
             5,
             "vectorValue",
         ),
+        ("{\"a\":{\"mapValue\":{\"__type__\":{}}}}", 1, "__type__"),
         ("{\"__a__\":{\"nullValue\":null}}", 6, "__a__"),
         ("{\"\":{\"doubleValue\":1}}", 5, "doubleValue"),
         ("{\"a\":{\"referenceValue\":\"x/y\"}}", 6, "x/y"),

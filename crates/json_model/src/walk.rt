@@ -7,7 +7,7 @@ ghost use Rattle.json_model.specs.Faults.{FirstOf, FaultsAt, ItemsFaults, Member
 
 use crate::fault::{JsonFault, better};
 use crate::kinds::{bad_shape_unless, find_in_kind};
-use crate::members::{given, only_kind};
+use crate::members::{is_vector, only_kind};
 use crate::names::find_in_field_name;
 use crate::place::{Place, member_place};
 use crate::side::Side;
@@ -45,7 +45,7 @@ fn own_fault(
     match place {
         Place::Value => bad_shape_unless(alloc, only_kind(members).is_some(), name),
         Place::Map => {
-            if given(members, "__type__").is_none() {
+            if !is_vector(members) {
                 return Ok(None);
             }
             Ok(Some(JsonFault::Unsupported(Text::from_str(alloc, "vectorValue")?)))

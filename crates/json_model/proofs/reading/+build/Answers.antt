@@ -6,7 +6,7 @@ use Rattle.serde_json.specs.View.{items_view, members_view}
 use Rattle.serde_json.specs.Data.{members_depth}
 use Rattle.document_keys.specs.Paths.{IsFieldName}
 use Rattle.json_model.specs.Grammar.{no_item, no_member, SpellsItems, SpellsMembers}
-use Rattle.json_model.proofs.Spelled.{value_found, scalar_found, empty_array, full_array, empty_map, full_map, not_there, items_more, item_spelled, member_skip, member_more, member_spelled}
+use Rattle.json_model.proofs.Spelled.{value_found, scalar_found, empty_array, full_array, empty_map, full_map, items_more, item_spelled, member_skip, member_more, member_spelled}
 use Rattle.std.specs.Str.{IsUtf8}
 use Rattle.std.proofs.lemmas.List.Elements.{All-nil}
 use Rattle.json_model.proofs.Stored.{items_push, keys_put, members_put, array_stored, map_stored}
@@ -63,7 +63,7 @@ build_items-loop-item-preserved t c = record {
 
 pub build_map-returns-in_default-given-clause-found : goal.build_map-returns-in_default-given-clause-found
 build_map-returns-in_default-given-clause-found t c =
-    empty_map _ _ _ _ _ _ c.if-limit-eq0.false c.in-Some.ensures (not_there c.given.result _ c.given.ensures c.if-is_some.ensures) c.if-not-are_known.ensures c.in_default-given.ensures c.new.ensures c.map.ensures
+    empty_map _ _ _ _ _ _ c.if-limit-eq0.false c.in-Some.ensures c.if-is_vector.ensures c.if-not-are_known.ensures c.in_default-given.ensures c.new.ensures c.map.ensures
 
 pub build_map-build_fields-requires : goal.build_map-build_fields-requires
 build_map-build_fields-requires t c =
@@ -74,7 +74,7 @@ build_map-build_fields-requires t c =
 
 pub build_map-returns-clause-found : goal.build_map-returns-clause-found
 build_map-returns-clause-found t c =
-    full_map _ _ _ _ _ _ _ _ c.if-limit-eq0.false c.in-Some.ensures (not_there c.given.result _ c.given.ensures c.if-is_some.ensures) c.if-not-are_known.ensures c.in-Some-given.ensures c.in-Some-as_object.ensures (rw c.in-Some-2.is at c.in_ok-fields.ensures.found) c.map-2.ensures
+    full_map _ _ _ _ _ _ _ _ c.if-limit-eq0.false c.in-Some.ensures c.if-is_vector.ensures c.if-not-are_known.ensures c.in-Some-given.ensures c.in-Some-as_object.ensures (rw c.in-Some-2.is at c.in_ok-fields.ensures.found) c.map-2.ensures
 
 pub build_fields-loop-key-init : goal.build_fields-loop-key-init
 build_fields-loop-key-init t c = (tt, tt, rw c.new-fields.ensures no_member, rw c.new-fields.ensures (All-nil IsUtf8), rw c.new-fields.ensures tt)
