@@ -10,3 +10,4 @@ pub mod Firsts
 pub mod Walked
 pub mod Trees
 pub mod Spelled
+pub mod Good

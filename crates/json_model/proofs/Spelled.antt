@@ -14,7 +14,7 @@ use Rattle.json_model.specs.declared.place.Place.{Place}
 use Rattle.json_model.specs.declared.place.Place.TheVariants as place
 use Rattle.json_model.specs.Members.{is_null, given, kinds_given}
 use Rattle.json_model.specs.Places.{value_member}
-use Rattle.json_model.specs.Grammar.{are_known, is_strange, none_strange, SpellsScalar, SpellsValue, of_kind, SpellsKind, as_scalar, as_array as by_array, as_map as by_map, SpellsList, no_list, a_list, SpellsItems, no_item, an_item, SpellsMap, no_map, a_map, SpellsMembers, no_member, left_out, a_member}
+use Rattle.json_model.specs.Grammar.{are_known, is_strange, none_strange, SpellsScalar, SpellsValue, of_kind, SpellsKind, as_scalar, as_array as by_array, as_map as by_map, SpellsList, no_list, a_list, SpellsItems, no_item, an_item, SpellsMap, no_map, a_map, SpellsMembers, no_member, left_out, a_member, SpellsFields, FieldsFaults}
 use Rattle.document_keys.specs.Names.{Root, IsRoot, IsKey, path_text, name_text}
 use Rattle.document_keys.specs.Faults.{HasKeyFault}
 use Rattle.document_keys.specs.declared.faults.NameFault.TheVariants as name_fault
@@ -24,9 +24,11 @@ use Rattle.json_model.specs.declared.fault.JsonFault.{JsonFault}
 use Rattle.json_model.specs.declared.fault.JsonFault.TheVariants as json_fault
 use Rattle.json_model.specs.declared.fault.NamingFault.{NamingFault}
 use Rattle.json_model.specs.declared.fault.NamingFault.TheVariants.{WrongRoot, BadSegment, OddLength, BadPath, ReservedField}
-use Rattle.json_model.specs.Faults.{IsNameFault}
+use Rattle.json_model.specs.Faults.{IsNameFault, FirstOf}
 use Rattle.json_model.specs.References.{SpellsReference, IsUnder, HasReferenceFault, root_of}
 use Rattle.json_model.proofs.Cuts.{one_root}
+use Rattle.json_model.proofs.Firsts.{none_first}
+use Rattle.json_model.proofs.Good.{good}
 use Rattle.json_model.proofs.Trees.{object_at, array_at}
 
 -- what a reader answers: a thing of that kind, or that there is none
@@ -206,3 +208,18 @@ reference_none d text f (Ok found) is (inr (why, has, named)) none = subst (Foun
     (λ v s. let same : Some text ≡ Some s.0 = is ∙ ap as_str s.1.1 in
     let texts : text ≡ s.0 = cc in
     reference_no text s.1.0 why (subst (λ t. SpellsReference t s.1.0) (sym texts) s.1.2) has)
+
+-- fields by their object
+pub fields_found : {E : Type 0} (side : Side) (d : json.Data) (ms : json.Members) (r : Result (Option Entries) E) → Some ms ≡ as_object d → IfOk r (Found (SpellsMembers side 20 ms [])) → IfOk r (Found (SpellsFields side d))
+fields_found side d ms r is = ok_found _ _ r (λ es spelled. record { members = ms; is = object_at d ms is; spelled = spelled }) (λ es fields. subst (λ ns. SpellsMembers side 20 ns [] es) (same_members side 20 d ms fields.members is fields.is) fields.spelled)
+
+pub no_fields : (side : Side) (d : json.Data) → None ≡ as_object d → (es : Entries) → SpellsFields side d es → ⊥
+no_fields side d is es fields = let e = is ∙ ap as_object fields.is in cc
+
+-- a tree that spells no fields has a fault
+pub has_fault : (side : Side) (d : json.Data) → ((es : Entries) → SpellsFields side d es → ⊥) → FirstOf (FieldsFaults side d) None → ⊥
+has_fault side d unlike first =
+    let clean = subst (FieldsFaults side d) (none_first first.faults first.first) first.are in
+    let made = good side 20 place.Fields (codes "fields") d clean in
+    let fields = made.1.1 [] in
+    unlike fields.0 (record { members = made.0; is = made.1.0; spelled = fields.1 })

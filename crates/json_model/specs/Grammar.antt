@@ -12,7 +12,8 @@ use Rattle.json_model.specs.declared.side.Side.TheVariants.{Caller, Backend}
 use Rattle.json_model.specs.declared.place.Place.{Place}
 use Rattle.json_model.specs.declared.place.Place.TheVariants as place
 use Rattle.json_model.specs.Bytes.{SpellsBytes}
-use Rattle.json_model.specs.Faults.{IsNullTree}
+use Rattle.json_model.specs.declared.fault.JsonFault.{JsonFault}
+use Rattle.json_model.specs.Faults.{IsNullTree, FaultsAt}
 use Rattle.json_model.specs.Members.{is_null, is_unknown, given, kinds_given}
 use Rattle.json_model.specs.Numbers.{SpellsWhole}
 use Rattle.json_model.specs.Places.{value_member, member_place}
@@ -86,3 +87,7 @@ pub record SpellsFields (side : Side) (d : json.Data) (fields : Entries) : Type 
   pub members : json.Members
   pub is : d ≡ json.object members
   pub spelled : SpellsMembers side max_nesting members [] fields
+
+-- the faults of a tree that is to spell fields, in the order of the walk
+abbrev pub FieldsFaults : Side → json.Data → List JsonFault → Type 0
+FieldsFaults side d faults = FaultsAt side max_nesting place.Fields (codes "fields") d faults

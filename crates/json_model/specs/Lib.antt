@@ -1,6 +1,7 @@
 pub mod Bytes
 pub mod Faults
 pub mod Grammar
+pub mod Laws
 pub mod Members
 pub mod Numbers
 pub mod Places

@@ -1,12 +1,13 @@
 //! The values and fields that trees spell.
 
-ghost use Rattle.std.specs.Prelude.{◌≡◌, ◌≢◌, [], List, None, IsTrue, ◌↔◌, IfOk, MatchOption};
+ghost use Rattle.std.specs.Prelude.{◌≡◌, ◌≢◌, [], List, None, IsTrue, ◌↔◌, IfOk, IfErr, MatchOption};
 ghost use Rattle.serde_json.specs.View.{view, items_view, members_view};
 ghost use Rattle.document_keys.specs.Paths.{IsFieldName};
 ghost use Rattle.value_model.specs.Data.{Data as ValueData, Entries};
 ghost use Rattle.json_model.specs.declared.place.Place.TheVariants as places;
 ghost use Rattle.json_model.specs.declared.fault.JsonFault.TheVariants as json_fault;
-ghost use Rattle.json_model.specs.Grammar.{are_known as are_known_of, is_strange as is_strange_of, none_strange as none_strange_of, SpellsScalar, SpellsValue, SpellsKind, SpellsItems, SpellsMembers};
+ghost use Rattle.json_model.specs.Grammar.{are_known as are_known_of, is_strange as is_strange_of, none_strange as none_strange_of, SpellsScalar, SpellsValue, SpellsKind, SpellsItems, SpellsMembers, SpellsFields, FieldsFaults};
+ghost use Rattle.json_model.specs.Faults.{IsFault};
 
 use crate::bytes::read_bytes;
 use crate::fault::JsonFault;
@@ -16,10 +17,14 @@ use crate::names::read_reference;
 use crate::numbers::read_whole;
 use crate::place::{Place, member_place, value_member};
 use crate::side::Side;
-use document_keys::{NoMemory, Text, check_field_name};
+use crate::walk::find_fault;
+use document_keys::{Database, NoMemory, Text, check_field_name};
 use serde_json::{Map, Value as Json};
 use std::alloc::Global;
 use value_model::{Bytes, Fields, Kind, Timestamp, Value};
+
+/// How many arrays and maps may nest in a field's value.
+pub const MAX_NESTING: u64 = 20;
 
 /// Whether the member isn't known, and isn't left out.
 fn is_strange(place: Place, name: &str, json: &Json) -> bool
@@ -321,4 +326,39 @@ pub(crate) fn build_fields(
         fields.put(alloc, name, value)?;
     }
     Ok(Some(fields))
+}
+
+/// The fields that a tree spells.
+fn build_tree(alloc: Global, side: Side, json: &Json) -> Result<Option<Fields>, NoMemory>
+    ensures { IfOk result (λ found. MatchOption found ((es : Entries) → ¬ (SpellsFields side (view json.now) es)) (λ es. SpellsFields side (view json.now) es)) }
+{
+    let Some(members) = json.as_object() else {
+        return Ok(None);
+    };
+    build_fields(alloc, side, MAX_NESTING, members)
+}
+
+/// The fields that the tree spells: an object of values, in each of which at most 20 arrays and maps nest. References name
+/// documents of any database.
+///
+/// # Errors
+/// The first fault of the least kind, in the walk through the tree: members in byte order of their names, lists in order. A
+/// wrong shape of the tree itself names `fields`. Or `NoMemory`.
+pub fn read_fields(
+    alloc: Global,
+    _root: &Database,
+    side: Side,
+    json: &Json,
+) -> Result<Fields, JsonFault>
+    ensures fields { IfOk result (λ fields. SpellsFields side (view json.now) fields) }
+    ensures fault { IfErr result (λ fault. IsFault (FieldsFaults side (view json.now)) fault) }
+    ensures unspelled { IfErr result (λ fault. fault ≢ json_fault.NoMemory → (es : Entries) → ¬ (SpellsFields side (view json.now) es)) }
+{
+    if let Some(fields) = build_tree(alloc, side, json)? {
+        return Ok(fields);
+    }
+    match find_fault(alloc, side, MAX_NESTING, Place::Fields, "fields", json)? {
+        Some(fault) => Err(fault),
+        None => unreachable!(),
+    }
 }
