@@ -1,17 +1,12 @@
 pub mod Began
 pub mod Breaks
 pub mod Committed
-pub mod Entries
 pub mod Handled
 pub mod Honest
-pub mod Lines
-pub mod Named
-pub mod Numerals
 pub mod OneReading
 pub mod Opened
 pub mod Parsed
 pub mod Replayed
 pub mod Served
-pub mod Spelled
 pub mod Surviving
 pub mod Wording

@@ -10,15 +10,15 @@ mod line;
 mod local_store;
 mod lookup;
 mod members;
-mod names;
-mod numbers;
 mod opening;
 mod printing;
 mod reading;
 mod refusal;
 mod running;
 mod serving;
+mod shape;
 mod status;
+mod strays;
 #[cfg(test)]
 mod tests;
 mod tree;

@@ -298,6 +298,7 @@ at_member side limit p name d (inr at) inside =
 
 mutual
   unfolding FaultsAt
+
   pub good : (side : Side) (limit : ℕ) (p : Place) (name : List ℕ) (d : json.Data) → FaultsAt side limit p name d [] → Good side limit p d
   good side limit p name json.null h = kind_good side limit p name json.null h
   good side limit p name (json.boolean b) h = kind_good side limit p name (json.boolean b) h
@@ -315,6 +316,7 @@ mutual
 
   members_good : (side : Side) (limit : ℕ) (p : Place) (ms : json.Members) → MembersFaults side limit p ms [] → AllGood side limit p ms
   members_good side limit p json.no_members h = tt
-  members_good side limit p (json.member name d ms) h =
-      (at_member side limit p name d (subst (AtMember p name d (FaultsAt side limit (member_place p name) name d)) (nothing_first h.0 h.1 h.4) h.2) (good side limit (member_place p name) name d),
-      members_good side limit p ms (subst (MembersFaults side limit p ms) (nothing_last h.0 h.1 h.4) h.3))
+  members_good side limit p (json.member name d ms) h = (
+    at_member side limit p name d (subst (AtMember p name d (FaultsAt side limit (member_place p name) name d)) (nothing_first h.0 h.1 h.4) h.2) (good side limit (member_place p name) name d),
+    members_good side limit p ms (subst (MembersFaults side limit p ms) (nothing_last h.0 h.1 h.4) h.3),
+  )

@@ -47,3 +47,6 @@ under_fault text root f is under (inr (BadSegment, has, is_named)) = inr (BadSeg
 under_fault text root f is under (inr (OddLength, has, is_named)) = inr (OddLength, (root, is, has), is_named)
 under_fault text root f is under (inr (BadPath, has, is_named)) = absurd has
 under_fault text root f is under (inr (ReservedField, has, is_named)) = absurd has
+
+pub no_key_fault : (root : Root) (d : Json) (text : List ℕ) (f : JsonFault) → Some text ≡ as_str d → IsNameFault (HasDocumentFault root text) text f → IsFault (NameFaults root d) f
+no_key_fault root d text f is why = no_key {T = ℕ} root d text (Err f) is why

@@ -11,3 +11,4 @@ pub mod Walked
 pub mod Trees
 pub mod Spelled
 pub mod Good
+pub mod Stored

@@ -14,6 +14,9 @@ mod place;
 mod printing;
 mod reading;
 mod side;
+#[cfg(test)]
+mod tests;
+mod texts;
 mod walk;
 
 pub use bytes::{print_bytes, read_bytes};

@@ -2,11 +2,13 @@ ghost use Rattle.std.specs.Prelude.{◌≡◌, ◌≢◌, ℕ, ◌++◌, ◌∷�
 ghost use Rattle.serde_json.specs.View.{view};
 ghost use Rattle.document_keys.specs.Names.{Root, IsPart, IsSegment, IsRoot, IsKey, name_text};
 ghost use Rattle.document_keys.specs.Paths.{IsFieldName};
+ghost use Rattle.value_model.specs.Storable.{IsStorableName, IsStorableKey};
 ghost use Rattle.json_model.specs.References.{SpellsReference, IsUnder, HasDocumentFault, HasReferenceFault};
 ghost use Rattle.json_model.specs.Faults.{FirstOf, IsFault, IsNameFault, SpellsName, NameFaults, FieldNameFaults, bad_name as bad_name_of};
 
 use crate::fault::{BadName, JsonFault, NamingFault};
 use crate::side::Side;
+use crate::texts::{show_key, show_segment};
 use document_keys::{
     Database, DocumentKey, FieldFault, NameFault, NoMemory, Segment, Text, check_field_name,
 };
@@ -108,6 +110,7 @@ fn read_root(alloc: Global, text: &str) -> Result<Option<Database>, NoMemory>
 /// `d`, else as `DocumentKey::read` says; or `NoMemory`.
 pub fn read_reference(alloc: Global, text: &str) -> Result<RefName, JsonFault>
     ensures name { IfOk result (λ name. SpellsReference text.now name) }
+    ensures storable { IfOk result IsStorableName }
     ensures fault { IfErr result (λ fault. IsNameFault (HasReferenceFault text.now) text.now fault) }
 {
     let Some(root) = read_root(alloc, text)? else {
@@ -119,6 +122,9 @@ pub fn read_reference(alloc: Global, text: &str) -> Result<RefName, JsonFault>
     };
     let project = root.project().copy(alloc)?;
     let database = root.name().copy(alloc)?;
+    show_segment(&project);
+    show_segment(&database);
+    show_key(&key);
     Ok(RefName {
         project,
         database,
@@ -137,12 +143,19 @@ pub fn read_name(
     json: &Json,
 ) -> Result<DocumentKey, JsonFault>
     ensures name { IfOk result (λ key. SpellsName root.now (view json.now) key) }
+    ensures storable { IfOk result IsStorableKey }
     ensures fault { IfErr result (λ fault. IsFault (NameFaults root.now (view json.now)) fault) }
 {
     let Some(text) = json.as_str() else {
         return Err(JsonFault::BadShape(Text::from_str(alloc, "name")?));
     };
-    read_key(alloc, root, text)
+    match read_key(alloc, root, text) {
+        Ok(key) => {
+            show_key(&key);
+            Ok(key)
+        }
+        Err(fault) => Err(fault),
+    }
 }
 
 /// The fault of a field's name.

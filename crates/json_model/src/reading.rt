@@ -1,9 +1,10 @@
 //! The values and fields that trees spell.
 
-ghost use Rattle.std.specs.Prelude.{◌≡◌, ◌≢◌, [], List, None, IsTrue, ◌↔◌, IfOk, IfErr, MatchOption};
+ghost use Rattle.std.specs.Prelude.{◌≡◌, ◌≢◌, [], List, None, IsTrue, ◌↔◌, IfOk, IfErr, IfSome, MatchOption};
 ghost use Rattle.serde_json.specs.View.{view, items_view, members_view};
 ghost use Rattle.document_keys.specs.Paths.{IsFieldName};
-ghost use Rattle.value_model.specs.Data.{Data as ValueData, Entries};
+ghost use Rattle.value_model.specs.Data.{Data as ValueData, Entries, items_of};
+ghost use Rattle.value_model.specs.Storable.{IsStorable, AreStorableItems, AreStorable};
 ghost use Rattle.json_model.specs.declared.place.Place.TheVariants as places;
 ghost use Rattle.json_model.specs.declared.fault.JsonFault.TheVariants as json_fault;
 ghost use Rattle.json_model.specs.Grammar.{are_known as are_known_of, is_strange as is_strange_of, none_strange as none_strange_of, SpellsScalar, SpellsValue, SpellsKind, SpellsItems, SpellsMembers, SpellsFields, FieldsFaults};
@@ -17,6 +18,7 @@ use crate::names::read_reference;
 use crate::numbers::read_whole;
 use crate::place::{Place, member_place, value_member};
 use crate::side::Side;
+use crate::texts::show_text;
 use crate::walk::find_fault;
 use document_keys::{Database, NoMemory, Text, check_field_name};
 use serde_json::{Map, Value as Json};
@@ -58,7 +60,8 @@ fn are_known(side: Side, place: Place, members: &Map<String, Json>) -> bool
 }
 
 fn build_null(json: &Json) -> Option<Value>
-    ensures { MatchOption result ((v : ValueData) → ¬ (SpellsScalar places.Null (view json.now) v)) (λ v. SpellsScalar places.Null (view json.now) v) }
+    ensures found { MatchOption result ((v : ValueData) → ¬ (SpellsScalar places.Null (view json.now) v)) (λ v. SpellsScalar places.Null (view json.now) v) }
+    ensures storable { IfSome result IsStorable }
 {
     if is_null_tree(json) {
         return Some(Value { kind: Kind::Null });
@@ -67,7 +70,8 @@ fn build_null(json: &Json) -> Option<Value>
 }
 
 fn build_boolean(json: &Json) -> Option<Value>
-    ensures { MatchOption result ((v : ValueData) → ¬ (SpellsScalar places.Boolean (view json.now) v)) (λ v. SpellsScalar places.Boolean (view json.now) v) }
+    ensures found { MatchOption result ((v : ValueData) → ¬ (SpellsScalar places.Boolean (view json.now) v)) (λ v. SpellsScalar places.Boolean (view json.now) v) }
+    ensures storable { IfSome result IsStorable }
 {
     let is = json.as_bool()?;
     Some(Value {
@@ -76,7 +80,8 @@ fn build_boolean(json: &Json) -> Option<Value>
 }
 
 fn build_integer(alloc: Global, json: &Json) -> Result<Option<Value>, NoMemory>
-    ensures { IfOk result (λ found. MatchOption found ((v : ValueData) → ¬ (SpellsScalar places.Integer (view json.now) v)) (λ v. SpellsScalar places.Integer (view json.now) v)) }
+    ensures found { IfOk result (λ found. MatchOption found ((v : ValueData) → ¬ (SpellsScalar places.Integer (view json.now) v)) (λ v. SpellsScalar places.Integer (view json.now) v)) }
+    ensures storable { IfOk result (λ found. IfSome found IsStorable) }
 {
     let Some(number) = read_whole(alloc, json)? else {
         return Ok(None);
@@ -87,7 +92,8 @@ fn build_integer(alloc: Global, json: &Json) -> Result<Option<Value>, NoMemory>
 }
 
 fn build_time(json: &Json) -> Option<Value>
-    ensures { MatchOption result ((v : ValueData) → ¬ (SpellsScalar places.Time (view json.now) v)) (λ v. SpellsScalar places.Time (view json.now) v) }
+    ensures found { MatchOption result ((v : ValueData) → ¬ (SpellsScalar places.Time (view json.now) v)) (λ v. SpellsScalar places.Time (view json.now) v) }
+    ensures storable { IfSome result IsStorable }
 {
     let Some(text) = json.as_str() else {
         return None;
@@ -101,11 +107,13 @@ fn build_time(json: &Json) -> Option<Value>
 }
 
 fn build_text(alloc: Global, json: &Json) -> Result<Option<Value>, NoMemory>
-    ensures { IfOk result (λ found. MatchOption found ((v : ValueData) → ¬ (SpellsScalar places.Text (view json.now) v)) (λ v. SpellsScalar places.Text (view json.now) v)) }
+    ensures found { IfOk result (λ found. MatchOption found ((v : ValueData) → ¬ (SpellsScalar places.Text (view json.now) v)) (λ v. SpellsScalar places.Text (view json.now) v)) }
+    ensures storable { IfOk result (λ found. IfSome found IsStorable) }
 {
     let Some(text) = json.as_str() else {
         return Ok(None);
     };
+    show_text(text);
     let text = Text::from_str(alloc, text)?;
     Ok(Some(Value {
         kind: Kind::Text(text),
@@ -113,7 +121,8 @@ fn build_text(alloc: Global, json: &Json) -> Result<Option<Value>, NoMemory>
 }
 
 fn build_bytes(alloc: Global, json: &Json) -> Result<Option<Value>, NoMemory>
-    ensures { IfOk result (λ found. MatchOption found ((v : ValueData) → ¬ (SpellsScalar places.Bytes (view json.now) v)) (λ v. SpellsScalar places.Bytes (view json.now) v)) }
+    ensures found { IfOk result (λ found. MatchOption found ((v : ValueData) → ¬ (SpellsScalar places.Bytes (view json.now) v)) (λ v. SpellsScalar places.Bytes (view json.now) v)) }
+    ensures storable { IfOk result (λ found. IfSome found IsStorable) }
 {
     let Some(text) = json.as_str() else {
         return Ok(None);
@@ -128,7 +137,8 @@ fn build_bytes(alloc: Global, json: &Json) -> Result<Option<Value>, NoMemory>
 
 /// Nothing, unless the fault is want of memory.
 fn none_unless_memory(fault: JsonFault) -> Result<Option<Value>, NoMemory>
-    ensures { IfOk result (λ found. (found ≡ None) × (fault ≢ json_fault.NoMemory)) }
+    ensures found { IfOk result (λ found. (found ≡ None) × (fault ≢ json_fault.NoMemory)) }
+    ensures storable { IfOk result (λ found. IfSome found IsStorable) }
 {
     match fault {
         JsonFault::NoMemory => Err(NoMemory),
@@ -137,7 +147,8 @@ fn none_unless_memory(fault: JsonFault) -> Result<Option<Value>, NoMemory>
 }
 
 fn build_reference(alloc: Global, json: &Json) -> Result<Option<Value>, NoMemory>
-    ensures { IfOk result (λ found. MatchOption found ((v : ValueData) → ¬ (SpellsScalar places.Reference (view json.now) v)) (λ v. SpellsScalar places.Reference (view json.now) v)) }
+    ensures found { IfOk result (λ found. MatchOption found ((v : ValueData) → ¬ (SpellsScalar places.Reference (view json.now) v)) (λ v. SpellsScalar places.Reference (view json.now) v)) }
+    ensures storable { IfOk result (λ found. IfSome found IsStorable) }
 {
     let Some(text) = json.as_str() else {
         return Ok(None);
@@ -152,7 +163,8 @@ fn build_reference(alloc: Global, json: &Json) -> Result<Option<Value>, NoMemory
 
 /// The scalar of the kind that stands at the place.
 fn build_scalar(alloc: Global, place: Place, json: &Json) -> Result<Option<Value>, NoMemory>
-    ensures { IfOk result (λ found. MatchOption found ((v : ValueData) → ¬ (SpellsScalar place (view json.now) v)) (λ v. SpellsScalar place (view json.now) v)) }
+    ensures found { IfOk result (λ found. MatchOption found ((v : ValueData) → ¬ (SpellsScalar place (view json.now) v)) (λ v. SpellsScalar place (view json.now) v)) }
+    ensures storable { IfOk result (λ found. IfSome found IsStorable) }
 {
     match place {
         Place::Null => Ok(build_null(json)),
@@ -183,7 +195,8 @@ pub(crate) fn build_value(
     limit: u64,
     json: &Json,
 ) -> Result<Option<Value>, NoMemory>
-    ensures { IfOk result (λ found. MatchOption found ((v : ValueData) → ¬ (SpellsValue side limit (view json.now) v)) (λ v. SpellsValue side limit (view json.now) v)) }
+    ensures found { IfOk result (λ found. MatchOption found ((v : ValueData) → ¬ (SpellsValue side limit (view json.now) v)) (λ v. SpellsValue side limit (view json.now) v)) }
+    ensures storable { IfOk result (λ found. IfSome found IsStorable) }
 {
     let Some(members) = json.as_object() else {
         return Ok(None);
@@ -206,7 +219,8 @@ fn build_kind(
     place: Place,
     json: &Json,
 ) -> Result<Option<Value>, NoMemory>
-    ensures { IfOk result (λ found. MatchOption found ((v : ValueData) → ¬ (SpellsKind side limit place (view json.now) v)) (λ v. SpellsKind side limit place (view json.now) v)) }
+    ensures found { IfOk result (λ found. MatchOption found ((v : ValueData) → ¬ (SpellsKind side limit place (view json.now) v)) (λ v. SpellsKind side limit place (view json.now) v)) }
+    ensures storable { IfOk result (λ found. IfSome found IsStorable) }
 {
     match place {
         Place::Array => build_array(alloc, side, limit, json),
@@ -223,7 +237,8 @@ fn build_array(
     limit: u64,
     json: &Json,
 ) -> Result<Option<Value>, NoMemory>
-    ensures { IfOk result (λ found. MatchOption found ((v : ValueData) → ¬ (SpellsKind side limit places.Array (view json.now) v)) (λ v. SpellsKind side limit places.Array (view json.now) v)) }
+    ensures found { IfOk result (λ found. MatchOption found ((v : ValueData) → ¬ (SpellsKind side limit places.Array (view json.now) v)) (λ v. SpellsKind side limit places.Array (view json.now) v)) }
+    ensures storable { IfOk result (λ found. IfSome found IsStorable) }
 {
     if limit == 0 {
         return Ok(None);
@@ -254,7 +269,8 @@ fn build_items(
     limit: u64,
     items: &Vec<Json>,
 ) -> Result<Option<Vec<Value>>, NoMemory>
-    ensures { IfOk result (λ found. MatchOption found ((vs : List ValueData) → ¬ (SpellsItems side limit (items_view items.now.items) vs)) (λ vs. SpellsItems side limit (items_view items.now.items) vs.items)) }
+    ensures found { IfOk result (λ found. MatchOption found ((vs : List ValueData) → ¬ (SpellsItems side limit (items_view items.now.items) vs)) (λ vs. SpellsItems side limit (items_view items.now.items) vs.items)) }
+    ensures storable { IfOk result (λ found. IfSome found (λ vs. AreStorableItems (items_of vs.items))) }
 {
     let mut values = Vec::new(alloc);
     for item in items {
@@ -268,13 +284,9 @@ fn build_items(
 
 /// The map that stands under `mapValue`.
 #[cycle(build)]
-fn build_map(
-    alloc: Global,
-    side: Side,
-    limit: u64,
-    json: &Json,
-) -> Result<Option<Value>, NoMemory>
-    ensures { IfOk result (λ found. MatchOption found ((v : ValueData) → ¬ (SpellsKind side limit places.Map (view json.now) v)) (λ v. SpellsKind side limit places.Map (view json.now) v)) }
+fn build_map(alloc: Global, side: Side, limit: u64, json: &Json) -> Result<Option<Value>, NoMemory>
+    ensures found { IfOk result (λ found. MatchOption found ((v : ValueData) → ¬ (SpellsKind side limit places.Map (view json.now) v)) (λ v. SpellsKind side limit places.Map (view json.now) v)) }
+    ensures storable { IfOk result (λ found. IfSome found IsStorable) }
 {
     if limit == 0 {
         return Ok(None);
@@ -308,7 +320,8 @@ pub(crate) fn build_fields(
     limit: u64,
     members: &Map<String, Json>,
 ) -> Result<Option<Fields>, NoMemory>
-    ensures { IfOk result (λ found. MatchOption found ((es : Entries) → ¬ (SpellsMembers side limit (members_view members.now.entries) [] es)) (λ es. SpellsMembers side limit (members_view members.now.entries) [] es)) }
+    ensures found { IfOk result (λ found. MatchOption found ((es : Entries) → ¬ (SpellsMembers side limit (members_view members.now.entries) [] es)) (λ es. SpellsMembers side limit (members_view members.now.entries) [] es)) }
+    ensures storable { IfOk result (λ found. IfSome found AreStorable) }
 {
     let mut fields = Fields::new(alloc);
     for (key, member) in members {
@@ -322,15 +335,18 @@ pub(crate) fn build_fields(
         let Some(value) = build_value(alloc, side, limit, member)? else {
             return Ok(None);
         };
+        show_text(name);
         let name = Text::from_str(alloc, name)?;
         fields.put(alloc, name, value)?;
     }
+    let _count = fields.len();
     Ok(Some(fields))
 }
 
 /// The fields that a tree spells.
 fn build_tree(alloc: Global, side: Side, json: &Json) -> Result<Option<Fields>, NoMemory>
-    ensures { IfOk result (λ found. MatchOption found ((es : Entries) → ¬ (SpellsFields side (view json.now) es)) (λ es. SpellsFields side (view json.now) es)) }
+    ensures found { IfOk result (λ found. MatchOption found ((es : Entries) → ¬ (SpellsFields side (view json.now) es)) (λ es. SpellsFields side (view json.now) es)) }
+    ensures storable { IfOk result (λ found. IfSome found AreStorable) }
 {
     let Some(members) = json.as_object() else {
         return Ok(None);
@@ -351,6 +367,7 @@ pub fn read_fields(
     json: &Json,
 ) -> Result<Fields, JsonFault>
     ensures fields { IfOk result (λ fields. SpellsFields side (view json.now) fields) }
+    ensures storable { IfOk result AreStorable }
     ensures fault { IfErr result (λ fault. IsFault (FieldsFaults side (view json.now)) fault) }
     ensures unspelled { IfErr result (λ fault. fault ≢ json_fault.NoMemory → (es : Entries) → ¬ (SpellsFields side (view json.now) es)) }
 {

@@ -1,20 +1,19 @@
 use Rattle.json_model.proofs.reading.build_scalar.Goals as goal
 
-pub returns-in-Boolean : goal.returns-in-Boolean
-returns-in-Boolean c = rw c.in-Boolean.is c.build_boolean.ensures
+pub returns-in-Boolean-clause-found : goal.returns-in-Boolean-clause-found
+returns-in-Boolean-clause-found c = rw c.in-Boolean.is c.build_boolean.ensures.found
 
-pub returns-in-Integer : goal.returns-in-Integer
-returns-in-Integer c = rw c.in-Integer.is c.build_integer.ensures
+pub returns-in-Integer-clause-found : goal.returns-in-Integer-clause-found
+returns-in-Integer-clause-found c = rw c.in-Integer.is c.build_integer.ensures.found
 
-pub returns-in-Time : goal.returns-in-Time
-returns-in-Time c = rw c.in-Time.is c.build_time.ensures
+pub returns-in-Time-clause-found : goal.returns-in-Time-clause-found
+returns-in-Time-clause-found c = rw c.in-Time.is c.build_time.ensures.found
 
-pub returns-in-Text : goal.returns-in-Text
-returns-in-Text c = rw c.in-Text.is c.build_text.ensures
+pub returns-in-Text-clause-found : goal.returns-in-Text-clause-found
+returns-in-Text-clause-found c = rw c.in-Text.is c.build_text.ensures.found
 
-pub returns-in-Bytes : goal.returns-in-Bytes
-returns-in-Bytes c = rw c.in-Bytes.is c.build_bytes.ensures
+pub returns-in-Bytes-clause-found : goal.returns-in-Bytes-clause-found
+returns-in-Bytes-clause-found c = rw c.in-Bytes.is c.build_bytes.ensures.found
 
-pub returns-in-Reference : goal.returns-in-Reference
-returns-in-Reference c = rw c.in-Reference.is c.build_reference.ensures
-
+pub returns-in-Reference-clause-found : goal.returns-in-Reference-clause-found
+returns-in-Reference-clause-found c = rw c.in-Reference.is c.build_reference.ensures.found

@@ -1,8 +1,8 @@
 use Rattle.json_model.proofs.Spelled.{fields_found, no_fields}
 use Rattle.json_model.proofs.reading.build_tree.Goals as goal
 
-pub returns-in_default : goal.returns-in_default
-returns-in_default c = no_fields _ _ c.in_default.ensures
+pub returns-in_default-clause-found : goal.returns-in_default-clause-found
+returns-in_default-clause-found c = no_fields _ _ c.in_default.ensures
 
-pub returns : goal.returns
-returns c = fields_found _ _ _ c.build_fields.result c.in-Some.ensures c.build_fields.ensures
+pub returns-clause-found : goal.returns-clause-found
+returns-clause-found c = fields_found _ _ _ c.build_fields.result c.in-Some.ensures c.build_fields.ensures.found

@@ -8,9 +8,12 @@ use Rattle.json_model.proofs.Spelled.{known_push, known_not}
 use Rattle.json_model.proofs.reading.none_strange.Goals as goal
 
 pub loop-name-preserved : goal.loop-name-preserved
-loop-name-preserved c =
-    (tt, tt, rw (map-append deref_pair c.loop-name.yielded ((c.in-Some.name, c.in-Some.member) ∷ []))
-    (known_push _ (map deref_pair c.loop-name.yielded) c.in-Some.name.now c.in-Some.member.now c.as_str.result.now c.as_str.ensures.value (sym c.if-is_strange.ensures) c.loop-name.invariant.2))
+loop-name-preserved c = (
+  tt,
+  tt,
+  rw (map-append deref_pair c.loop-name.yielded ((c.in-Some.name, c.in-Some.member) ∷ []))
+      (known_push _ (map deref_pair c.loop-name.yielded) c.in-Some.name.now c.in-Some.member.now c.as_str.result.now c.as_str.ensures.value (sym c.if-is_strange.ensures) c.loop-name.invariant.2),
+)
 
 pub returns-then-is_strange : goal.returns-then-is_strange
 returns-then-is_strange c =

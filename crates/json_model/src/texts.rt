@@ -1,0 +1,31 @@
+//! What texts and names are in memory, shown where it is needed. Nothing is done when these run.
+
+ghost use Rattle.std.specs.Prelude.{◌≡◌};
+ghost use Rattle.value_model.specs.Storable.{IsStorableText, IsStorableSegment, IsStorableKey};
+
+use document_keys::{DocumentKey, Segment};
+
+/// A text is UTF-8.
+pub(crate) fn show_text(text: &str)
+    ensures { IsStorableText text.now }
+{
+    let _count = text.len();
+}
+
+/// A segment is a text.
+pub(crate) fn show_segment(segment: &Segment)
+    ensures { IsStorableSegment segment.now }
+{
+    show_text(segment.as_str());
+}
+
+/// The segments of a key are texts.
+pub(crate) fn show_key(key: &DocumentKey)
+    ensures { IsStorableKey key.now }
+{
+    for i in 0..key.len() {
+        if let Some(segment) = key.segment(i) {
+            show_text(segment);
+        }
+    }
+}
