@@ -22,6 +22,7 @@ use Rattle.client_run.specs.Reading.{IsJson, Reads, refusal_of, too_long, no_jso
 use Rattle.client_run.specs.declared.shape.LineName.{LineName}
 use Rattle.client_run.specs.declared.shape.LineName.TheVariants as line
 use Rattle.client_run.specs.declared.shape.Shape.{Shape}
+use Rattle.client_run.specs.declared.shape.Shape.TheVariants.{WriteLine, GetLine, DeleteWrite, TransformWrite, UpdateWrite, Update}
 use Rattle.client_run.specs.declared.event.Event.{Event}
 use Rattle.client_run.specs.declared.event.Event.TheVariants as event
 use Rattle.client_run.specs.declared.refusal.Refusal.{Refusal}
@@ -58,13 +59,13 @@ around_two shape ms A B one other a b first second =
     ∙ ap (λ (own : List JsonFault). strays shape 0 ms ++ (second.0 ++ (strays shape 1 ms ++ (own ++ strays shape 2 ms)))) (other first.1 second.1 first.3 second.3) ∙ sym second.4
 
 one_update : (root : Root) (d : Data) → IsOne (UpdateFaults root d)
-one_update root d = one_object (as_object d) _ _ (λ ms. around_two _ ms _ _ (one_optional _ _ fields_faults_one) (one_required _ _ _ (name_faults_one root)))
+one_update root d = one_object (as_object d) _ _ (λ ms. around_two Update ms _ _ (one_optional _ _ fields_faults_one) (one_required _ _ _ (name_faults_one root)))
 
 one_alternative : (root : Root) (ms : Members) (delete transform update : Option Data) → IsOne (AlternativeFaults root ms delete transform update)
 one_alternative root ms None None None a b first second = first ∙ sym second
-one_alternative root ms None None (Some d) a b first second = around_one _ ms _ (one_update root d) a b first second
-one_alternative root ms (Some d) None None a b first second = around_one _ ms _ (one_is _) a b first second
-one_alternative root ms None (Some d) None a b first second = around_one _ ms _ (one_is _) a b first second
+one_alternative root ms None None (Some d) a b first second = around_one UpdateWrite ms _ (one_update root d) a b first second
+one_alternative root ms (Some d) None None a b first second = around_one DeleteWrite ms _ (one_is _) a b first second
+one_alternative root ms None (Some d) None a b first second = around_one TransformWrite ms _ (one_is _) a b first second
 one_alternative root ms (Some d) (Some e) other a b first second = first ∙ sym second
 one_alternative root ms (Some d) None (Some e) a b first second = first ∙ sym second
 one_alternative root ms None (Some d) (Some e) a b first second = first ∙ sym second
@@ -83,10 +84,10 @@ one_writes root None a b first second = first ∙ sym second
 one_writes root (Some d) a b first second = one_items root (as_array d) a b first second
 
 one_write_line : (root : Root) (d : Data) → IsOne (WriteLineFaults root d)
-one_write_line root d = one_object (as_object d) _ _ (λ ms. around_two _ ms _ _ (one_required _ _ _ time_faults_one) (one_writes root _))
+one_write_line root d = one_object (as_object d) _ _ (λ ms. around_two WriteLine ms _ _ (one_required _ _ _ time_faults_one) (one_writes root _))
 
 one_get_line : (root : Root) (d : Data) → IsOne (GetLineFaults root d)
-one_get_line root d = one_object (as_object d) _ _ (λ ms. around_one _ ms _ (one_required _ _ _ (name_faults_one root)))
+one_get_line root d = one_object (as_object d) _ _ (λ ms. around_one GetLine ms _ (one_required _ _ _ (name_faults_one root)))
 
 one_named : (root : Root) (how : LineName) (name : List ℕ) (d : Data) → IsOne (NamedFaults how root name d)
 one_named root line.Write name d a b first second = one_write_line root d a b first second

@@ -1,9 +1,8 @@
 -- How the name of a document begins, cut into its parts.
-use Rattle.std.proofs.Common.{rules, ◌≡◌, ◌≢◌, ◌∙◌, ℕ, ◌<◌, List, [], ◌∷◌, ◌++◌, length, Bor, get_or, codes, Option, Some, None, MatchOption, refl, sym, ap, subst, arith, append_assoc}
-use Rattle.std.specs.List.{All}
+use Rattle.std.proofs.Common.{◌≡◌, ◌≢◌, ◌∙◌, ℕ, ◌<◌, List, [], ◌∷◌, ◌++◌, length, Bor, get_or, codes, Option, Some, None, MatchOption, refl, sym, ap, arith, append_assoc}
 use Rattle.std.proofs.lemmas.List.{append_cancel_left}
 use Rattle.std.proofs.lemmas.List.Elements.{All-contains, All-head, All-same, All-tail, All-from_get_or, Contains-append_right}
-use Rattle.document_keys.specs.Names.{IsPart, IsSegment, Root, IsRoot, root_text, documents_text}
+use Rattle.document_keys.specs.Names.{IsPart, Root, root_text, documents_text}
 use Rattle.json_model.specs.References.{IsUnder}
 
 -- a text is cut at its first `/` in one way

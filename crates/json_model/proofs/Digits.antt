@@ -1,12 +1,12 @@
 -- What is printed has no floats, so that its text is compact_text's.
-use Rattle.std.proofs.Common.{◌≡◌, ℕ, List, [], ◌∷◌, Bool, false, ◌||◌, Option, Some, None, refl, ap, ◌∙◌}
+use Rattle.std.proofs.Common.{◌≡◌, ℕ, List, [], ◌∷◌, Bool, false, ◌||◌, Option, Some, None, refl}
 use Rattle.serde_json.specs.Data as json
 use Rattle.serde_json.specs.Written.{has_float, items_have_float, members_have_float}
 use Rattle.document_keys.specs.Names.{Root, name_text}
 use Rattle.value_model.specs.declared.document.DocState.{DocState}
 use Rattle.value_model.specs.declared.timestamp.Timestamp.{Timestamp}
 use Rattle.value_model.specs.Data.{Data, null, boolean, integer, time, pending, text, bytes, reference, array, map, Items, no_items, item, Members, no_members, member, Entries, members_of}
-use Rattle.json_model.specs.Printed.{printed_value, printed_items, printed_members, printed_fields, printed_document, document_tree, state_text, values_tree, fields_tree, with_fields, with_time}
+use Rattle.json_model.specs.Printed.{printed_value, printed_items, printed_members, printed_fields, printed_document, document_tree, state_text, values_tree, fields_tree, with_time}
 
 neither : (a b : Bool) → a ≡ false → b ≡ false → (a || b) ≡ false
 neither a b first second = rw (first, second)

@@ -1,5 +1,5 @@
 -- A tree without faults spells what is to stand there.
-use Rattle.std.proofs.Common.{rules, ◌≡◌, ◌≢◌, ◌⊎◌, ℕ, ℤ, ◌-◌, ◌<◌, List, [], ◌∷◌, ◌++◌, length, Bool, true, false, not, ◌&&◌, cond, codes, Option, Some, None, is_some, refl, sym, ap, subst, inl, inr, ◌∙◌, arith}
+use Rattle.std.proofs.Common.{◌≡◌, ◌⊎◌, ℕ, ◌-◌, ◌<◌, List, [], ◌∷◌, ◌++◌, length, Bool, true, false, not, ◌&&◌, cond, codes, Option, Some, None, is_some, refl, sym, ap, subst, inl, inr, ◌∙◌, arith}
 use Rattle.std.specs.Bool.{◌==◌, if◌then◌else◌}
 use Rattle.std.specs.Option.{option_and_then}
 use Rattle.std.specs.Str.{bytes_eq}
@@ -24,8 +24,8 @@ use Rattle.json_model.specs.declared.fault.JsonFault.{JsonFault}
 use Rattle.json_model.specs.declared.fault.JsonFault.TheVariants as json_fault
 use Rattle.json_model.specs.Members.{is_null, is_unknown, is_left_out, says_kind, kinds_given, given, unless_null}
 use Rattle.json_model.specs.Places.{value_member, member_place}
-use Rattle.json_model.specs.Faults.{Unless, InText, in_text, in_other, KindFaults, FaultsAt, ItemsFaults, MembersFaults, AtMember, OwnName, FieldNameFaults, ReferenceFaults, InObject, InList, holds_object, holds_list, own_faults, limit_inside, depth_faults}
-use Rattle.json_model.specs.Grammar.{SpellsScalar, SpellsValue, of_kind, SpellsKind, as_scalar, as_array as by_array, as_map as by_map, SpellsList, no_list, a_list, SpellsItems, no_item, an_item, SpellsMap, no_map, a_map, SpellsMembers, no_member, left_out, a_member, are_known, none_strange, is_strange}
+use Rattle.json_model.specs.Faults.{Unless, InText, in_text, KindFaults, FaultsAt, ItemsFaults, MembersFaults, AtMember, OwnName, FieldNameFaults, ReferenceFaults, InObject, InList, holds_object, holds_list, own_faults, limit_inside, depth_faults}
+use Rattle.json_model.specs.Grammar.{SpellsScalar, SpellsValue, of_kind, SpellsKind, as_scalar, as_array as by_array, as_map as by_map, SpellsList, no_list, a_list, SpellsItems, no_item, an_item, SpellsMap, no_map, a_map, SpellsMembers, no_member, left_out, a_member, are_known, none_strange}
 
 abbrev pub Scalar : Place → json.Data → Type 0
 Scalar p d = (v : Data) × SpellsScalar p d v

@@ -1,5 +1,5 @@
 -- The faults of trees that aren't looked into, as they are found.
-use Rattle.std.proofs.Common.{rules, ◌≡◌, ◌≢◌, ◌⊎◌, ℕ, ℤ, List, [], ◌∷◌, Vec, Global, codes, Bool, true, false, cond, Option, Some, None, is_some, MatchOption, Result, Ok, Err, IfOk, IfErr, refl, sym, ap, subst, inl, inr, ◌∙◌}
+use Rattle.std.proofs.Common.{◌≡◌, ◌≢◌, ℕ, List, [], ◌∷◌, Vec, Global, Bool, true, false, cond, Option, Some, None, is_some, MatchOption, Result, Ok, Err, IfOk, refl, sym, ap, subst, inl, inr, ◌∙◌}
 use Rattle.serde_json.specs.Data.{Data as Json, null, boolean, number, string, array, object}
 use Rattle.serde_json.specs.Find.{as_str, as_bool}
 use Rattle.value_model.specs.declared.timestamp.Timestamp.{Timestamp}
@@ -7,7 +7,6 @@ use Rattle.value_model.specs.Time.{time_of}
 use Rattle.json_model.specs.declared.fault.JsonFault.{JsonFault}
 use Rattle.json_model.specs.declared.fault.JsonFault.TheVariants as json_fault
 use Rattle.json_model.specs.Bytes.{SpellsBytes}
-use Rattle.json_model.specs.Numbers.{SpellsWhole}
 use Rattle.json_model.specs.References.{HasReferenceFault}
 use Rattle.json_model.specs.Faults.{FirstOf, Unless, InText, in_text, in_other, IsText, IsTimeText, IsBytesText, IsNameFault, ReferenceFaults}
 use Rattle.json_model.proofs.Leaves.{only, none}

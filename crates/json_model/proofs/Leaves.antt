@@ -1,16 +1,14 @@
 -- The faults of names and of scalars.
-use Rattle.std.proofs.Common.{rules, ◌≡◌, ◌≢◌, ◌⊎◌, ℕ, List, [], ◌∷◌, codes, Option, Some, None, Result, Ok, Err, IfErr, refl, sym, ap, subst, inl, inr, ◌∙◌}
-use Rattle.document_keys.specs.Names.{Root, IsPart, IsSegment, IsRoot, IsKey, name_text, documents_text}
-use Rattle.document_keys.specs.Faults.{HasKeyFault}
+use Rattle.std.proofs.Common.{◌≡◌, ℕ, List, [], ◌∷◌, codes, Some, None, Result, Ok, Err, IfErr, refl, sym, ap, subst, inl, inr, ◌∙◌}
+use Rattle.document_keys.specs.Names.{Root, IsRoot}
 use Rattle.serde_json.specs.Data.{Data as Json, null, boolean, number, string, array, object}
 use Rattle.serde_json.specs.Find.{as_str}
 use Rattle.json_model.specs.declared.fault.JsonFault.{JsonFault}
 use Rattle.json_model.specs.declared.fault.JsonFault.TheVariants as json_fault
 use Rattle.json_model.specs.declared.fault.NamingFault.{NamingFault}
 use Rattle.json_model.specs.declared.fault.NamingFault.TheVariants.{WrongRoot, BadSegment, OddLength, BadPath, ReservedField}
-use Rattle.json_model.specs.Ranks.{first_of_least}
-use Rattle.json_model.specs.References.{SpellsReference, IsUnder, HasDocumentFault, HasReferenceFault, HasFieldFault}
-use Rattle.json_model.specs.Faults.{FirstOf, IsFault, IsNameFault, SpellsName, NameFaults, FieldNameFaults, ReferenceFaults, bad_name, named, badly, no_text}
+use Rattle.json_model.specs.References.{IsUnder, HasDocumentFault, HasReferenceFault, HasFieldFault}
+use Rattle.json_model.specs.Faults.{FirstOf, IsFault, IsNameFault, NameFaults, FieldNameFaults, bad_name, badly, no_text}
 
 -- one fault is the first
 pub only : (Faults : List JsonFault → Type 0) (fault : JsonFault) → Faults (fault ∷ []) → FirstOf Faults (Some fault)

@@ -12,3 +12,5 @@ pub mod Trees
 pub mod Spelled
 pub mod Good
 pub mod Stored
+pub mod ReadBack
+pub mod Deep

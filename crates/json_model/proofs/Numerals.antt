@@ -1,7 +1,7 @@
 -- Whole numbers as texts.
 use Rattle.std.specs.Str.{bytes_eq}
 use Rattle.std.proofs.lemmas.Slice.Eq.{bytes_eq-Decides}
-use Rattle.std.proofs.Common.{◌≡◌, ◌⊎◌, Bool, true, false, ℕ, ◌<◌, ◌≤◌, ◌^◌, zero, suc, [], ◌∷◌, get_or, ℤ, pos, negsuc, Result, Ok, Err, List, codes, FitsSigned, w64, to_z, of_z, refl, sym, ap, ◌∙◌, arith, inl, inr}
+use Rattle.std.proofs.Common.{◌≡◌, ◌⊎◌, Bool, true, false, ℕ, ◌<◌, ◌^◌, zero, suc, [], ◌∷◌, get_or, ℤ, pos, negsuc, Result, Ok, List, codes, FitsSigned, w64, to_z, of_z, refl, sym, ap, ◌∙◌, arith, inl, inr}
 use Rattle.std.specs.Fmt.{decimal, signed_decimal}
 use Rattle.std.specs.Str.Parse.{ParsesSigned}
 use Rattle.std.proofs.lemmas.Int.{ints, to_z-of_z}

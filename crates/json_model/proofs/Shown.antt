@@ -1,6 +1,6 @@
 -- Lists and members that are printed one after another.
-use Rattle.std.proofs.Common.{rules, String, Vec, vec_len, BTreeMap, Result, Ok, Err, IfOk, codes, zero, suc, length, ◌≤◌, ◌*◌, sym, ◌≡◌, ℕ, ◌+◌, ◌<◌, List, [], ◌∷◌, ◌++◌, map, Bool, true, false, ◌||◌, Ordering, Less, Equal, Greater, take, get_or, refl, ap, subst, ◌∙◌, arith, add-one}
-use Rattle.std.specs.Ordering.{nat_cmp, match_ordering, ordering_reverse}
+use Rattle.std.proofs.Common.{String, Vec, vec_len, BTreeMap, Result, Ok, Err, IfOk, codes, zero, suc, length, ◌≤◌, sym, ◌≡◌, ℕ, ◌+◌, ◌<◌, List, [], ◌∷◌, ◌++◌, true, false, Greater, take, get_or, refl, ap, subst, ◌∙◌, arith, add-one}
+use Rattle.std.specs.Ordering.{nat_cmp, ordering_reverse}
 use Rattle.std.specs.List.{AllPairs}
 use Rattle.std.specs.Map.{keys_of}
 use Rattle.std.specs.Cmp.Lexicographic.{slice_cmp}
@@ -8,7 +8,6 @@ use Rattle.std.specs.String.{string_bytes, string_cmp}
 use Rattle.std.specs.BTreeMap.{insert_entry}
 use Rattle.std.specs.declared.alloc.Global.{Global}
 use Rattle.std.proofs.lemmas.Cmp.{nat_list_cmp_total}
-use Rattle.std.proofs.lemmas.List.{take_all}
 use Rattle.serde_json.specs.View.{view, items_view, members_view}
 use Rattle.std.specs.Bool.{◌==◌}
 use Rattle.serde_json.specs.declared.value.Value.{Value as Json, Array, Object}
@@ -17,10 +16,10 @@ use Rattle.serde_json.specs.Data as json
 use Rattle.document_keys.specs.Order.{TextBefore}
 use Rattle.document_keys.proofs.Order.{texts_compute}
 use Rattle.value_model.specs.declared.fields.Field.{Field}
-use Rattle.value_model.specs.Data.{Data, Items, no_items, item, Members, no_members, member, Entries, items_of, members_of}
+use Rattle.value_model.specs.Data.{Data, Entries, items_of, members_of}
 use Rattle.value_model.specs.Codes.{data_size, entries_size}
 use Rattle.value_model.specs.Named.{fields_data}
-use Rattle.json_model.specs.Trees.{one, empty}
+use Rattle.json_model.specs.Trees.{one}
 use Rattle.json_model.specs.Printed.{printed_value, printed_items, printed_members, values_tree, fields_tree}
 
 items_at : (old : List Json) (tree : Json) (ds : List Data) (i : ℕ) (d : Data) → i < length ds → d ≡ get_or ds i d → view tree ≡ printed_value d

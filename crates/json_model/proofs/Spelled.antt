@@ -1,7 +1,7 @@
 -- What trees spell, piece by piece as it is read.
-use Rattle.std.proofs.Common.{rules, ◌≡◌, ◌≢◌, ◌⊎◌, ℕ, ℤ, ◌+◌, ◌-◌, ◌<◌, ◌≤◌, zero, suc, List, [], ◌∷◌, ◌++◌, length, take, get_or, map, String, Vec, Global, Bor, Bool, true, false, cond, codes, Option, Some, None, is_some, option_map, MatchOption, Result, Ok, Err, IfOk, IfErr, refl, sym, ap, subst, inl, inr, ◌∙◌, append-nil, append_assoc, add-one, arith}
+use Rattle.std.proofs.Common.{◌≡◌, ◌≢◌, ℕ, ◌+◌, ◌-◌, ◌<◌, zero, suc, List, [], ◌∷◌, ◌++◌, length, take, get_or, String, Global, Bor, Bool, true, false, cond, codes, Option, Some, None, is_some, option_map, MatchOption, Result, Ok, Err, IfOk, refl, sym, ap, subst, inl, inr, ◌∙◌, arith}
 use Rattle.std.specs.String.{string_bytes}
-use Rattle.std.proofs.lemmas.List.{take_more, take_all}
+use Rattle.std.proofs.lemmas.List.{take_more}
 use Rattle.serde_json.specs.Data as json
 use Rattle.serde_json.specs.Find.{as_object, as_array, as_str}
 use Rattle.serde_json.specs.View.{view, items_view, members_view}
@@ -15,7 +15,7 @@ use Rattle.json_model.specs.declared.place.Place.TheVariants as place
 use Rattle.json_model.specs.Members.{is_null, given, kinds_given}
 use Rattle.json_model.specs.Places.{value_member}
 use Rattle.json_model.specs.Grammar.{are_known, is_strange, none_strange, SpellsScalar, SpellsValue, of_kind, SpellsKind, as_scalar, as_array as by_array, as_map as by_map, SpellsList, no_list, a_list, SpellsItems, no_item, an_item, SpellsMap, no_map, a_map, SpellsMembers, no_member, left_out, a_member, SpellsFields, FieldsFaults}
-use Rattle.document_keys.specs.Names.{Root, IsRoot, IsKey, path_text, name_text}
+use Rattle.document_keys.specs.Names.{Root, path_text, name_text}
 use Rattle.document_keys.specs.Faults.{HasKeyFault}
 use Rattle.document_keys.specs.declared.faults.NameFault.TheVariants as name_fault
 use Rattle.document_keys.proofs.Lawful.{excluded}

@@ -1,17 +1,16 @@
 -- What is read can be stored.
-use Rattle.std.proofs.Common.{rules, ◌≡◌, ℕ, ℤ, ◌<◌, ◌^◌, List, [], ◌∷◌, ◌++◌, length, get_or, Vec, Global, codes, Option, Some, None, FitsSigned, w64, Ordering, Less, Equal, Greater, refl, sym, ap, subst, inl, inr, ◌∙◌, arith}
+use Rattle.std.proofs.Common.{◌≡◌, ℕ, ℤ, ◌<◌, ◌^◌, List, [], ◌∷◌, ◌++◌, length, Vec, Global, FitsSigned, w64, Ordering, Less, Equal, Greater, refl, sym, ap, subst}
 use Rattle.std.specs.List.{All}
 use Rattle.std.specs.Map.{keys_of}
 use Rattle.std.specs.Ordering.{nat_cmp, match_ordering}
 use Rattle.std.specs.Cmp.Lexicographic.{slice_cmp}
 use Rattle.std.specs.Str.{IsUtf8}
 use Rattle.serde_json.specs.Data as json
-use Rattle.value_model.specs.Data.{Data, Items, no_items, item, Members, no_members, member, Entries, items_of, members_of, list_of, entries_of, array_of, map_of}
+use Rattle.value_model.specs.Data.{Data, Entries, items_of, members_of, list_of, entries_of, array_of, map_of}
 use Rattle.value_model.specs.Fields.{with_field}
 use Rattle.value_model.specs.Storable.{IsStorable, AreStorableItems, AreStorableMembers, AreStorableBytes, AreStorable, HasStorableNames}
 use Rattle.std.proofs.lemmas.Map.Views.{All-keys-insert_entry}
 use Rattle.std.proofs.lemmas.List.Elements.{All-from_get_or}
-use Rattle.base64.specs.GeneralPurpose.{IsBytes}
 use Rattle.json_model.specs.Bytes.{SpellsBytes}
 use Rattle.json_model.specs.Numbers.{SpellsWhole, as_number, as_text}
 

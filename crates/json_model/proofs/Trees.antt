@@ -1,10 +1,10 @@
 -- How deep trees are, and what is inside them.
-use Rattle.std.proofs.Common.{rules, ◌≡◌, ◌++◌, ℕ, ◌+◌, ◌<◌, ◌≤◌, zero, suc, List, [], ◌∷◌, length, get_or, map, String, Bool, true, false, cond, Option, Some, None, is_some, refl, sym, ap, subst, ◌∙◌, arith, Ordering, Less, Equal, Greater}
+use Rattle.std.proofs.Common.{◌≡◌, ◌++◌, ℕ, ◌<◌, ◌≤◌, zero, suc, List, [], ◌∷◌, length, get_or, String, Bool, true, false, cond, Option, Some, None, is_some, refl, sym, ap, arith, Ordering, Less, Equal, Greater}
 use Rattle.std.specs.declared.alloc.Global.{Global}
 use Rattle.std.specs.Option.{option_and_then}
 use Rattle.std.specs.Ordering.{nat_cmp, match_ordering}
 use Rattle.std.specs.Cmp.Lexicographic.{slice_cmp}
-use Rattle.serde_json.specs.Data.{Data as Tree, null, boolean, number, string, array, object, Members, no_members, member, Items, no_items, item, depth, items_depth, members_depth}
+use Rattle.serde_json.specs.Data.{Data as Tree, null, boolean, number, string, array, object, Members, no_members, member, Items, depth, items_depth, members_depth}
 use Rattle.serde_json.specs.Find.{as_object, as_array, as_null, get_member}
 use Rattle.serde_json.specs.View.{view, items_view, members_view}
 use Rattle.serde_json.specs.declared.value.Value.{Value as Json}

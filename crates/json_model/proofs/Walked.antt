@@ -1,9 +1,9 @@
 -- The faults of a tree, as the walk through it finds them.
-use Rattle.std.proofs.Common.{rules, ◌≡◌, ◌≢◌, ◌⊎◌, ℕ, ◌+◌, ◌<◌, ◌≤◌, zero, suc, List, [], ◌∷◌, ◌++◌, length, take, map, get_or, String, Vec, BTreeMap, Bool, true, false, cond, Option, Some, None, Result, Ok, Err, IfOk, refl, sym, ap, subst, inl, inr, ◌∙◌, append-nil, append_assoc, add-one, arith}
+use Rattle.std.proofs.Common.{rules, ◌≡◌, ◌≢◌, ℕ, ◌+◌, ◌<◌, List, [], ◌∷◌, ◌++◌, length, take, get_or, String, Bool, true, false, Option, Some, None, Result, Ok, Err, IfOk, refl, sym, ap, subst, inl, inr, ◌∙◌, append-nil, append_assoc}
 use Rattle.std.specs.String.{string_bytes}
 use Rattle.std.specs.declared.alloc.Global.{Global}
 use Rattle.std.proofs.lemmas.List.{take_more}
-use Rattle.serde_json.specs.Data.{Data as Tree, null, boolean, number, string, array, object, Members, no_members, member, Items, no_items, item}
+use Rattle.serde_json.specs.Data.{Data as Tree, null, boolean, number, string, array, object, Members, no_members, Items, no_items}
 use Rattle.serde_json.specs.View.{view, items_view, members_view}
 use Rattle.serde_json.specs.declared.value.Value.{Value as Json, Null, Bool as Boolean, Number, String as Text, the_lemmas}
 use Rattle.serde_json.specs.declared.number.Number.{Number as NumberValue}
@@ -15,7 +15,7 @@ use Rattle.json_model.specs.Members.{is_left_out}
 use Rattle.json_model.specs.Places.{member_place}
 use Rattle.json_model.specs.Ranks.{better, first_of_least}
 use Rattle.json_model.specs.Faults.{FirstOf, KindFaults, FaultsAt, ItemsFaults, MembersFaults, InObject, OwnName, AtMember, holds_object, holds_list, own_faults, depth_faults, limit_inside}
-use Rattle.json_model.proofs.Firsts.{first_append, none_first, better_assoc}
+use Rattle.json_model.proofs.Firsts.{first_append, none_first}
 
 module _ (side : Side) (limit : ℕ) (p : Place) (name : List ℕ) where
   -- an object at a place that isn't looked into, an object with faults of its own, and one that is looked into

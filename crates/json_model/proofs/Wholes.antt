@@ -1,11 +1,11 @@
 -- JSON trees as whole numbers.
-use Rattle.std.proofs.Common.{◌≡◌, ◌⊎◌, ℕ, ◌^◌, ◌<◌, ◌≤◌, Bool, true, false, cond, ℤ, pos, List, Option, Some, None, MatchOption, IfOk, Result, Ok, Err, FitsSigned, w64, nat_lt, refl, sym, ap, subst, inl, inr, ◌∙◌, arith}
+use Rattle.std.proofs.Common.{◌≡◌, ℕ, ◌^◌, ◌≤◌, Bool, true, false, cond, ℤ, pos, List, Option, Some, None, MatchOption, IfOk, Result, Ok, Err, FitsSigned, w64, nat_lt, refl, sym, ap, subst, inl, inr, ◌∙◌, arith}
 use Rattle.std.proofs.lemmas.Int.{ints}
 use Rattle.std.specs.Option.{option_and_then}
 use borrow.Author.Tests.{ltb-false}
-use Rattle.serde_json.specs.Data.{Data as Json, Num, null, boolean, number, string, array, object, unsigned, negative, float}
+use Rattle.serde_json.specs.Data.{Data as Json, null, boolean, number, string, array, object, unsigned, negative, float}
 use Rattle.serde_json.specs.Find.{as_number, as_str, as_i64}
-use Rattle.json_model.specs.Numbers.{SpellsInteger, SpellsWhole, as_number as by_number, as_text as by_text, IsNumber}
+use Rattle.json_model.specs.Numbers.{SpellsInteger, SpellsWhole, as_number as by_number, as_text as by_text}
 
 -- a text is a whole number where it spells one
 pub text_whole : (d : Json) (text : List ℕ) (found : Option ℤ) → Some text ≡ as_str d → MatchOption found ((z : ℤ) → SpellsInteger text z → ⊥) (λ z. SpellsInteger text z)

@@ -1,6 +1,6 @@
 -- The faults of a tree, in the order of the walk: members in byte order of their names, lists in order. The wrong shape of
 -- an object, and a value that doesn't have exactly one kind, come before what is inside, and are then the only fault there.
-use Rattle.std.specs.Prelude.{◌≡◌, ◌≢◌, ℤ, None, is_some, Option, ◌⊎◌, ℕ, ◌-◌, ◌==◌, List, [], ◌∷◌, ◌++◌, length, Bool, true, false, codes, cond, Some, if◌then◌else◌}
+use Rattle.std.specs.Prelude.{◌≡◌, ◌≢◌, ℤ, is_some, Option, ◌⊎◌, ℕ, ◌-◌, ◌==◌, List, [], ◌∷◌, ◌++◌, length, Bool, true, false, codes, Some, if◌then◌else◌}
 use Rattle.document_keys.specs.Names.{Root, IsKey, name_text}
 use Rattle.value_model.specs.declared.reference.RefName.{RefName}
 use Rattle.document_keys.specs.Paths.{IsFieldName}

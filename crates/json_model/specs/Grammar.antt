@@ -1,5 +1,5 @@
 -- The trees that spell values and fields, as google.firestore.v1 writes them in proto3 JSON.
-use Rattle.std.specs.Prelude.{◌≡◌, ◌⊎◌, ℕ, ℤ, ◌<◌, ◌-◌, List, [], ◌∷◌, Bool, true, false, not, ◌&&◌, cond, codes, Option, Some, None}
+use Rattle.std.specs.Prelude.{◌≡◌, ℕ, ℤ, ◌<◌, ◌-◌, List, [], ◌∷◌, Bool, true, false, not, ◌&&◌, cond, codes, Option, Some, None}
 use Rattle.serde_json.specs.Data as json
 use Rattle.document_keys.specs.Paths.{IsFieldName}
 use Rattle.value_model.specs.declared.reference.RefName.{RefName}

@@ -1,5 +1,5 @@
 -- The members of JSON objects. A member whose value is null counts as left out.
-use Rattle.std.specs.Prelude.{◌≡◌, ℕ, List, [], ◌∷◌, Bool, true, false, not, ◌&&◌, Option, Some, None, cond, option_and_then}
+use Rattle.std.specs.Prelude.{ℕ, List, [], ◌∷◌, Bool, true, false, not, ◌&&◌, Option, Some, None, cond, option_and_then}
 use Rattle.serde_json.specs.Data.{Data as Json, null, boolean, number, string, array, object, Members, no_members, member}
 use Rattle.serde_json.specs.Find.{get_member}
 use Rattle.json_model.specs.declared.place.Place.{Place}

@@ -1,5 +1,5 @@
 -- References: names of documents of any database, `projects/{p}/databases/{d}/documents/{path}`.
-use Rattle.std.specs.Prelude.{◌≡◌, ◌≢◌, ℕ, List, [], ◌∷◌, ◌++◌}
+use Rattle.std.specs.Prelude.{◌≡◌, ℕ, List, ◌∷◌, ◌++◌}
 use Rattle.document_keys.specs.Names.{Root, IsRoot, IsKey, name_text, documents_text}
 use Rattle.document_keys.specs.Faults.{HasKeyFault}
 use Rattle.document_keys.specs.Paths.{HasNameFault}

@@ -22,7 +22,7 @@ mod walk;
 pub use bytes::{print_bytes, read_bytes};
 pub use document::print_document;
 pub use fault::{BadName, JsonFault, NamingFault, better};
-pub use laws::no_fault_spells;
+pub use laws::{no_fault_spells, printed_fields_read_back};
 pub use members::given;
 pub use names::read_name;
 pub use numbers::{read_integer, read_whole};

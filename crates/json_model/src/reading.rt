@@ -1,13 +1,13 @@
 //! The values and fields that trees spell.
 
-ghost use Rattle.std.specs.Prelude.{◌≡◌, ◌≢◌, [], List, None, IsTrue, ◌↔◌, IfOk, IfErr, IfSome, MatchOption};
+ghost use Rattle.std.specs.Prelude.{◌≡◌, ◌≢◌, ◌≤◌, [], List, None, IsTrue, ◌↔◌, IfOk, IfErr, IfSome, MatchOption};
 ghost use Rattle.serde_json.specs.View.{view, items_view, members_view};
 ghost use Rattle.document_keys.specs.Paths.{IsFieldName};
-ghost use Rattle.value_model.specs.Data.{Data as ValueData, Entries, items_of};
+ghost use Rattle.value_model.specs.Data.{Data as ValueData, Entries, items_of, entries_depth};
 ghost use Rattle.value_model.specs.Storable.{IsStorable, AreStorableItems, AreStorable};
 ghost use Rattle.json_model.specs.declared.place.Place.TheVariants as places;
 ghost use Rattle.json_model.specs.declared.fault.JsonFault.TheVariants as json_fault;
-ghost use Rattle.json_model.specs.Grammar.{are_known as are_known_of, is_strange as is_strange_of, none_strange as none_strange_of, SpellsScalar, SpellsValue, SpellsKind, SpellsItems, SpellsMembers, SpellsFields, FieldsFaults};
+ghost use Rattle.json_model.specs.Grammar.{are_known as are_known_of, is_strange as is_strange_of, none_strange as none_strange_of, SpellsScalar, SpellsValue, SpellsKind, SpellsItems, SpellsMembers, SpellsFields, FieldsFaults, max_nesting};
 ghost use Rattle.json_model.specs.Faults.{IsFault};
 
 use crate::bytes::read_bytes;
@@ -368,6 +368,7 @@ pub fn read_fields(
 ) -> Result<Fields, JsonFault>
     ensures fields { IfOk result (λ fields. SpellsFields side (view json.now) fields) }
     ensures storable { IfOk result AreStorable }
+    ensures deep { IfOk result (λ fields. entries_depth fields ≤ max_nesting) }
     ensures fault { IfErr result (λ fault. IsFault (FieldsFaults side (view json.now)) fault) }
     ensures unspelled { IfErr result (λ fault. fault ≢ json_fault.NoMemory → (es : Entries) → ¬ (SpellsFields side (view json.now) es)) }
 {

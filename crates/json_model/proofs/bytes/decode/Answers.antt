@@ -1,5 +1,4 @@
-use Rattle.std.proofs.Common.{◌≡◌, ap, ◌∙◌}
-use Rattle.base64.specs.GeneralPurpose.{decode_of, encode_of}
+use Rattle.std.proofs.Common.{◌∙◌}
 use Rattle.json_model.proofs.bytes.decode.Goals as goal
 
 pub returns-in-Err-DecodeError : goal.returns-in-Err-DecodeError

@@ -1,4 +1,4 @@
-use Rattle.std.proofs.Common.{ap, sym, ◌∙◌, ℤ}
+use Rattle.std.proofs.Common.{sym, ◌∙◌, ℤ}
 use Rattle.serde_json.specs.View.{view}
 use Rattle.json_model.specs.Numbers.{SpellsWhole}
 use Rattle.json_model.proofs.Kinded.{unless_test, some_then, then_some}

@@ -1,9 +1,9 @@
-use Rattle.std.proofs.Common.{◌≡◌, ap, sym, ◌∙◌, ◌++◌, ◌∷◌, [], map, subst, rules}
+use Rattle.std.proofs.Common.{ap, sym, ◌∙◌, ◌++◌, ◌∷◌, [], map}
 use Rattle.std.specs.Map.Iter.{deref_pair}
 use Rattle.std.proofs.lemmas.List.{map-append}
-use Rattle.std.proofs.lemmas.Map.Iter.{rest_so_far, rest_more, iter_end}
-use Rattle.serde_json.specs.View.{view, members_view}
-use Rattle.json_model.specs.Members.{kinds_given, says_kind}
+use Rattle.std.proofs.lemmas.Map.Iter.{rest_so_far, rest_more}
+use Rattle.serde_json.specs.View.{view}
+use Rattle.json_model.specs.Members.{says_kind}
 use Rattle.json_model.proofs.OneKind.{kinds_same, kinds_first, kinds_two, none_yet, some_yet}
 use Rattle.json_model.proofs.members.only_kind.Goals as goal
 

@@ -1,5 +1,3 @@
-use Rattle.std.proofs.Common.{◌≡◌, subst, sym, ap}
-use Rattle.document_keys.specs.declared.faults.FieldFault.TheVariants as field
 use Rattle.json_model.specs.declared.fault.NamingFault.TheVariants.{BadPath, ReservedField}
 use Rattle.json_model.proofs.Leaves.{field_fault}
 use Rattle.json_model.proofs.names.find_in_field_name.Goals as goal

@@ -1,4 +1,4 @@
-use Rattle.std.proofs.Common.{rules, codes, ◌≡◌, List, ℕ, ◌∙◌, sym}
+use Rattle.std.proofs.Common.{codes, ◌∙◌}
 use Rattle.json_model.proofs.Numerals.{differ, no_number, no_number_found}
 use Rattle.json_model.proofs.numbers.read_integer.Goals as goal
 

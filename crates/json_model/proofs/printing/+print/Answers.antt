@@ -1,8 +1,8 @@
-use Rattle.std.proofs.Common.{rules, subst, sym, List, ℕ, ◌∙◌}
+use Rattle.std.proofs.Common.{rules, subst, sym, ◌∙◌}
 use Rattle.std.specs.List.{AllPairs}
 use Rattle.std.specs.Map.{keys_of}
 use Rattle.document_keys.specs.Order.{TextBefore}
-use Rattle.value_model.specs.Data.{Data, Entries}
+use Rattle.value_model.specs.Data.{Entries}
 use Rattle.value_model.proofs.Sizes.{item_below}
 use Rattle.json_model.proofs.Shown.{items_more, members_more, field_below}
 use Rattle.json_model.proofs.printing.+print.Goals as goal

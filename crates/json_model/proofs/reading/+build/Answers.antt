@@ -1,9 +1,9 @@
-use Rattle.std.proofs.Common.{rules, ◌≡◌, ◌++◌, ◌∷◌, [], map, codes, true, ap, sym, subst, ◌∙◌, refl}
+use Rattle.std.proofs.Common.{rules, ◌≡◌, ◌++◌, ◌∷◌, [], map, codes, true, ap, sym, subst, ◌∙◌}
 use Rattle.std.specs.Map.Iter.{deref_pair}
 use Rattle.std.proofs.lemmas.List.{map-append}
 use Rattle.std.proofs.lemmas.Map.Iter.{rest_so_far, rest_more}
-use Rattle.serde_json.specs.View.{view, items_view, members_view}
-use Rattle.serde_json.specs.Data.{depth, members_depth}
+use Rattle.serde_json.specs.View.{items_view, members_view}
+use Rattle.serde_json.specs.Data.{members_depth}
 use Rattle.document_keys.specs.Paths.{IsFieldName}
 use Rattle.json_model.specs.Grammar.{no_item, no_member, SpellsItems, SpellsMembers}
 use Rattle.json_model.proofs.Spelled.{value_found, scalar_found, empty_array, full_array, empty_map, full_map, not_there, items_more, item_spelled, member_skip, member_more, member_spelled}

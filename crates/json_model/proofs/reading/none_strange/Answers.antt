@@ -1,8 +1,8 @@
-use Rattle.std.proofs.Common.{◌≡◌, ◌++◌, ◌∷◌, [], map, ap, sym, ◌∙◌, true, false}
+use Rattle.std.proofs.Common.{◌++◌, ◌∷◌, [], map, ap, sym, ◌∙◌}
 use Rattle.std.specs.Map.Iter.{deref_pair}
 use Rattle.std.proofs.lemmas.List.{map-append}
-use Rattle.std.proofs.lemmas.Map.Iter.{rest_so_far, rest_more, iter_end}
-use Rattle.serde_json.specs.View.{view, members_view}
+use Rattle.std.proofs.lemmas.Map.Iter.{rest_so_far, rest_more}
+use Rattle.serde_json.specs.View.{members_view}
 use Rattle.json_model.specs.Grammar.{none_strange}
 use Rattle.json_model.proofs.Spelled.{known_push, known_not}
 use Rattle.json_model.proofs.reading.none_strange.Goals as goal

@@ -1,14 +1,11 @@
-use Rattle.std.proofs.Common.{rules, ◌≡◌, ◌≢◌, ◌++◌, ◌∷◌, [], map, ap, sym, subst, ◌∙◌, inl, inr, refl}
+use Rattle.std.proofs.Common.{◌∷◌, [], map, ap, sym, subst, ◌∙◌, inl, inr, refl}
 use Rattle.std.specs.Map.Iter.{deref_pair}
-use Rattle.std.proofs.lemmas.List.{map-append, take_all}
-use Rattle.std.proofs.lemmas.Map.Iter.{iter_end}
-use Rattle.serde_json.specs.Data.{Data as Tree, Members, Items, array, object}
+use Rattle.std.proofs.lemmas.List.{map-append}
 use Rattle.serde_json.specs.View.{view, items_view, members_view}
 use Rattle.serde_json.proofs.Views.{view-Array, view-Object}
-use Rattle.json_model.specs.Places.{member_place}
 use Rattle.json_model.specs.Ranks.{better}
 use Rattle.json_model.specs.Members.{is_left_out}
-use Rattle.json_model.specs.Faults.{FirstOf, KindFaults, FaultsAt, ItemsFaults, MembersFaults, OwnName}
+use Rattle.json_model.specs.Faults.{FirstOf, FaultsAt}
 use Rattle.json_model.proofs.Walked.{kind_in_object, own_in_object, inside_object, kind_in_list, inside_list, if_ok, scalar_at, view_null, view_boolean, view_number, view_string, items_start, items_step, members_start, members_skip, members_step}
 use Rattle.json_model.proofs.walk.+find.Goals as goal
 
