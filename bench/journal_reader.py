@@ -8,6 +8,8 @@
 It shares nothing with the program: it is another reader of the same description, so that a mistake in one of them shows.
 """
 import argparse
+import base64
+import datetime
 import json
 import os
 import random
@@ -23,6 +25,7 @@ MAGIC = b"FSJRNL1"
 OPEN = 1
 HEADER = 16
 FIRST_SECOND, LAST_SECOND = -62135596800, 253402300799
+DEEPEST = 20
 
 
 class Foreign(Exception):
@@ -101,13 +104,28 @@ def spell_text(text):
     return len(text).to_bytes(8, "big") + text
 
 
+def spell_list(items):
+    return len(items).to_bytes(8, "big") + b"".join(items)
+
+
+def spell_fields(fields):
+    """Fields, as pairs of a name and a value; a value is the pair of its kind's byte and what it holds."""
+    return spell_list([spell_text(name) + spell_value(value) for name, value in fields])
+
+
+def spell_value(value):
+    kind, content = value
+    body = {0: lambda: b"", 1: lambda: bytes([content]), 2: lambda: struct.pack(">q", content), 3: lambda: struct.pack(">qI", *content),
+            5: lambda: spell_text(content), 6: lambda: spell_text(content),
+            7: lambda: spell_text(content[0]) + spell_text(content[1]) + spell_list(list(map(spell_text, content[2]))),
+            8: lambda: spell_list(list(map(spell_value, content))), 9: lambda: spell_fields(content)}
+    return bytes([kind]) + body[kind]()
+
+
 def spell_enqueue(batch, seconds, nanos, key, fields):
-    """The bytes of an Enqueue commit. The key is a list of segments, the fields are pairs of a name and a number."""
+    """The bytes of an Enqueue commit. The key is a list of segments, the fields are pairs of a name and a value."""
     parts = [b"\1\1", batch.to_bytes(8, "big"), struct.pack(">qI", seconds, nanos), (1).to_bytes(8, "big"), b"\1"]
-    parts += [len(key).to_bytes(8, "big"), *map(spell_text, key)]
-    parts += [len(fields).to_bytes(8, "big")]
-    parts += [spell_text(name) + b"\2" + struct.pack(">q", number) for name, number in fields]
-    return b"".join(parts) + b"\0" + bytes(8) + b"\0"
+    return b"".join(parts) + spell_list(list(map(spell_text, key))) + spell_fields(fields) + b"\0" + bytes(8) + b"\0"
 
 
 class Reader:
@@ -155,10 +173,69 @@ def read_list(reader, item):
     return found
 
 
-def read_field(reader):
-    name = reader.text()
-    reader.byte(2)
-    return name, struct.unpack(">q", reader.take(8))[0]
+def read_time(reader):
+    """A time, printed with the fewest of 0, 3, 6 and 9 digits that keep it."""
+    seconds, nanos = struct.unpack(">qI", reader.take(12))
+    if not FIRST_SECOND <= seconds <= LAST_SECOND or nanos >= 1_000_000_000:
+        raise NoCommit
+    digits = "%09d" % nanos
+    while digits.endswith("000"):
+        digits = digits[:-3]
+    moment = datetime.datetime(1, 1, 1) + datetime.timedelta(seconds=seconds - FIRST_SECOND)
+    return moment.isoformat() + ("." + digits if digits else "") + "Z"
+
+
+def read_name(reader):
+    project, database = reader.text(), reader.text()
+    if not is_segment(project) or not is_segment(database):
+        raise NoCommit
+    path = b"/".join(read_key(reader))
+    return b"projects/%s/databases/%s/documents/%s" % (project, database, path)
+
+
+def read_boolean(reader):
+    byte = reader.take(1)[0]
+    if byte > 1:
+        raise NoCommit
+    return byte == 1
+
+
+def read_value(reader, deepest):
+    """A value, as it is printed in JSON; arrays and maps may nest so deep."""
+    kind = reader.take(1)[0]
+    scalars = {
+        0: lambda: {"nullValue": None},
+        1: lambda: {"booleanValue": read_boolean(reader)},
+        2: lambda: {"integerValue": str(struct.unpack(">q", reader.take(8))[0])},
+        3: lambda: {"timestampValue": read_time(reader)},
+        5: lambda: {"stringValue": reader.text().decode()},
+        6: lambda: {"bytesValue": base64.b64encode(reader.take(reader.number())).decode()},
+        7: lambda: {"referenceValue": read_name(reader).decode()},
+    }
+    if kind in scalars:
+        return scalars[kind]()
+    if kind not in (8, 9) or deepest == 0:
+        raise NoCommit
+    if kind == 8:
+        values = read_list(reader, lambda: read_value(reader, deepest - 1))
+        return {"arrayValue": {"values": values} if values else {}}
+    fields = read_fields(reader, deepest - 1)
+    return {"mapValue": {"fields": fields} if fields else {}}
+
+
+def read_fields(reader, deepest):
+    pairs = read_list(reader, lambda: (reader.text(), read_value(reader, deepest)))
+    names = [name for name, _ in pairs]
+    if not all(map(is_field_name, names)) or any(a >= b for a, b in zip(names, names[1:])):
+        raise NoCommit
+    return {name.decode(): value for name, value in pairs}
+
+
+def read_key(reader):
+    key = read_list(reader, reader.text)
+    if not key or len(key) % 2 or not all(map(is_segment, key)):
+        raise NoCommit
+    return key
 
 
 def read_enqueue(payload):
@@ -167,17 +244,12 @@ def read_enqueue(payload):
     reader.byte(1)
     reader.byte(1)
     batch = reader.number()
-    seconds, nanos = struct.unpack(">qI", reader.take(12))
-    if not FIRST_SECOND <= seconds <= LAST_SECOND or nanos >= 1_000_000_000 or reader.number() != 1:
+    read_time(reader)
+    if reader.number() != 1:
         raise NoCommit
     reader.byte(1)
-    key = read_list(reader, reader.text)
-    if not key or len(key) % 2 or not all(map(is_segment, key)):
-        raise NoCommit
-    fields = read_list(reader, lambda: read_field(reader))
-    names = [name for name, _ in fields]
-    if not all(map(is_field_name, names)) or any(a >= b for a, b in zip(names, names[1:])):
-        raise NoCommit
+    key = read_key(reader)
+    fields = read_fields(reader, DEEPEST)
     reader.byte(0)
     if reader.number() != 0:
         raise NoCommit
@@ -213,12 +285,36 @@ def read_store(contents):
 NAMES = [b"a", b"b", b"kitchen", b"r2"]
 
 
+def nested(depth):
+    """An array in an array and so on, so deep."""
+    value = (8, [])
+    for _ in range(depth - 1):
+        value = (8, [value])
+    return value
+
+
+def random_value(chance, deepest):
+    kind = chance.choice([0, 1, 2, 2, 3, 5, 6, 7] + [8, 9] * (deepest > 0) * 2)
+    content = {
+        0: lambda: None,
+        1: lambda: chance.randrange(2),
+        2: lambda: chance.choice([0, 1, -1, 2**63 - 1, -2**63, chance.randint(-999, 999)]),
+        3: lambda: (chance.choice([0, FIRST_SECOND, LAST_SECOND, 1714521600, -1]), chance.choice([0, 1, 1000, 500_000_000, 999_999_999])),
+        5: lambda: chance.choice(["", "x", "\u00e9", "\U0001f600", "a\"b\\\n"]).encode(),
+        6: lambda: bytes(chance.randrange(256) for _ in range(chance.randint(0, 5))),
+        7: lambda: (b"p", b"(default)", [b"rooms", chance.choice(NAMES)]),
+        8: lambda: [random_value(chance, deepest - 1) for _ in range(chance.randint(0, 3))],
+        9: lambda: [(name, random_value(chance, deepest - 1)) for name in sorted(chance.sample([b"a", b"b", b"c"], chance.randint(0, 3)))],
+    }[kind]()
+    return kind, content
+
+
 def random_store(chance):
     """The first file of a store of a few batches."""
     content = formatted(b"")
     for batch in range(1, chance.choice([0, 0, 1, 1, 2, 3, 5]) + 1):
         names = sorted(chance.sample([b"m", b"n", b"size", b"x1"], chance.randint(0, 3)))
-        fields = [(name, chance.choice([0, 1, -1, 2**63 - 1, -2**63, chance.randint(-999, 999)])) for name in names]
+        fields = [(name, random_value(chance, chance.choice([0, 0, 1, 3]))) for name in names]
         key = [b"rooms", chance.choice(NAMES)]
         content = appended(content, spell_enqueue(batch, 1714521600 + batch, 0, key, fields))
     return content
@@ -234,7 +330,7 @@ def torn_append(chance, content):
     if found[0] != "counts":
         return content
     end = found[4]
-    piece = bytearray(appended(content, spell_enqueue(len(found[3]) + 1, 1714521600, 0, [b"rooms", b"a"], [(b"n", 7)])))
+    piece = bytearray(appended(content, spell_enqueue(len(found[3]) + 1, 1714521600, 0, [b"rooms", b"a"], [(b"n", (2, 7))])))
     if chance.random() < 0.5:
         piece[end] = chance.choice([0, 2, 255, 1])
         return bytes(piece)
@@ -284,7 +380,9 @@ def add_payload(chance, content):
         payload = spell_enqueue(chance.choice([1, 2, 3, 2**64 - 1]), chance.choice([0, FIRST_SECOND, FIRST_SECOND - 1, LAST_SECOND, LAST_SECOND + 1]),
                                 chance.choice([0, 999_999_999, 1_000_000_000]),
                                 chance.choice([[b"rooms", b"a"], [b"rooms"], [], [b"r", b"a", b"s", b"b"], [b"rooms", b"__x__"], [b"rooms", b".."], [b"a/b", b"c"], [b"rooms", b"\xff"]]),
-                                chance.choice([[], [(b"n", 1)], [(b"n", 1), (b"m", 2)], [(b"n", 1), (b"n", 2)], [(b"__n__", 1)], [(b"", 1)], [(b"m", 1), (b"n", 2)]]))
+                                chance.choice([[], [(b"n", (2, 1))], [(b"n", (2, 1)), (b"m", (2, 2))], [(b"n", (2, 1)), (b"n", (2, 2))], [(b"__n__", (2, 1))], [(b"", (2, 1))],
+                                               [(b"m", (0, None)), (b"n", (3, (LAST_SECOND + 1, 0)))], [(b"n", nested(20))], [(b"n", nested(21))], [(b"n", (5, b"\xff"))], [(b"n", (1, 2))],
+                                               [(b"n", (7, (b"p", b"a/b", [b"c", b"d"])))], [(b"n", (9, [(b"b", (0, None)), (b"a", (0, None))]))]]))
         if chance.random() < 0.3:
             payload = chance.choice([change_byte, cut, grow])(chance, payload)
         return appended(content, payload)
@@ -327,7 +425,7 @@ def wanted_answers(documents):
         body = {"exists": fields is not None, "name": NAME_FRONT + "rooms/" + name.decode(),
                 "state": "unknown" if fields is None else "pending"}
         if fields:
-            body["fields"] = {key.decode(): {"integerValue": str(number)} for key, number in fields}
+            body["fields"] = fields
         lines.append({"document": body})
     return lines
 
@@ -400,7 +498,7 @@ def show(paths):
     for payload in payloads:
         try:
             batch, key, fields = read_enqueue(payload)
-            print(batch, "/".join(part.decode() for part in key), {name.decode(): number for name, number in fields})
+            print(batch, "/".join(part.decode() for part in key), json.dumps(fields, ensure_ascii=False))
         except NoCommit:
             print("no commit:", payload.hex())
     return 0

@@ -2,6 +2,8 @@
 #![tactic(auto)]
 
 mod bytes;
+#[cfg(test)]
+mod copy_tests;
 mod document;
 mod documents;
 mod entries;

@@ -33,7 +33,7 @@ impl Fields {
 
 /// Whether the depth of each value is at most the limit.
 #[cycle(nesting)]
-pub(crate) fn values_nest_within(values: &[Value], limit: u32) -> bool
+fn values_nest_within(values: &[Value], limit: u32) -> bool
     ensures { IsTrue result ↔ (items_depth (items_of values.now) ≤ limit) }
 {
     for value in values {

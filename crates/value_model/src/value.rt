@@ -99,7 +99,7 @@ impl Value {
 
 /// Copies of the values.
 #[cycle(copy)]
-pub(crate) fn copy_values(alloc: Global, values: &Vec<Value>) -> Result<Vec<Value>, NoMemory>
+fn copy_values(alloc: Global, values: &Vec<Value>) -> Result<Vec<Value>, NoMemory>
     ensures { IfOk result (λ copies. copies.items ≡ values.now.items) }
 {
     let mut copies = Vec::with_capacity(alloc, values.len())?;

@@ -1,4 +1,4 @@
-use Rattle.std.proofs.Common.{◌∙◌, ◌∷◌, [], ◌++◌, None, true, ap, subst, sym}
+use Rattle.std.proofs.Common.{None}
 use Rattle.value_model.specs.declared.document.DocState.TheVariants.{Synced}
 use Rattle.value_model.specs.Documents.{Stored}
 use Rattle.value_model.proofs.Alone.{lists_it, lists_none}
