@@ -1,9 +1,9 @@
 -- The faults of an object of a line, put together from those of its parts.
-use Rattle.std.proofs.Common.{◌≡◌, ◌≢◌, ◌≤◌, inl, inr, ⊎_elim, ℕ, List, [], ◌∷◌, ◌++◌, codes, Bool, true, false, cond, nat_lt, Option, Some, None, Result, Ok, Err, IfOk, IfErr, refl, sym, ap, subst, ◌∙◌}
-use Rattle.serde_json.specs.Data.{Data, Members, string}
-use Rattle.serde_json.specs.Find.{as_str}
+use Rattle.std.proofs.Common.{◌≡◌, ◌≢◌, ◌≤◌, inl, inr, ⊎_elim, ℕ, List, [], ◌∷◌, ◌++◌, codes, length, Bor, Bool, true, false, cond, nat_lt, Option, Some, None, Result, Ok, Err, IfOk, IfErr, refl, sym, ap, subst, ◌∙◌}
+use Rattle.serde_json.specs.Data.{Data, Members, Items, string}
+use Rattle.serde_json.specs.Find.{as_str, as_array}
 use Rattle.document_keys.specs.Names.{Root}
-use Rattle.value_model.specs.Data.{Entries}
+use Rattle.value_model.specs.Data.{Entries, entries_depth}
 use Rattle.value_model.specs.Storable.{AreStorable}
 use Rattle.value_model.specs.Time.{time_of}
 use Rattle.value_model.specs.declared.timestamp.Timestamp.{Timestamp}
@@ -17,11 +17,19 @@ use Rattle.json_model.specs.Grammar.{SpellsFields, FieldsFaults}
 use Rattle.json_model.specs.Ranks.{rank, better, first_of_least}
 use Rattle.json_model.proofs.Firsts.{first_append, none_first}
 use Rattle.json_model.proofs.Kinded.{text_at}
-use Rattle.client_run.specs.Faults.{InObject, Required, Optional, AroundOne, AroundTwo, TimeFaults, strays}
-use Rattle.client_run.specs.Grammar.{SpellsGiven, SpellsGivenName, SpellsTime}
+use Rattle.client_run.specs.Faults.{InObject, Required, Optional, AroundOne, AroundTwo, AlternativeFaults, ItemsFaults, WritesFaults, TimeFaults, NamedFaults, OnlyFaults, LineFaults, strays}
+use Rattle.client_run.specs.declared.shape.LineName.{LineName}
+use Rattle.json_model.specs.Members.{given}
+use Rattle.serde_json.specs.View.{view, items_view}
+use Rattle.host_api.specs.Items.{Bytes}
+use Rattle.client_run.specs.Reading.{IsJson, Reads, refusal_of, a_fault}
+use Rattle.client_run.specs.declared.refusal.Refusal.{Refusal}
+use Rattle.client_run.specs.declared.reading.Reading.TheVariants.{Refused}
+use Rattle.std.specs.Prelude.{option_map}
+use Rattle.serde_json.specs.declared.value.Value.{Value as Json}
+use Rattle.client_run.specs.Grammar.{SpellsGiven, SpellsGivenName, SpellsTime, givens}
 use Rattle.client_run.specs.Split.{Splits}
 use Rattle.client_run.specs.declared.shape.Shape.{Shape}
-use Rattle.client_run.proofs.OneFault.{fields_clean, fields_flat}
 
 -- ---- of two faults
 
@@ -117,14 +125,17 @@ pub given_name : {E : Type 0} (root : Root) (o : Option Data) (d : Data) (r : Re
 given_name {E} root o d (Ok key) is named = (record { name = d; is = sym is; names = named }, subst (λ (p : Option Data). Required p (codes "name") (NameFaults root) []) is (found.NameFaults.named key named))
 given_name {E} root o d (Err e) is named = tt
 
-pub given_fields : {E : Type 0} (o : Option Data) (d : Data) (r : Result Entries E) → Some d ≡ o → IfOk r (λ fields. SpellsFields Caller d fields)
+pub given_fields : {E : Type 0} (o : Option Data) (d : Data) (r : Result Entries E) → Some d ≡ o → FirstOf (FieldsFaults Caller d) None → IfOk r (λ fields. SpellsFields Caller d fields)
     → IfOk r (λ fields. SpellsGiven o fields × Optional o (FieldsFaults Caller) [])
-given_fields {E} o d (Ok fields) is spelled = (subst (λ (p : Option Data). SpellsGiven p fields) is spelled, subst (λ (p : Option Data). Optional p (FieldsFaults Caller) []) is (fields_clean d fields spelled))
-given_fields {E} o d (Err e) is spelled = tt
+given_fields {E} o d (Ok fields) is none spelled = (subst (λ (p : Option Data). SpellsGiven p fields) is spelled, subst (λ (p : Option Data). Optional p (FieldsFaults Caller) []) is (clean (FieldsFaults Caller d) None none refl))
+given_fields {E} o d (Err e) is none spelled = tt
 
-pub given_storable : {E : Type 0} (d : Data) (r : Result Entries E) → IfOk r (λ fields. SpellsFields Caller d fields) → IfOk r AreStorable → IfOk r (λ fields. AreSpelledFields 20 fields)
-given_storable {E} d (Ok fields) spelled storable = record { storable = storable; nested = fields_flat d fields spelled }
-given_storable {E} d (Err e) spelled storable = tt
+pub given_storable : {E : Type 0} (r : Result Entries E) → IfOk r (λ fields. entries_depth fields ≤ 20) → IfOk r AreStorable → IfOk r (λ fields. AreSpelledFields 20 fields)
+given_storable {E} (Ok fields) deep storable = record { storable = storable; nested = deep }
+given_storable {E} (Err e) deep storable = tt
+
+pub given_fault : (o : Option Data) (d : Data) (fault : JsonFault) → Some d ≡ o → FirstOf (FieldsFaults Caller d) (Some fault) → IsFault (Optional o (FieldsFaults Caller)) fault
+given_fault o d fault is first = subst (λ (p : Option Data). IsFault (Optional p (FieldsFaults Caller)) fault) is (inr first)
 
 -- ---- a time
 
@@ -143,3 +154,97 @@ pub time_bad : (o : Option Data) (d : Data) (text : List ℕ) (fault : JsonFault
 time_bad o d text fault is has none at =
     subst (λ (p : Option Data). IsFault (TimeFaults p) fault) is (inr (subst (λ (f : JsonFault). FirstOf (TimeFaults (Some d)) (Some f)) (sym at) (only (TimeFaults (Some d)) (json_fault.BadTime (codes "at"))
     (in_text text _ (text_at d text has) (inr ((λ time. let e : None ≡ Some time.0 = none ∙ time.1 in cc), refl))))))
+
+-- ---- whole objects
+
+-- what an object of one part answers, by its part
+pub one_part : {T : Type 0} (Spells : T → Type 0) (Inside : List JsonFault → Type 0) (shape : Shape) (ms : Members) (parts : Option T × Option JsonFault) (found : Option JsonFault) → IsSplit Spells Inside parts
+    → found ≡ better (first_of_least (strays shape 0 ms)) (better parts.1 (first_of_least (strays shape 1 ms))) → FirstOf (AroundOne shape ms Inside) found
+one_part {T} Spells Inside shape ms parts found is rest = around_one shape ms Inside parts.1 found is.first rest
+
+pub one_part_none : {T : Type 0} (Spells : T → Type 0) (Inside : List JsonFault → Type 0) (shape : Shape) (ms : Members) (parts : Option T × Option JsonFault) (found : Option JsonFault) → IsSplit Spells Inside parts
+    → found ≡ better (first_of_least (strays shape 0 ms)) (better parts.1 (first_of_least (strays shape 1 ms))) → found ≡ None → ((v : T) × (parts.0 ≡ Some v) × Spells v) × AroundOne shape ms Inside []
+one_part_none {T} Spells Inside shape ms parts found is rest none = (
+  is.some (none_of_one _ parts.1 _ found rest (sym none)),
+  clean (AroundOne shape ms Inside) found (around_one shape ms Inside parts.1 found is.first rest) (sym none),
+)
+
+pub two_parts : {T U : Type 0} (S : T → Type 0) (R : U → Type 0) (A B : List JsonFault → Type 0) (shape : Shape) (ms : Members) (p : Option T × Option JsonFault) (q : Option U × Option JsonFault) (found : Option JsonFault) → IsSplit S A p → IsSplit R B q
+    → found ≡ better (first_of_least (strays shape 0 ms)) (better p.1 (better (first_of_least (strays shape 1 ms)) (better q.1 (first_of_least (strays shape 2 ms))))) → FirstOf (AroundTwo shape ms A B) found
+two_parts {T} {U} S R A B shape ms p q found first second rest = around_two shape ms A B p.1 q.1 found first.first second.first rest
+
+-- both parts were read where there is no fault
+pub record AreRead {T U : Type 0} (S : T → Type 0) (R : U → Type 0) (A B : List JsonFault → Type 0) (shape : Shape) (ms : Members) (p : Option T) (q : Option U) : Type 0 where
+  pub left : (v : T) × (p ≡ Some v) × S v
+  pub right : (v : U) × (q ≡ Some v) × R v
+  pub none : AroundTwo shape ms A B []
+
+pub two_parts_none : {T U : Type 0} (S : T → Type 0) (R : U → Type 0) (A B : List JsonFault → Type 0) (shape : Shape) (ms : Members) (p : Option T × Option JsonFault) (q : Option U × Option JsonFault) (found : Option JsonFault) → IsSplit S A p → IsSplit R B q
+    → found ≡ better (first_of_least (strays shape 0 ms)) (better p.1 (better (first_of_least (strays shape 1 ms)) (better q.1 (first_of_least (strays shape 2 ms))))) → found ≡ None → AreRead S R A B shape ms p.0 q.0
+two_parts_none {T} {U} S R A B shape ms p q found first second rest none =
+    let both = none_of_two _ p.1 _ q.1 _ found rest (sym none) in
+    record {
+      left = first.some both.0;
+      right = second.some both.1;
+      none = clean (AroundTwo shape ms A B) found (around_two shape ms A B p.1 q.1 found first.first second.first rest) (sym none);
+    }
+
+-- the value is the one that was read
+pub read_as : {T : Type 0} (S : T → Type 0) (o : Option T) (v : T) → ((w : T) × (o ≡ Some w) × S w) → o ≡ Some v → S v
+read_as {T} S o v read is = let same : Some read.0 ≡ Some v = sym read.1 ∙ is in subst S (let e : read.0 ≡ v = cc in e) read.2
+
+-- what holds of each value that was read
+pub split_held : {T : Type 0} (S : T → Type 0) (r : Result T JsonFault) (parts : Option T × Option JsonFault) → IfOk r S → Splits r parts → (v : T) → parts.0 ≡ Some v → S v
+split_held {T} S (Ok w) parts ok is v has = let same : Some w ≡ Some v = ap (λ (p : Option T × Option JsonFault). p.0) (sym is) ∙ has in subst S (let e : w ≡ v = cc in e) ok
+split_held {T} S (Err f) parts ok is v has = let e : None ≡ Some v = ap (λ (p : Option T × Option JsonFault). p.0) (sym is.0) ∙ has in cc
+
+-- ---- lists of writes
+
+pub writes_none : (root : Root) (o : Option Data) (fault : JsonFault) → None ≡ o → fault ≡ json_fault.Unsupported (codes "writes") → IsFault (WritesFaults root o) fault
+writes_none root o fault none is = subst (λ (p : Option Data). IsFault (WritesFaults root p) fault) none (inr (subst (λ (f : JsonFault). FirstOf (WritesFaults root None) (Some f)) (sym is) (only (WritesFaults root None) (json_fault.Unsupported (codes "writes")) refl)))
+
+items_at : (root : Root) (o : Option Data) (d : Data) (ds : Option Items) (fault : JsonFault) → Some d ≡ o → ds ≡ as_array d → IsFault (ItemsFaults root ds) fault → IsFault (WritesFaults root o) fault
+items_at root o d ds fault is are at = subst (λ (p : Option Data). IsFault (WritesFaults root p) fault) is (subst (λ (l : Option Items). IsFault (ItemsFaults root l) fault) are at)
+
+pub writes_shape : (root : Root) (o : Option Data) (d : Data) (fault : JsonFault) → Some d ≡ o → None ≡ as_array d → fault ≡ json_fault.BadShape (codes "writes") → IsFault (WritesFaults root o) fault
+writes_shape root o d fault is none at = items_at root o d None fault is none (inr (subst (λ (f : JsonFault). FirstOf (ItemsFaults root None) (Some f)) (sym at) (only (ItemsFaults root None) (json_fault.BadShape (codes "writes")) refl)))
+
+not_one : (root : Root) (items : List Json) → (length items ≡ 1 → ⊥) → ItemsFaults root (Some (items_view items)) (json_fault.Unsupported (codes "writes") ∷ [])
+not_one root [] other = refl
+not_one root (x ∷ []) other = absurd (other refl)
+not_one root (x ∷ y ∷ rest) other = refl
+
+pub writes_count : (root : Root) (o : Option Data) (d : Data) (items : List Json) (fault : JsonFault) → Some d ≡ o → Some (items_view items) ≡ as_array d → (length items ≡ 1 → ⊥) → fault ≡ json_fault.Unsupported (codes "writes") → IsFault (WritesFaults root o) fault
+writes_count root o d items fault is are other at =
+    items_at root o d (Some (items_view items)) fault is are (inr (subst (λ (f : JsonFault). FirstOf (ItemsFaults root (Some (items_view items))) (Some f)) (sym at) (only (ItemsFaults root (Some (items_view items))) (json_fault.Unsupported (codes "writes")) (not_one root items other))))
+
+-- ---- lines
+
+pub named_fault : (how line : LineName) (root : Root) (name : List ℕ) (d : Data) (found fault : JsonFault) → line ≡ how → NamedFaults how root name d (found ∷ []) → fault ≡ found → IsFault (NamedFaults line root name d) fault
+named_fault how line root name d found fault is are at = subst (λ (l : LineName). IsFault (NamedFaults l root name d) fault) (sym is) (inr (subst (λ (f : JsonFault). FirstOf (NamedFaults how root name d) (Some f)) (sym at) (only (NamedFaults how root name d) found are)))
+
+not_only : (root : Root) (ms : List (List ℕ × Data)) → (length ms ≡ 1 → ⊥) → OnlyFaults root ms (json_fault.BadShape [] ∷ [])
+not_only root [] other = refl
+not_only root (x ∷ []) other = absurd (other refl)
+not_only root (x ∷ (y ∷ rest)) other = refl
+
+pub line_count : (root : Root) (o : Option Members) (ms : Members) (fault : JsonFault) → Some ms ≡ o → (length (givens ms) ≡ 1 → ⊥) → fault ≡ json_fault.BadShape [] → IsFault (InObject o [] (λ m. OnlyFaults root (givens m))) fault
+line_count root o ms fault is other at =
+    subst (λ (p : Option Members). IsFault (InObject p [] (λ m. OnlyFaults root (givens m))) fault) is (inr (subst (λ (f : JsonFault). FirstOf (OnlyFaults root (givens ms)) (Some f)) (sym at) (only (OnlyFaults root (givens ms)) (json_fault.BadShape []) (not_only root (givens ms) other))))
+
+-- ---- a write by its alternatives
+
+pub alternatives_fault : (root : Root) (o : Option Members) (ms : Members) (x y z : Option Data) (fault : JsonFault) → Some ms ≡ o → x ≡ given (codes "delete") ms → y ≡ given (codes "transform") ms → z ≡ given (codes "update") ms → AlternativeFaults root ms x y z (json_fault.BadShape (codes "writes") ∷ []) → fault ≡ json_fault.BadShape (codes "writes")
+    → IsFault (InObject o (codes "writes") (λ m. AlternativeFaults root m (given (codes "delete") m) (given (codes "transform") m) (given (codes "update") m))) fault
+alternatives_fault root o ms x y z fault is first second third are at =
+    subst (λ (p : Option Members). IsFault (InObject p (codes "writes") (λ m. AlternativeFaults root m (given (codes "delete") m) (given (codes "transform") m) (given (codes "update") m))) fault) is
+    (inr (subst (λ (f : JsonFault). FirstOf (AlternativeFaults root ms (given (codes "delete") ms) (given (codes "transform") ms) (given (codes "update") ms)) (Some f)) (sym at)
+    (only (AlternativeFaults root ms (given (codes "delete") ms) (given (codes "transform") ms) (given (codes "update") ms)) (json_fault.BadShape (codes "writes")) (rw (← first, ← second, ← third) are))))
+
+-- what a member's value is, by what was found
+pub there : (r x : Option (Bor Json)) (g : Option Data) → r ≡ x → option_map (λ v. view v.now) r ≡ g → option_map (λ v. view v.now) x ≡ g
+there r x g is e = subst (λ (p : Option (Bor Json)). option_map (λ v. view v.now) p ≡ g) is e
+
+-- a refused line
+pub refused : (root : Root) (text : List ℕ) (d : Data) (fault : JsonFault) (refusal : Refusal) → IsJson text d → IsFault (LineFaults root d) fault → refusal_of fault ≡ Some refusal → Reads root (Bytes text) (Refused refusal)
+refused root text d fault refusal json is at = ⊎_elim (λ memory. absurd (let e : None ≡ Some refusal = ap refusal_of (sym memory) ∙ at in cc)) (λ first. a_fault text d fault refusal json first at) is

@@ -88,5 +88,8 @@ pub fn around_two(
     let before = strays(alloc, shape, 0, members)?;
     let between = strays(alloc, shape, 1, members)?;
     let behind = strays(alloc, shape, 2, members)?;
-    Ok(better(before, better(first, better(between, better(second, behind)))))
+    Ok(better(
+        before,
+        better(first, better(between, better(second, behind))),
+    ))
 }

@@ -22,7 +22,7 @@ use crate::members::only_member;
 use crate::shape::{LineName, Shape, line_name};
 use crate::strays::{around_one, around_two};
 use document_keys::{Database, DocumentKey, NoMemory, Text};
-use json_model::{JsonFault, Side, given, read_fields, read_name};
+use json_model::{JsonFault, Place, Side, find_fault, given, read_fields, read_name};
 use mutations::Write;
 use serde_json::{Map, Value as Json};
 use std::alloc::Global;
@@ -61,10 +61,13 @@ fn read_given_fields(
     ensures spelled { IfOk result (λ fields. AreSpelledFields 20 fields) }
     ensures fault { IfErr result (λ fault. IsFault (Optional (given_of (codes "fields") (members_view members.now.entries)) (FieldsFaults Caller)) fault) }
 {
-    match given(members, "fields") {
-        Some(fields) => read_fields(alloc, root, Side::Caller, fields),
-        None => Ok(Fields::new(alloc)),
+    let Some(json) = given(members, "fields") else {
+        return Ok(Fields::new(alloc));
+    };
+    if let Some(fault) = find_fault(alloc, Side::Caller, 20, Place::Fields, "fields", json)? {
+        return Err(fault);
     }
+    read_fields(alloc, root, Side::Caller, json)
 }
 
 /// The key of the document under `name`.
@@ -97,7 +100,10 @@ fn read_update(alloc: Global, root: &Database, json: &Json) -> Result<Write, Jso
     if let Some(fault) = around_two(alloc, Shape::Update, members, first, second)? {
         return Err(fault);
     }
-    let (Some(fields), Some(key)) = (fields, key) else {
+    let Some(fields) = fields else {
+        unreachable!();
+    };
+    let Some(key) = key else {
         unreachable!();
     };
     Ok(Write { key, fields })
@@ -166,7 +172,10 @@ fn read_write(alloc: Global, root: &Database, json: &Json) -> Result<Write, Json
             members,
             "transform",
         )?),
-        _ => Err(bad_shape(alloc, "writes")?),
+        (None, None, None) => Err(bad_shape(alloc, "writes")?),
+        (Some(_), Some(_), _) => Err(bad_shape(alloc, "writes")?),
+        (Some(_), None, Some(_)) => Err(bad_shape(alloc, "writes")?),
+        (None, Some(_), Some(_)) => Err(bad_shape(alloc, "writes")?),
     }
 }
 
@@ -174,7 +183,11 @@ fn read_write(alloc: Global, root: &Database, json: &Json) -> Result<Write, Json
 fn only_item(items: &Vec<Json>) -> Option<&Json>
     ensures { MatchOption result (length items.now.items ≢ 1) (λ only. items.now.items ≡ only.now ∷ []) }
 {
-    if items.len() == 1 { items.first() } else { None }
+    if items.len() == 1 {
+        items.first()
+    } else {
+        None
+    }
 }
 
 /// The write under `writes`, a list of one.
@@ -235,7 +248,10 @@ fn read_write_line(
     if let Some(fault) = around_two(alloc, Shape::WriteLine, members, first, second)? {
         return Err(fault);
     }
-    let (Some(at), Some(write)) = (at, write) else {
+    let Some(at) = at else {
+        unreachable!();
+    };
+    let Some(write) = write else {
         unreachable!();
     };
     Ok((at, write))
@@ -260,12 +276,7 @@ fn read_get_line(alloc: Global, root: &Database, json: &Json) -> Result<Document
 }
 
 /// What the only member of a line spells.
-fn read_named(
-    alloc: Global,
-    root: &Database,
-    name: &str,
-    json: &Json,
-) -> Result<Event, JsonFault>
+fn read_named(alloc: Global, root: &Database, name: &str, json: &Json) -> Result<Event, JsonFault>
     ensures event { IfOk result (λ event. SpellsNamed (line_name_of name.now) root.now (view json.now) event × NamedFaults (line_name_of name.now) root.now name.now (view json.now) []) }
     ensures spelled { IfOk result IsSpelledEvent }
     ensures fault { IfErr result (λ fault. IsFault (NamedFaults (line_name_of name.now) root.now name.now (view json.now)) fault) }

@@ -30,3 +30,4 @@ pub use place::{Place, value_member};
 pub use printing::{print_fields, print_value};
 pub use reading::{MAX_NESTING, read_fields};
 pub use side::Side;
+pub use walk::find_fault;

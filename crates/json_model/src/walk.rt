@@ -81,7 +81,7 @@ fn limit_inside(place: Place, limit: u64) -> u64
 
 /// The fault of a tree at a place, under that name, where so many arrays and maps may nest.
 #[cycle(find)]
-pub(crate) fn find_fault(
+pub fn find_fault(
     alloc: Global,
     side: Side,
     limit: u64,
