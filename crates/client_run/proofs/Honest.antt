@@ -23,7 +23,7 @@ use Rattle.client_run.specs.declared.event.Event.TheVariants as event
 use Rattle.client_run.specs.declared.reading.Reading.{Reading}
 use Rattle.client_run.specs.declared.reading.Reading.TheVariants.{Line, Refused}
 use Rattle.client_run.specs.declared.refusal.Refusal.{Refusal}
-use Rattle.client_run.specs.declared.refusal.Refusal.TheVariants.{LineTooLong, BadLine, Unsupported}
+use Rattle.client_run.specs.declared.refusal.Refusal.TheVariants.{LineTooLong, BadLine, TooDeep, Unsupported, BadName}
 use Rattle.client_run.proofs.Breaks.{open_on, one_line, nothing_open}
 use Rattle.client_run.proofs.Parsed.{no_report, ok_within}
 
@@ -50,8 +50,10 @@ quiet_within most name d numbers other = line_within most (one name d) (λ n rep
 
 refused_within : (most line : ℕ) (refusal : Refusal) → line < 2 ^ 64 → IsWithin most (line_of (refused_tree line refusal))
 refused_within most line LineTooLong small = quiet_within most (codes "refused") _ (tt, (IsNumber-decimal line small, (IsNumber-decimal 11 (omega arith), tt))) (λ e. refl)
-refused_within most line BadLine small = quiet_within most (codes "refused") _ (tt, (IsNumber-decimal line small, (tt, (IsNumber-decimal 1 (omega arith), tt)))) (λ e. refl)
+refused_within most line (BadLine name) small = quiet_within most (codes "refused") _ (tt, (IsNumber-decimal line small, (tt, (IsNumber-decimal 1 (omega arith), tt)))) (λ e. refl)
+refused_within most line TooDeep small = quiet_within most (codes "refused") _ (tt, (IsNumber-decimal line small, (IsNumber-decimal 4 (omega arith), tt))) (λ e. refl)
 refused_within most line (Unsupported name) small = quiet_within most (codes "refused") _ (tt, (IsNumber-decimal line small, (tt, (IsNumber-decimal 3 (omega arith), tt)))) (λ e. refl)
+refused_within most line (BadName bad) small = quiet_within most (codes "refused") _ (tt, (tt, (IsNumber-decimal line small, (tt, (IsNumber-decimal 2 (omega arith), tt))))) (λ e. refl)
 
 -- ---- a document
 

@@ -1,97 +1,97 @@
--- The lines that are read, as the JSON trees that spell them. A tree is written from what it means; the code takes it apart.
-use Rattle.std.specs.Prelude.{◌≡◌, ◌⊎◌, ℕ, ◌<◌, ◌≤◌, ℤ, pos, List, [], ◌∷◌, length, codes, IsTrue, Some, slice_index, FitsSigned}
-use Rattle.std.specs.Fmt.{signed_decimal}
-use Rattle.std.specs.Int.{w64}
-use Rattle.std.specs.List.{All, AllZip}
-use Rattle.std.specs.Char.{is_ascii_alphanumeric, is_ascii_alphabetic}
-use Rattle.serde_json.specs.Data.{Data, string, array, object, item, no_items, Members, no_members, member}
-use Rattle.document_keys.specs.Names.{Root, IsKey, name_text}
-use Rattle.value_model.specs.Time.{time_of}
-use Rattle.value_model.specs.Data as kind
+-- The lines that are read, as the JSON trees that spell them. A member whose value is null counts as left out.
+use Rattle.std.specs.Prelude.{◌≡◌, ℕ, List, [], ◌∷◌, cond, codes, Option, Some, None}
+use Rattle.serde_json.specs.Data.{Data, string, array, item, no_items, Members, no_members, member}
+use Rattle.serde_json.specs.Find.{as_object}
+use Rattle.document_keys.specs.Names.{Root}
 use Rattle.value_model.specs.Data.{Entries}
-use Rattle.value_model.specs.Fields.{AreFields}
+use Rattle.value_model.specs.Time.{time_of}
 use Rattle.value_model.specs.declared.timestamp.Timestamp.{Timestamp}
+use Rattle.json_model.specs.declared.side.Side.TheVariants.{Caller}
+use Rattle.json_model.specs.Faults.{SpellsName}
+use Rattle.json_model.specs.Grammar.{SpellsFields}
+use Rattle.json_model.specs.Members.{is_null, given}
 use Rattle.mutations.specs.declared.Write.{Write}
-use Rattle.client_run.specs.Trees.{one, two}
+use Rattle.client_run.specs.Shapes.{line_name}
+use Rattle.client_run.specs.declared.shape.LineName.{LineName}
+use Rattle.client_run.specs.declared.shape.LineName.TheVariants as line
 use Rattle.client_run.specs.declared.event.Event.{Event}
 use Rattle.client_run.specs.declared.event.Event.TheVariants as event
 
--- 1 to 20 letters and digits of ASCII
-pub record IsPlain (text : List ℕ) : Type 0 where
-  pub some : 0 < length text
-  pub most : length text ≤ 20
-  pub each : All (λ byte. IsTrue (is_ascii_alphanumeric byte)) text
+-- the members that aren't null
+abbrev pub givens : Members → List (List ℕ × Data)
+givens no_members = []
+givens (member name d ms) = cond (is_null d) (givens ms) ((name, d) ∷ givens ms)
 
--- a letter, and then at most 19 letters and digits
-pub record IsPlainField (text : List ℕ) : Type 0 where
-  pub plain : IsPlain text
-  pub letter : IsTrue (is_ascii_alphabetic (slice_index text 0))
+-- `fields`, which may be left out
+abbrev pub SpellsGiven : Option Data → Entries → Type 0
+SpellsGiven None fields = fields ≡ []
+SpellsGiven (Some d) fields = SpellsFields Caller d fields
 
--- the key of a document in a collection at the root, both of whose names are plain
-pub record IsPlainKey (key : List (List ℕ)) : Type 0 where
-  pub two : length key ≡ 2
-  pub plain : All IsPlain key
+-- the name of a document
+pub record SpellsGivenName (root : Root) (d : Option Data) (key : List (List ℕ)) : Type 0 where
+  pub name : Data
+  pub is : d ≡ Some name
+  pub names : SpellsName root name key
 
--- the string that names the key
-pub record SpellsName (root : Root) (d : Data) (key : List (List ℕ)) : Type 0 where
-  pub names : IsKey key
-  pub plain : IsPlainKey key
-  pub is : d ≡ string (name_text root key)
+-- what `update` holds: `{"fields":{..},"name":".."}`
+pub record SpellsUpdate (root : Root) (d : Data) (write : Write) : Type 0 where
+  pub members : Members
+  pub is : as_object d ≡ Some members
+  pub fields : SpellsGiven (given (codes "fields") members) write.fields
+  pub key : SpellsGivenName root (given (codes "name") members) write.key
 
--- A whole number of 64 bits as a text: an optional `-`, and then `0` or digits that don't begin with 0.
-pub record SpellsInteger (text : List ℕ) (z : ℤ) : Type 0 where
-  pub fits : FitsSigned w64 z
-  pub is : (text ≡ signed_decimal z) ⊎ ((text ≡ codes "-0") × (z ≡ pos 0))
-
--- an object whose only member `integerValue` is a whole number as a text
-pub record SpellsValue (d : Data) (value : kind.Data) : Type 0 where
-  pub text : List ℕ
-  pub number : ℤ
-  pub spelled : SpellsInteger text number
-  pub is : d ≡ one (codes "integerValue") (string text)
-  pub means : value ≡ kind.integer number
-
--- a member of `fields`: a plain name, and its value
-pub record SpellsField (e : List ℕ × Data) (field : List ℕ × kind.Data) : Type 0 where
-  pub name_is : e.0 ≡ field.0
-  pub plain : IsPlainField field.0
-  pub spelled : SpellsValue e.1 field.1
-
--- an object of these members, in their order
-abbrev pub members_from : List (List ℕ × Data) → Members
-members_from [] = no_members
-members_from (e ∷ es) = member e.0 e.1 (members_from es)
-
--- an object whose members spell the fields, one each
-pub record SpellsFields (d : Data) (fields : Entries) : Type 0 where
-  pub entries : List (List ℕ × Data)
-  pub each : AllZip SpellsField entries fields
-  pub sound : AreFields fields
-  pub is : d ≡ object (members_from entries)
-
--- `{"update":{"fields":{..},"name":".."}}`
+-- a write: `{"update":{..}}`
 pub record SpellsWrite (root : Root) (d : Data) (write : Write) : Type 0 where
-  pub fields : Data
-  pub name : Data
-  pub spelled_fields : SpellsFields fields write.fields
-  pub spelled_name : SpellsName root name write.key
-  pub is : d ≡ one (codes "update") (two (codes "fields") fields (codes "name") name)
-
--- `{"write":{"at":"..","writes":[..]}}` with one write
-pub record SpellsWriteLine (root : Root) (d : Data) (at : Timestamp) (write : Write) : Type 0 where
-  pub time : List ℕ
+  pub members : Members
+  pub is : as_object d ≡ Some members
+  pub no_delete : given (codes "delete") members ≡ None
+  pub no_transform : given (codes "transform") members ≡ None
   pub update : Data
-  pub spelled_time : time_of time ≡ Some at
-  pub spelled_write : SpellsWrite root update write
-  pub is : d ≡ one (codes "write") (two (codes "at") (string time) (codes "writes") (array (item update no_items)))
+  pub has_update : given (codes "update") members ≡ Some update
+  pub updates : SpellsUpdate root update write
 
--- `{"get":{"name":".."}}`
+-- a local write time: the text of a time
+pub record SpellsTime (d : Option Data) (at : Timestamp) : Type 0 where
+  pub text : List ℕ
+  pub is : d ≡ Some (string text)
+  pub time : time_of text ≡ Some at
+
+-- a list of one write
+pub record SpellsWrites (root : Root) (d : Option Data) (write : Write) : Type 0 where
+  pub only : Data
+  pub is : d ≡ Some (array (item only no_items))
+  pub writes : SpellsWrite root only write
+
+-- what `write` holds: `{"at":"..","writes":[..]}`
+pub record SpellsWriteLine (root : Root) (d : Data) (at : Timestamp) (write : Write) : Type 0 where
+  pub members : Members
+  pub is : as_object d ≡ Some members
+  pub times : SpellsTime (given (codes "at") members) at
+  pub writes : SpellsWrites root (given (codes "writes") members) write
+
+-- what `get` holds: `{"name":".."}`
 pub record SpellsGetLine (root : Root) (d : Data) (key : List (List ℕ)) : Type 0 where
-  pub name : Data
-  pub spelled_name : SpellsName root name key
-  pub is : d ≡ one (codes "get") (one (codes "name") name)
+  pub members : Members
+  pub is : as_object d ≡ Some members
+  pub names : SpellsGivenName root (given (codes "name") members) key
+
+-- what the only member spells, by its name
+abbrev pub SpellsNamed : LineName → Root → Data → Event → Type 0
+SpellsNamed line.Write root d (event.Write at write) = SpellsWriteLine root d at write
+SpellsNamed line.Write root d (event.Get key) = ⊥
+SpellsNamed line.Get root d (event.Write at write) = ⊥
+SpellsNamed line.Get root d (event.Get key) = SpellsGetLine root d key
+SpellsNamed line.Unbuilt root d e = ⊥
+SpellsNamed line.Unknown root d e = ⊥
+
+-- one member alone isn't null
+abbrev pub SpellsOnly : Root → List (List ℕ × Data) → Event → Type 0
+SpellsOnly root [] e = ⊥
+SpellsOnly root (only ∷ []) e = SpellsNamed (line_name only.0) root only.1 e
+SpellsOnly root (first ∷ (second ∷ rest)) e = ⊥
 
 -- the tree of a line spells the event
-abbrev pub Spells : Root → Data → Event → Type 0
-Spells root d (event.Write at write) = SpellsWriteLine root d at write
-Spells root d (event.Get key) = SpellsGetLine root d key
+pub record Spells (root : Root) (d : Data) (e : Event) : Type 0 where
+  pub members : Members
+  pub is : as_object d ≡ Some members
+  pub spelled : SpellsOnly root (givens members) e

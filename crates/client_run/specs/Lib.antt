@@ -1,9 +1,12 @@
 pub mod Crash
+pub mod Faults
 pub mod Grammar
 pub mod Output
 pub mod Reading
 pub mod Reported
 pub mod Run
+pub mod Shapes
+pub mod Split
 pub mod State
 pub mod Store
 pub mod Trees

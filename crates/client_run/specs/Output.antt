@@ -5,9 +5,11 @@ use Rattle.serde_json.specs.Written.{compact_text}
 use Rattle.document_keys.specs.Names.{Root, name_text}
 use Rattle.value_model.specs.Data.{Entries}
 use Rattle.json_model.specs.Printed.{printed_fields}
-use Rattle.client_run.specs.Trees.{one, two, three, four}
+use Rattle.json_model.specs.declared.fault.NamingFault.{NamingFault}
+use Rattle.json_model.specs.declared.fault.NamingFault.TheVariants.{WrongRoot, BadSegment, OddLength, BadPath, ReservedField}
+use Rattle.client_run.specs.Trees.{one, two, three, four, five}
 use Rattle.client_run.specs.declared.refusal.Refusal.{Refusal}
-use Rattle.client_run.specs.declared.refusal.Refusal.TheVariants.{LineTooLong, BadLine, Unsupported}
+use Rattle.client_run.specs.declared.refusal.Refusal.TheVariants.{LineTooLong, BadLine, TooDeep, Unsupported, BadName}
 
 -- a tree as a line
 unfoldable pub line_of : Data → List ℕ
@@ -23,17 +25,33 @@ ok_tree batch commit = one (codes "ok") (two (codes "batch") (count batch) (code
 abbrev pub too_long_tree : ℕ → Data
 too_long_tree line = one (codes "refused") (three (codes "cause") (string (codes "LineTooLong")) (codes "line") (count line) (codes "number") (count 11))
 
-abbrev pub bad_line_tree : ℕ → Data
-bad_line_tree line = one (codes "refused") (four (codes "cause") (string (codes "BadLine")) (codes "line") (count line) (codes "member") (string []) (codes "number") (count 1))
+abbrev pub bad_line_tree : ℕ → List ℕ → Data
+bad_line_tree line name = one (codes "refused") (four (codes "cause") (string (codes "BadLine")) (codes "line") (count line) (codes "member") (string name) (codes "number") (count 1))
+
+abbrev pub too_deep_tree : ℕ → Data
+too_deep_tree line = one (codes "refused") (three (codes "cause") (string (codes "TooDeep")) (codes "line") (count line) (codes "number") (count 4))
 
 abbrev pub unsupported_tree : ℕ → List ℕ → Data
 unsupported_tree line name = one (codes "refused") (four (codes "cause") (string (codes "Unsupported")) (codes "line") (count line) (codes "member") (string name) (codes "number") (count 3))
 
+-- how the fault of a name is printed
+abbrev pub naming_text : NamingFault → List ℕ
+naming_text WrongRoot = codes "WrongRoot"
+naming_text BadSegment = codes "BadSegment"
+naming_text OddLength = codes "OddLength"
+naming_text BadPath = codes "BadPath"
+naming_text ReservedField = codes "ReservedField"
+
+abbrev pub bad_name_tree : ℕ → List ℕ → List ℕ → Data
+bad_name_tree line why name = one (codes "refused") (five (codes "cause") (string (codes "BadName")) (codes "fault") (string why) (codes "line") (count line) (codes "name") (string name) (codes "number") (count 2))
+
 -- what a refusal prints at this line of the run, from 1
 abbrev pub refused_tree : ℕ → Refusal → Data
 refused_tree line LineTooLong = too_long_tree line
-refused_tree line BadLine = bad_line_tree line
+refused_tree line (BadLine member) = bad_line_tree line member
+refused_tree line TooDeep = too_deep_tree line
 refused_tree line (Unsupported member) = unsupported_tree line member
+refused_tree line (BadName bad) = bad_name_tree line (naming_text bad.fault) bad.name
 
 -- a document that isn't there
 abbrev pub missing_tree : List ℕ → Data

@@ -1,4 +1,4 @@
--- JSON objects with one to four members.
+-- JSON objects with one to five members.
 use Rattle.std.specs.Prelude.{ℕ, List}
 use Rattle.serde_json.specs.Data.{Data, object, no_members, member}
 
@@ -15,3 +15,6 @@ three a x b y c z = object (member a x (member b y (member c z no_members)))
 
 abbrev pub four : List ℕ → Data → List ℕ → Data → List ℕ → Data → List ℕ → Data → Data
 four a x b y c z d w = object (member a x (member b y (member c z (member d w no_members))))
+
+abbrev pub five : List ℕ → Data → List ℕ → Data → List ℕ → Data → List ℕ → Data → List ℕ → Data → Data
+five a x b y c z d w e v = object (member a x (member b y (member c z (member d w (member e v no_members)))))

@@ -1,32 +1,26 @@
-ghost use Rattle.std.specs.Prelude.{◌≡◌, ◌≢◌, IfOk};
+ghost use Rattle.std.specs.Prelude.{◌≢◌, ℕ, List, IfOk};
 ghost use Rattle.host_api.specs.Items.{Bytes, item_of};
 ghost use Rattle.serde_json.specs.View.{view};
 ghost use Rattle.client_run.specs.Turned.{IsSpelledReading};
-ghost use Rattle.client_run.specs.Reading.{only_name as only_name_of, Reads};
+ghost use Rattle.client_run.specs.Reading.{IsJson, Reads};
 
 use crate::reading::Reading;
-use crate::refusal::Refusal;
+use crate::refusal::{Refusal, refusal_of};
 use crate::tree::read_event;
 use document_keys::{Database, NoMemory, Text};
 use host_api::Line;
 use serde_json::Value as Json;
 use std::alloc::Global;
 
-/// The name of the only member, or the empty text.
-fn only_name(json: &Json) -> &str
-    ensures { result.now ≡ only_name_of (view json.now) }
+/// What a line of this tree is.
+fn read_tree(alloc: Global, root: &Database, json: &Json) -> Result<Reading, NoMemory>
+    ensures is { IfOk result (λ reading. (text : List ℕ) → IsJson text (view json.now) → Reads root.now (Bytes text) reading) }
+    ensures spelled { IfOk result IsSpelledReading }
 {
-    let Json::Object(map) = json else {
-        return "";
-    };
-    let mut members = map.iter();
-    let Some((name, _)) = members.next() else {
-        return "";
-    };
-    if members.next().is_some() {
-        return "";
+    match read_event(alloc, root, json) {
+        Ok(event) => Ok(Reading::Line(event)),
+        Err(fault) => Ok(Reading::Refused(refusal_of(fault)?)),
     }
-    name.as_str()
 }
 
 /// What a line of these bytes is.
@@ -40,14 +34,10 @@ fn read_line(alloc: Global, root: &Database, text: &[u8]) -> Result<Reading, NoM
             if error.is_memory() {
                 return Err(NoMemory);
             }
-            return Ok(Reading::Refused(Refusal::BadLine));
+            return Ok(Reading::Refused(Refusal::BadLine(Text::from_str(alloc, "")?)));
         }
     };
-    if let Some(event) = read_event(alloc, root, &json)? {
-        return Ok(Reading::Line(event));
-    }
-    let name = Text::from_str(alloc, only_name(&json))?;
-    Ok(Reading::Refused(Refusal::Unsupported(name)))
+    read_tree(alloc, root, &json)
 }
 
 /// What the item that a source gave is.

@@ -3,11 +3,11 @@ ghost use Rattle.std.specs.String.{string_bytes};
 ghost use Rattle.serde_json.specs.View.{view};
 ghost use Rattle.serde_json.specs.Written.{has_float};
 ghost use Rattle.document_keys.specs.Names.{Root, name_text};
-ghost use Rattle.client_run.specs.Output.{line_of, ok_tree, too_long_tree, bad_line_tree, unsupported_tree, refused_tree, missing_tree, empty_tree, found_tree, document_tree};
+ghost use Rattle.client_run.specs.Output.{line_of, ok_tree, too_long_tree, bad_line_tree, too_deep_tree, unsupported_tree, bad_name_tree, naming_text as naming_text_of, refused_tree, missing_tree, empty_tree, found_tree, document_tree};
 
 use crate::refusal::Refusal;
 use document_keys::{Database, DocumentKey, NoMemory};
-use json_model::print_fields;
+use json_model::{NamingFault, print_fields};
 use serde_json::{Value as Json, json};
 use std::alloc::{AllocError, Global};
 use value_model::Fields;
@@ -43,10 +43,16 @@ fn too_long_json(alloc: Global, line: u64) -> Result<Json, AllocError>
     json!(in alloc; {"refused": {"cause": "LineTooLong", "line": line, "number": 11u64}})
 }
 
-fn bad_line_json(alloc: Global, line: u64) -> Result<Json, AllocError>
-    ensures { IfOk result (λ json. view json ≡ bad_line_tree line) }
+fn bad_line_json(alloc: Global, line: u64, name: &str) -> Result<Json, AllocError>
+    ensures { IfOk result (λ json. view json ≡ bad_line_tree line name.now) }
 {
-    json!(in alloc; {"refused": {"cause": "BadLine", "line": line, "member": "", "number": 1u64}})
+    json!(in alloc; {"refused": {"cause": "BadLine", "line": line, "member": name, "number": 1u64}})
+}
+
+fn too_deep_json(alloc: Global, line: u64) -> Result<Json, AllocError>
+    ensures { IfOk result (λ json. view json ≡ too_deep_tree line) }
+{
+    json!(in alloc; {"refused": {"cause": "TooDeep", "line": line, "number": 4u64}})
 }
 
 fn unsupported_json(alloc: Global, line: u64, name: &str) -> Result<Json, AllocError>
@@ -55,14 +61,36 @@ fn unsupported_json(alloc: Global, line: u64, name: &str) -> Result<Json, AllocE
     json!(in alloc; {"refused": {"cause": "Unsupported", "line": line, "member": name, "number": 3u64}})
 }
 
+fn naming_text(fault: NamingFault) -> &'static str
+    ensures { result.now ≡ naming_text_of fault }
+{
+    match fault {
+        NamingFault::WrongRoot => "WrongRoot",
+        NamingFault::BadSegment => "BadSegment",
+        NamingFault::OddLength => "OddLength",
+        NamingFault::BadPath => "BadPath",
+        NamingFault::ReservedField => "ReservedField",
+    }
+}
+
+fn bad_name_json(alloc: Global, line: u64, why: &str, name: &str) -> Result<Json, AllocError>
+    ensures { IfOk result (λ json. view json ≡ bad_name_tree line why.now name.now) }
+{
+    json!(in alloc; {"refused": {"cause": "BadName", "fault": why, "line": line, "name": name, "number": 2u64}})
+}
+
 /// The answer of a refused line, which is this line of the run, from 1.
 pub fn print_refusal(alloc: Global, line: u64, refusal: &Refusal) -> Result<String, NoMemory>
     ensures { IfOk result (λ text. string_bytes text ≡ line_of (refused_tree line refusal.now)) }
 {
     let json = match refusal {
         Refusal::LineTooLong => too_long_json(alloc, line)?,
-        Refusal::BadLine => bad_line_json(alloc, line)?,
+        Refusal::BadLine(member) => bad_line_json(alloc, line, member.as_str())?,
+        Refusal::TooDeep => too_deep_json(alloc, line)?,
         Refusal::Unsupported(member) => unsupported_json(alloc, line, member.as_str())?,
+        Refusal::BadName(bad) => {
+            bad_name_json(alloc, line, naming_text(bad.fault), bad.name.as_str())?
+        }
     };
     print_line(alloc, &json)
 }

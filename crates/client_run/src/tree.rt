@@ -1,166 +1,315 @@
-ghost use Rattle.std.specs.Prelude.{◌≡◌, ℕ, ◌<◌, ◌^◌, List, length, IfOk, IfSome, MatchOption};
-ghost use Rattle.serde_json.specs.View.{view};
-ghost use Rattle.serde_json.specs.Data.{Data, string};
-ghost use Rattle.value_model.specs.Data.{Data as ValueData, Entries};
-ghost use Rattle.value_model.specs.Named.{field_data};
-ghost use Rattle.value_model.specs.declared.timestamp.Timestamp.{Timestamp as TimestampData};
-ghost use Rattle.mutations.specs.declared.Write.{Write as WriteData};
-ghost use Rattle.client_run.specs.Grammar.{SpellsValue, SpellsField, SpellsFields, SpellsWrite, SpellsWriteLine, SpellsGetLine, Spells};
+//! What the tree of a line spells, or its first fault.
+
+ghost use Rattle.std.specs.Prelude.{◌≡◌, ◌≢◌, ℕ, List, [], Some, None, Option, Result, IfOk, IfErr, IfSome, MatchOption, codes, length, ◌∷◌};
+ghost use Rattle.serde_json.specs.View.{view, members_view};
+ghost use Rattle.value_model.specs.Data.{Entries};
+ghost use Rattle.json_model.specs.Faults.{FirstOf, IsFault, NameFaults};
+ghost use Rattle.json_model.specs.Grammar.{FieldsFaults};
+ghost use Rattle.json_model.specs.declared.side.Side.TheVariants.{Caller};
+ghost use Rattle.json_model.specs.declared.fault.JsonFault.TheVariants as json_fault;
+ghost use Rattle.json_model.specs.Members.{given as given_of};
 ghost use Rattle.value_model.specs.Time.{IsMoment};
-ghost use Rattle.record_codec.specs.Spelling.{IsSpelledWrite};
+ghost use Rattle.record_codec.specs.Spelling.{IsSpelledWrite, IsSpelledKey, AreSpelledFields};
+ghost use Rattle.client_run.specs.Grammar.{SpellsGiven, SpellsGivenName, SpellsUpdate, SpellsWrite, SpellsWrites, SpellsTime, SpellsWriteLine, SpellsGetLine, SpellsNamed, Spells};
+ghost use Rattle.client_run.specs.Faults.{Optional, Required, UpdateFaults, WriteFaults, WritesFaults, TimeFaults, WriteLineFaults, GetLineFaults, NamedFaults, LineFaults, AroundOne};
+ghost use Rattle.client_run.specs.Shapes.{line_name as line_name_of};
+ghost use Rattle.client_run.specs.declared.shape.Shape.TheVariants as shapes;
+ghost use Rattle.client_run.specs.Split.{Splits};
 ghost use Rattle.client_run.specs.Turned.{IsSpelledEvent};
-ghost use Rattle.client_run.specs.declared.event.Event.{Event as EventData};
 
 use crate::event::Event;
-use crate::members::{both_members, only_item, only_member, text_of};
-use crate::names::{is_plain_field, read_name};
-use crate::numbers::read_integer;
+use crate::members::only_member;
+use crate::shape::{LineName, Shape, line_name};
+use crate::strays::{around_one, around_two};
 use document_keys::{Database, DocumentKey, NoMemory, Text};
+use json_model::{JsonFault, Place, Side, find_fault, given, read_fields, read_name};
 use mutations::Write;
-use serde_json::Value as Json;
+use serde_json::{Map, Value as Json};
 use std::alloc::Global;
-use value_model::{Field, Fields, Kind, Timestamp, Value};
+use value_model::{Fields, Timestamp};
 
-/// The value that a tree spells.
-fn read_value(alloc: Global, json: &Json) -> Result<Option<Value>, NoMemory>
-    ensures { IfOk result (λ found. MatchOption found
-        ((value : ValueData) → SpellsValue (view json.now) value → ⊥)
-        (λ value. SpellsValue (view json.now) value)) }
+/// What was read, and the fault, one of which there is.
+fn split<T>(given: Result<T, JsonFault>) -> Result<(Option<T>, Option<JsonFault>), NoMemory>
+    ensures { IfOk result (λ parts. Splits given parts) }
 {
-    let Some(member) = only_member(json, "integerValue") else {
-        return Ok(None);
-    };
-    let Some(text) = text_of(member) else {
-        return Ok(None);
-    };
-    let Some(number) = read_integer(alloc, text)? else {
-        return Ok(None);
-    };
-    let kind = Kind::Integer(number);
-    Ok(Some(Value { kind }))
-}
-
-/// The field that a member of `fields` spells.
-fn read_field(alloc: Global, name: &str, json: &Json) -> Result<Option<Field>, NoMemory>
-    ensures { IfOk result (λ found. MatchOption found
-        ((field : List ℕ × ValueData) → SpellsField (name.now, view json.now) field → ⊥)
-        (λ field. SpellsField (name.now, view json.now) (field_data field))) }
-{
-    if !is_plain_field(name) {
-        return Ok(None);
+    match given {
+        Ok(found) => Ok((Some(found), None)),
+        Err(JsonFault::NoMemory) => Err(NoMemory),
+        Err(fault) => Ok((None, Some(fault))),
     }
-    let Some(value) = read_value(alloc, json)? else {
-        return Ok(None);
-    };
-    let name = Text::from_str(alloc, name)?;
-    Ok(Some(Field { name, value }))
 }
 
-/// The fields that a tree spells.
-fn read_fields(alloc: Global, json: &Json) -> Result<Option<Fields>, NoMemory>
-    ensures many { IfOk result (λ found. IfSome found (λ fields. length fields < 2 ^ 64)) }
-    ensures is { IfOk result (λ found. MatchOption found
-        ((fields : Entries) → SpellsFields (view json.now) fields → ⊥)
-        (λ fields. SpellsFields (view json.now) fields)) }
+fn bad_shape(alloc: Global, name: &str) -> Result<JsonFault, NoMemory>
+    ensures { IfOk result (λ fault. fault ≡ json_fault.BadShape name.now) }
 {
-    let Json::Object(map) = json else {
-        return Ok(None);
+    Ok(JsonFault::BadShape(Text::from_str(alloc, name)?))
+}
+
+fn unsupported(alloc: Global, name: &str) -> Result<JsonFault, NoMemory>
+    ensures { IfOk result (λ fault. fault ≡ json_fault.Unsupported name.now) }
+{
+    Ok(JsonFault::Unsupported(Text::from_str(alloc, name)?))
+}
+
+/// The fields under `fields`, none where it is left out.
+fn read_given_fields(
+    alloc: Global,
+    root: &Database,
+    members: &Map<String, Json>,
+) -> Result<Fields, JsonFault>
+    ensures fields { IfOk result (λ fields. SpellsGiven (given_of (codes "fields") (members_view members.now.entries)) fields × Optional (given_of (codes "fields") (members_view members.now.entries)) (FieldsFaults Caller) []) }
+    ensures spelled { IfOk result (λ fields. AreSpelledFields 20 fields) }
+    ensures fault { IfErr result (λ fault. IsFault (Optional (given_of (codes "fields") (members_view members.now.entries)) (FieldsFaults Caller)) fault) }
+{
+    let Some(json) = given(members, "fields") else {
+        return Ok(Fields::new(alloc));
     };
-    let mut entries = Vec::new(alloc);
-    for (name, value) in map {
-        let Some(field) = read_field(alloc, name.as_str(), value)? else {
-            return Ok(None);
-        };
-        entries.push(field)?;
+    if let Some(fault) = find_fault(alloc, Side::Caller, 20, Place::Fields, "fields", json)? {
+        return Err(fault);
     }
-    Ok(Fields::from_entries(entries))
+    read_fields(alloc, root, Side::Caller, json)
 }
 
-/// The write that a tree spells.
-pub fn read_write(alloc: Global, root: &Database, json: &Json) -> Result<Option<Write>, NoMemory>
-    ensures spelled { IfOk result (λ found. IfSome found IsSpelledWrite) }
-    ensures is { IfOk result (λ found. MatchOption found
-        ((write : WriteData) → SpellsWrite root.now (view json.now) write → ⊥)
-        (λ write. SpellsWrite root.now (view json.now) write)) }
+/// The key of the document under `name`.
+fn read_given_name(
+    alloc: Global,
+    root: &Database,
+    members: &Map<String, Json>,
+) -> Result<DocumentKey, JsonFault>
+    ensures name { IfOk result (λ key. SpellsGivenName root.now (given_of (codes "name") (members_view members.now.entries)) key × Required (given_of (codes "name") (members_view members.now.entries)) (codes "name") (NameFaults root.now) []) }
+    ensures spelled { IfOk result (λ key. IsSpelledKey key) }
+    ensures fault { IfErr result (λ fault. IsFault (Required (given_of (codes "name") (members_view members.now.entries)) (codes "name") (NameFaults root.now)) fault) }
 {
-    let Some(update) = only_member(json, "update") else {
-        return Ok(None);
-    };
-    let Some((fields, name)) = both_members(update, "fields", "name") else {
-        return Ok(None);
-    };
-    let Some(fields) = read_fields(alloc, fields)? else {
-        return Ok(None);
-    };
-    let Some(key) = read_name(alloc, root, name)? else {
-        return Ok(None);
-    };
-    Ok(Some(Write { key, fields }))
+    match given(members, "name") {
+        Some(name) => read_name(alloc, root, Side::Caller, name),
+        None => Err(bad_shape(alloc, "name")?),
+    }
 }
 
-/// The local write time and the write that a `write` line spells.
+/// What `update` holds.
+fn read_update(alloc: Global, root: &Database, json: &Json) -> Result<Write, JsonFault>
+    ensures update { IfOk result (λ write. SpellsUpdate root.now (view json.now) write × UpdateFaults root.now (view json.now) []) }
+    ensures spelled { IfOk result IsSpelledWrite }
+    ensures fault { IfErr result (λ fault. IsFault (UpdateFaults root.now (view json.now)) fault) }
+{
+    let Some(members) = json.as_object() else {
+        return Err(bad_shape(alloc, "update")?);
+    };
+    let (fields, first) = split(read_given_fields(alloc, root, members))?;
+    let (key, second) = split(read_given_name(alloc, root, members))?;
+    if let Some(fault) = around_two(alloc, Shape::Update, members, first, second)? {
+        return Err(fault);
+    }
+    let Some(fields) = fields else {
+        unreachable!();
+    };
+    let Some(key) = key else {
+        unreachable!();
+    };
+    Ok(Write { key, fields })
+}
+
+/// The first fault of a write whose alternative isn't built yet.
+fn find_in_unbuilt(
+    alloc: Global,
+    shape: Shape,
+    members: &Map<String, Json>,
+    name: &str,
+) -> Result<JsonFault, NoMemory>
+    ensures { IfOk result (λ fault. FirstOf (AroundOne shape (members_view members.now.entries) (λ own. own ≡ json_fault.Unsupported name.now ∷ [])) (Some fault)) }
+{
+    let own = unsupported(alloc, name)?;
+    match around_one(alloc, shape, members, Some(own))? {
+        Some(fault) => Ok(fault),
+        None => unreachable!(),
+    }
+}
+
+/// A write whose alternative is `update`.
+fn read_update_write(
+    alloc: Global,
+    root: &Database,
+    members: &Map<String, Json>,
+    update: &Json,
+) -> Result<Write, JsonFault>
+    ensures update { IfOk result (λ write. SpellsUpdate root.now (view update.now) write × AroundOne shapes.UpdateWrite (members_view members.now.entries) (UpdateFaults root.now (view update.now)) []) }
+    ensures spelled { IfOk result IsSpelledWrite }
+    ensures fault { IfErr result (λ fault. IsFault (AroundOne shapes.UpdateWrite (members_view members.now.entries) (UpdateFaults root.now (view update.now))) fault) }
+{
+    let (write, inside) = split(read_update(alloc, root, update))?;
+    if let Some(fault) = around_one(alloc, Shape::UpdateWrite, members, inside)? {
+        return Err(fault);
+    }
+    let Some(write) = write else {
+        unreachable!();
+    };
+    Ok(write)
+}
+
+/// A write.
+fn read_write(alloc: Global, root: &Database, json: &Json) -> Result<Write, JsonFault>
+    ensures write { IfOk result (λ write. SpellsWrite root.now (view json.now) write × WriteFaults root.now (view json.now) []) }
+    ensures spelled { IfOk result IsSpelledWrite }
+    ensures fault { IfErr result (λ fault. IsFault (WriteFaults root.now (view json.now)) fault) }
+{
+    let Some(members) = json.as_object() else {
+        return Err(bad_shape(alloc, "writes")?);
+    };
+    let delete = given(members, "delete");
+    let transform = given(members, "transform");
+    let update = given(members, "update");
+    match (delete, transform, update) {
+        (None, None, Some(update)) => read_update_write(alloc, root, members, update),
+        (Some(_), None, None) => Err(find_in_unbuilt(
+            alloc,
+            Shape::DeleteWrite,
+            members,
+            "delete",
+        )?),
+        (None, Some(_), None) => Err(find_in_unbuilt(
+            alloc,
+            Shape::TransformWrite,
+            members,
+            "transform",
+        )?),
+        (None, None, None) => Err(bad_shape(alloc, "writes")?),
+        (Some(_), Some(_), _) => Err(bad_shape(alloc, "writes")?),
+        (Some(_), None, Some(_)) => Err(bad_shape(alloc, "writes")?),
+        (None, Some(_), Some(_)) => Err(bad_shape(alloc, "writes")?),
+    }
+}
+
+/// The item of a list that has exactly one.
+fn only_item(items: &Vec<Json>) -> Option<&Json>
+    ensures { MatchOption result (length items.now.items ≢ 1) (λ only. items.now.items ≡ only.now ∷ []) }
+{
+    if items.len() == 1 {
+        items.first()
+    } else {
+        None
+    }
+}
+
+/// The write under `writes`, a list of one.
+fn read_writes(
+    alloc: Global,
+    root: &Database,
+    members: &Map<String, Json>,
+) -> Result<Write, JsonFault>
+    ensures writes { IfOk result (λ write. SpellsWrites root.now (given_of (codes "writes") (members_view members.now.entries)) write × WritesFaults root.now (given_of (codes "writes") (members_view members.now.entries)) []) }
+    ensures spelled { IfOk result IsSpelledWrite }
+    ensures fault { IfErr result (λ fault. IsFault (WritesFaults root.now (given_of (codes "writes") (members_view members.now.entries))) fault) }
+{
+    let Some(list) = given(members, "writes") else {
+        return Err(unsupported(alloc, "writes")?);
+    };
+    let Some(items) = list.as_array() else {
+        return Err(bad_shape(alloc, "writes")?);
+    };
+    match only_item(items) {
+        Some(only) => read_write(alloc, root, only),
+        None => Err(unsupported(alloc, "writes")?),
+    }
+}
+
+/// The local write time under `at`.
+fn read_time(alloc: Global, members: &Map<String, Json>) -> Result<Timestamp, JsonFault>
+    ensures time { IfOk result (λ at. SpellsTime (given_of (codes "at") (members_view members.now.entries)) at × TimeFaults (given_of (codes "at") (members_view members.now.entries)) []) }
+    ensures moment { IfOk result IsMoment }
+    ensures fault { IfErr result (λ fault. IsFault (TimeFaults (given_of (codes "at") (members_view members.now.entries))) fault) }
+{
+    let Some(json) = given(members, "at") else {
+        return Err(bad_shape(alloc, "at")?);
+    };
+    let Some(text) = json.as_str() else {
+        return Err(bad_shape(alloc, "at")?);
+    };
+    match Timestamp::read(text) {
+        Some(at) => Ok(at),
+        None => Err(JsonFault::BadTime(Text::from_str(alloc, "at")?)),
+    }
+}
+
+/// What `write` holds.
 fn read_write_line(
     alloc: Global,
     root: &Database,
     json: &Json,
-) -> Result<Option<(Timestamp, Write)>, NoMemory>
-    ensures spelled { IfOk result (λ found. IfSome found (λ line. IsMoment line.0 × IsSpelledWrite line.1)) }
-    ensures is { IfOk result (λ found. MatchOption found
-        ((at : TimestampData) (write : WriteData) → SpellsWriteLine root.now (view json.now) at write → ⊥)
-        (λ line. SpellsWriteLine root.now (view json.now) line.0 line.1)) }
+) -> Result<(Timestamp, Write), JsonFault>
+    ensures line { IfOk result (λ line. SpellsWriteLine root.now (view json.now) line.0 line.1 × WriteLineFaults root.now (view json.now) []) }
+    ensures spelled { IfOk result (λ line. IsMoment line.0 × IsSpelledWrite line.1) }
+    ensures fault { IfErr result (λ fault. IsFault (WriteLineFaults root.now (view json.now)) fault) }
 {
-    let Some(line) = only_member(json, "write") else {
-        return Ok(None);
+    let Some(members) = json.as_object() else {
+        return Err(bad_shape(alloc, "write")?);
     };
-    let Some((at, writes)) = both_members(line, "at", "writes") else {
-        return Ok(None);
-    };
-    let Some(time) = text_of(at) else {
-        return Ok(None);
-    };
-    let Some(at) = Timestamp::read(time) else {
-        return Ok(None);
-    };
-    let Some(update) = only_item(writes) else {
-        return Ok(None);
-    };
-    let Some(write) = read_write(alloc, root, update)? else {
-        return Ok(None);
-    };
-    Ok(Some((at, write)))
-}
-
-/// The key of the document that a `get` line asks for.
-fn read_get_line(
-    alloc: Global,
-    root: &Database,
-    json: &Json,
-) -> Result<Option<DocumentKey>, NoMemory>
-    ensures { IfOk result (λ found. MatchOption found
-        ((key : List (List ℕ)) → SpellsGetLine root.now (view json.now) key → ⊥)
-        (λ key. SpellsGetLine root.now (view json.now) key)) }
-{
-    let Some(line) = only_member(json, "get") else {
-        return Ok(None);
-    };
-    let Some(name) = only_member(line, "name") else {
-        return Ok(None);
-    };
-    read_name(alloc, root, name)
-}
-
-/// The event that the tree of a line spells.
-pub fn read_event(alloc: Global, root: &Database, json: &Json) -> Result<Option<Event>, NoMemory>
-    ensures spelled { IfOk result (λ found. IfSome found IsSpelledEvent) }
-    ensures is { IfOk result (λ found. MatchOption found
-        ((event : EventData) → Spells root.now (view json.now) event → ⊥)
-        (λ event. Spells root.now (view json.now) event)) }
-{
-    if let Some((at, write)) = read_write_line(alloc, root, json)? {
-        return Ok(Some(Event::Write { at, write }));
+    let (at, first) = split(read_time(alloc, members))?;
+    let (write, second) = split(read_writes(alloc, root, members))?;
+    if let Some(fault) = around_two(alloc, Shape::WriteLine, members, first, second)? {
+        return Err(fault);
     }
-    let Some(key) = read_get_line(alloc, root, json)? else {
-        return Ok(None);
+    let Some(at) = at else {
+        unreachable!();
     };
-    Ok(Some(Event::Get(key)))
+    let Some(write) = write else {
+        unreachable!();
+    };
+    Ok((at, write))
+}
+
+/// What `get` holds.
+fn read_get_line(alloc: Global, root: &Database, json: &Json) -> Result<DocumentKey, JsonFault>
+    ensures line { IfOk result (λ key. SpellsGetLine root.now (view json.now) key × GetLineFaults root.now (view json.now) []) }
+    ensures fault { IfErr result (λ fault. IsFault (GetLineFaults root.now (view json.now)) fault) }
+{
+    let Some(members) = json.as_object() else {
+        return Err(bad_shape(alloc, "get")?);
+    };
+    let (key, inside) = split(read_given_name(alloc, root, members))?;
+    if let Some(fault) = around_one(alloc, Shape::GetLine, members, inside)? {
+        return Err(fault);
+    }
+    let Some(key) = key else {
+        unreachable!();
+    };
+    Ok(key)
+}
+
+/// What the only member of a line spells.
+fn read_named(alloc: Global, root: &Database, name: &str, json: &Json) -> Result<Event, JsonFault>
+    ensures event { IfOk result (λ event. SpellsNamed (line_name_of name.now) root.now (view json.now) event × NamedFaults (line_name_of name.now) root.now name.now (view json.now) []) }
+    ensures spelled { IfOk result IsSpelledEvent }
+    ensures fault { IfErr result (λ fault. IsFault (NamedFaults (line_name_of name.now) root.now name.now (view json.now)) fault) }
+{
+    match line_name(name) {
+        LineName::Write => match read_write_line(alloc, root, json) {
+            Ok((at, write)) => Ok(Event::Write { at, write }),
+            Err(fault) => Err(fault),
+        },
+        LineName::Get => match read_get_line(alloc, root, json) {
+            Ok(key) => Ok(Event::Get(key)),
+            Err(fault) => Err(fault),
+        },
+        LineName::Unbuilt => Err(unsupported(alloc, name)?),
+        LineName::Unknown => Err(bad_shape(alloc, "")?),
+    }
+}
+
+/// The event that the tree of a line spells. An unsupported member's value isn't read.
+///
+/// # Errors
+/// The first fault of the least kind, in the walk through the tree; `BadShape` of the empty name where the tree isn't an object
+/// with exactly one member that isn't null, the name of a line; or `NoMemory`.
+pub fn read_event(alloc: Global, root: &Database, json: &Json) -> Result<Event, JsonFault>
+    ensures event { IfOk result (λ event. Spells root.now (view json.now) event × LineFaults root.now (view json.now) []) }
+    ensures spelled { IfOk result IsSpelledEvent }
+    ensures fault { IfErr result (λ fault. IsFault (LineFaults root.now (view json.now)) fault) }
+{
+    let Some(members) = json.as_object() else {
+        return Err(bad_shape(alloc, "")?);
+    };
+    match only_member(members) {
+        Some((name, inner)) => read_named(alloc, root, name, inner),
+        None => Err(bad_shape(alloc, "")?),
+    }
 }
