@@ -1,6 +1,6 @@
 -- The faults of an object of a line, put together from those of its parts.
-use Rattle.std.proofs.Common.{◌≡◌, ◌≢◌, ◌≤◌, inl, inr, ⊎_elim, ℕ, List, [], ◌∷◌, ◌++◌, codes, length, Bor, Bool, true, false, cond, nat_lt, Option, Some, None, Result, Ok, Err, IfOk, IfErr, refl, sym, ap, subst, ◌∙◌}
-use Rattle.serde_json.specs.Data.{Data, Members, Items, string}
+use Rattle.std.proofs.Common.{◌≡◌, ◌≤◌, inl, inr, ⊎_elim, ℕ, List, [], ◌∷◌, ◌++◌, codes, length, Bor, Bool, true, false, cond, nat_lt, Option, Some, None, Result, Ok, Err, IfOk, IfErr, refl, sym, ap, subst, ◌∙◌}
+use Rattle.serde_json.specs.Data.{Data, Members, Items}
 use Rattle.serde_json.specs.Find.{as_str, as_array}
 use Rattle.document_keys.specs.Names.{Root}
 use Rattle.value_model.specs.Data.{Entries, entries_depth}

@@ -1,8 +1,8 @@
 -- The members that aren't null.
-use Rattle.std.proofs.Common.{◌≡◌, ◌≢◌, ℕ, List, [], ◌∷◌, ◌++◌, length, map, Bor, String, Bool, true, false, cond, Option, Some, None, is_some, refl, sym, ap, ◌∙◌, append-nil, append_assoc, arith, ◌≤◌}
+use Rattle.std.proofs.Common.{◌≡◌, ℕ, List, [], ◌∷◌, ◌++◌, length, Bor, String, Bool, true, false, cond, Option, Some, None, is_some, refl, sym, ap, ◌∙◌, append-nil, append_assoc, arith, ◌≤◌}
 use Rattle.std.specs.String.{string_bytes}
 use Rattle.std.specs.declared.alloc.Global.{Global}
-use Rattle.serde_json.specs.Data.{Data as Tree, Members, no_members, member}
+use Rattle.serde_json.specs.Data.{Data as Tree}
 use Rattle.serde_json.specs.View.{view, members_view}
 use Rattle.serde_json.specs.declared.value.Value.{Value as Json}
 use Rattle.json_model.specs.Members.{is_null}

@@ -1,6 +1,6 @@
 -- The faults of a line's tree, in the order of the walk: members in byte order of their names, a required one that is missing
 -- at its own name's place. The wrong shape of an object comes before what is inside, and is then the only fault there.
-use Rattle.std.specs.Prelude.{◌≡◌, ℕ, List, [], ◌∷◌, ◌++◌, ◌==◌, Bool, cond, codes, Option, Some, None}
+use Rattle.std.specs.Prelude.{◌≡◌, ℕ, List, [], ◌∷◌, ◌++◌, ◌==◌, cond, codes, Option, Some, None}
 use Rattle.serde_json.specs.Data.{Data, Members, no_members, member, Items, no_items, item}
 use Rattle.serde_json.specs.Find.{as_object, as_array}
 use Rattle.document_keys.specs.Names.{Root}

@@ -26,7 +26,8 @@ mod words;
 
 pub use client::run_client;
 pub use laws::{
-    a_line_reports_once, a_turn_reports_within, refused_files_are_no_store, two_files_find_once,
+    a_line_reports_once, a_turn_reports_within, one_reading, refused_files_are_no_store,
+    two_files_find_once,
 };
 pub use running::run_within;
 pub use status::Status;

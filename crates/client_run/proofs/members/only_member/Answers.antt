@@ -1,9 +1,7 @@
-use Rattle.std.proofs.Common.{◌≡◌, ap, sym, ◌∙◌, ◌++◌, ◌∷◌, [], map, subst, refl}
+use Rattle.std.proofs.Common.{ap, sym, ◌∙◌, ◌++◌, ◌∷◌, [], map, refl}
 use Rattle.std.specs.Map.Iter.{deref_pair}
 use Rattle.std.proofs.lemmas.List.{map-append}
-use Rattle.std.proofs.lemmas.Map.Iter.{rest_so_far, rest_more, iter_end}
-use Rattle.serde_json.specs.View.{view, members_view}
-use Rattle.client_run.specs.Grammar.{givens}
+use Rattle.std.proofs.lemmas.Map.Iter.{rest_so_far, rest_more}
 use Rattle.json_model.proofs.Trees.{null_test}
 use Rattle.client_run.proofs.OneMember.{members_same, members_first, members_two, none_yet, some_yet}
 use Rattle.client_run.proofs.members.only_member.Goals as goal

@@ -1,6 +1,5 @@
-use Rattle.std.proofs.Common.{◌≡◌, ◌∷◌, [], refl, ap, sym, subst, ◌∙◌}
+use Rattle.std.proofs.Common.{◌∷◌, [], ap}
 use Rattle.serde_json.specs.View.{members_view}
-use Rattle.client_run.specs.declared.shape.Shape.TheVariants as shapes
 use Rattle.client_run.proofs.Objects.{around_one, only}
 use Rattle.client_run.proofs.tree.find_in_unbuilt.Goals as goal
 

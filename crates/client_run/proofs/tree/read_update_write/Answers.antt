@@ -1,4 +1,3 @@
-use Rattle.std.proofs.Common.{◌≡◌, ◌∷◌, [], refl, ap, sym, subst, ◌∙◌}
 use Rattle.serde_json.specs.View.{members_view}
 use Rattle.client_run.specs.declared.shape.Shape.TheVariants as shapes
 use Rattle.client_run.proofs.Objects.{split_is, one_part, one_part_none, is_fault, read_as}

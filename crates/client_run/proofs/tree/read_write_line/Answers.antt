@@ -1,4 +1,4 @@
-use Rattle.std.proofs.Common.{◌≡◌, ◌∷◌, [], refl, ap, sym, subst, ◌∙◌}
+use Rattle.std.proofs.Common.{sym}
 use Rattle.serde_json.specs.View.{members_view}
 use Rattle.client_run.specs.declared.shape.Shape.TheVariants as shapes
 use Rattle.client_run.proofs.Objects.{object_none, object_fault, object_clean, split_is, split_held, two_parts, two_parts_none, is_fault, read_as}
