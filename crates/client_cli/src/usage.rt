@@ -5,7 +5,8 @@ use std::io::Eprint;
 /// The usage text.
 fn usage(alloc: Global) -> Result<String, AllocError> {
     let folder = Arg::new(alloc, "DIR").required(true).action(ArgAction::Set);
-    let run = Command::new(alloc, "run").arg(folder)?;
+    let database = Arg::new(alloc, "DATABASE").action(ArgAction::Set);
+    let run = Command::new(alloc, "run").arg(folder)?.arg(database)?;
     let mut program = Command::new(alloc, "fsclient").subcommand(run)?;
     program.render_long_help()
 }

@@ -1,25 +1,30 @@
 -- The words of a call.
-use Rattle.std.proofs.Common.{◌≡◌, ◌≢◌, ◌↔◌, ℕ, ◌<◌, not, IsTrue, List, [], ◌∷◌, length, get_or, slice_index, map, codes, sym, ap, subst, ◌∙◌, arith, rules}
-use Rattle.std.specs.Bool.{◌==◌}
-use Rattle.std.specs.String.{string_bytes}
-use Rattle.std.specs.declared.string.String.{String}
-use Rattle.std.specs.declared.alloc.Global.{Global}
-use Rattle.client_run.specs.Words.{AreRun}
+use Rattle.std.proofs.Common.{◌≡◌, ℕ, List, [], ◌∷◌, ◌++◌, codes, refl, sym, ap, subst, ◌∙◌}
+use Rattle.document_keys.specs.Names.{Root, IsPart, IsRoot, root_text, documents_text}
+use Rattle.document_keys.specs.Faults.{IsRootOfParts}
+use Rattle.json_model.proofs.Cuts.{one_root}
+use Rattle.client_run.specs.Words.{AsksRun, NamesRoot}
 
-pub are_two : (words : List (String Global)) (a b : String Global) → length words ≡ 2 → get_or words 0 a ≡ a → get_or words 1 b ≡ b → words ≡ a ∷ b ∷ []
-are_two [] a b two first second = cc
-are_two (x ∷ []) a b two first second = absurd (omega (arith, two))
-are_two (x ∷ y ∷ []) a b two first second = λ i. first i ∷ second i ∷ []
-are_two (x ∷ y ∷ z ∷ rest) a b two first second = absurd (omega (arith, two))
+-- a text is the name of one database at most
+roots_one : (a b : Root) → IsPart a.project → IsPart a.name → IsPart b.project → IsPart b.name → root_text a ≡ root_text b → a ≡ b
+unfolding documents_text
+roots_one a b one two three four same =
+    let both = one_root (documents_text a ++ 47 ∷ []) a b one two three four ([], refl) ([], ap (λ (t : List ℕ). (t ++ codes "/documents") ++ 47 ∷ []) same) in
+    λ i. record { project = both.0 i; name = both.1 i }
 
-dash : (byte : ℕ) → IsTrue (not (byte == 45)) ↔ (byte ≢ 45)
-dash byte = Prim.search rules
+pub named_one : (text : List ℕ) (a b : Root) → IsRootOfParts text a → IsRoot b → text ≡ root_text b → a ≡ b
+named_one text a b parts sound is = roots_one a b parts.project parts.name sound.project.part sound.name.part (sym parts.text_is ∙ is)
 
-pub are_run_words : (words : List (String Global)) (a b : String Global) (folder : List ℕ) → words ≡ a ∷ b ∷ [] → string_bytes a ≡ codes "run" → folder ≡ string_bytes b → 0 < length folder
-    → IsTrue (not (slice_index folder 0 == 45)) ↔ AreRun (map string_bytes words)
-are_run_words words a b folder are run is some =
-    let texts : map string_bytes words ≡ codes "run" ∷ folder ∷ [] = ap (map string_bytes) are ∙ (λ i. run i ∷ sym is i ∷ []) in (
-      (λ yes. record { folder = folder; are = texts; some = some; plain = (dash (slice_index folder 0)).0 yes }),
-      (λ run. let same : run.folder ≡ folder = let e : codes "run" ∷ run.folder ∷ [] ≡ codes "run" ∷ folder ∷ [] = sym run.are ∙ texts in cc in
-          (dash (slice_index folder 0)).1 (subst (λ (f : List ℕ). slice_index f 0 ≢ 45) same run.plain)),
-    )
+-- the words ask for one database
+pub asked_once : (words : List (List ℕ)) (a b : Root) → AsksRun words a → AsksRun words b → a ≡ b
+asked_once words a b first second =
+    let both = behind first.folder second.folder first.rest second.rest (sym first.are ∙ second.are) in
+    rest_one second.rest (subst (λ (rest : List (List ℕ)). NamesRoot rest a) both first.names) second.names
+  where
+    behind : (f g : List ℕ) (xs ys : List (List ℕ)) → codes "run" ∷ f ∷ xs ≡ codes "run" ∷ g ∷ ys → xs ≡ ys
+    behind f g xs ys same = cc
+
+    rest_one : (rest : List (List ℕ)) → NamesRoot rest a → NamesRoot rest b → a ≡ b
+    rest_one [] one other = one ∙ sym other
+    rest_one (text ∷ []) one other = roots_one a b one.0.project.part one.0.name.part other.0.project.part other.0.name.part (sym one.1 ∙ other.1)
+    rest_one (text ∷ (more ∷ rest)) one other = absurd one

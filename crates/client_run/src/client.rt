@@ -1,7 +1,8 @@
-ghost use Rattle.std.specs.Prelude.{◌≡◌, ◌≢◌, ◌↔◌, ℕ, List, map, IsTrue};
+ghost use Rattle.std.specs.Prelude.{◌≡◌, ◌≢◌, ◌⊎◌, ℕ, List, map, IsTrue};
 ghost use Rattle.std.specs.String.{string_bytes};
+ghost use Rattle.document_keys.specs.Names.{Root};
 ghost use Rattle.host_api.specs.Items.{split};
-ghost use Rattle.client_run.specs.Words.{AreRun, default_root};
+ghost use Rattle.client_run.specs.Words.{AsksRun};
 ghost use Rattle.client_run.specs.Crash.{Keeps};
 ghost use Rattle.client_run.specs.State.{State, FindsState};
 ghost use Rattle.client_run.specs.Store.{IsNoStore};
@@ -9,41 +10,43 @@ ghost use Rattle.client_run.specs.Run.{Ran, Faults, Completes, LeavesForeign, Is
 
 use crate::running::run_within;
 use crate::status::Status;
-use crate::words::{are_run, default_database};
+use crate::words::asked_database;
 use host_api::{Host, Source};
 use std::alloc::Global;
 
-/// What the program does for its words, which leave out its name: `run DIR` runs the lines of the source over the store that
-/// the host keeps, for the database `projects/demo/databases/(default)`, at most 4,294,967,296 of them. The host stands for
-/// the folder; its path isn't read here. What a crash leaves is said at [`run_within`].
+/// What the program does for its words, which leave out its name: `run DIR` and `run DIR DATABASE` run the lines of the source
+/// over the store that the host keeps, for the database of that name or `projects/demo/databases/(default)`, at most
+/// 4,294,967,296 of them. The host stands for the folder; its path isn't read here. What a crash leaves is said at
+/// [`run_within`].
 ///
 /// # Errors
-/// `Usage` exactly where the words aren't `run DIR` with a DIR that isn't empty and doesn't begin with `-`: nothing is read
-/// or written then. `NotAStore` exactly where the files, being read, aren't those of a store: nothing is changed then.
-/// `SourceFault`, `DiskFault` and `SinkFault` only where that count rose; `Budget` exactly where 4,294,967,296 lines were
-/// handled; or `NoMemory`.
+/// `Usage` exactly where the words aren't such, or else `NoMemory`: DIR isn't empty and doesn't begin with `-`, and DATABASE is
+/// `projects/{project}/databases/{database}` with two segments; nothing is read or written then. `NotAStore` exactly where the
+/// files, being read, aren't those of a store: nothing is changed then. `SourceFault`, `DiskFault` and `SinkFault` only where
+/// that count rose; `Budget` exactly where 4,294,967,296 lines were handled; or `NoMemory`.
 pub fn run_client<S: Source, H: Host>(
     alloc: Global,
     words: &[String],
     source: &mut S,
     host: &mut H,
 ) -> Status
-    ensures usage { (result ≡ Status.Usage → AreRun (map string_bytes words.now) → ⊥) × ((AreRun (map string_bytes words.now) → ⊥) → result ≡ Status.Usage) }
+    ensures usage { result ≡ Status.Usage → (root : Root) → ¬ (AsksRun (map string_bytes words.now) root) }
+    ensures no_run { ((root : Root) → ¬ (AsksRun (map string_bytes words.now) root)) → (result ≡ Status.Usage) ⊎ (result ≡ Status.NoMemory) }
     ensures untouched { result ≡ Status.Usage → (source.new ≡ source.old) × (host.new ≡ host.old) }
-    ensures run { IsTrue S.tells → IsTrue H.tells_files → AreRun (map string_bytes words.now) → (s : State) → (finds : FindsState (H.view host.old).bytes s)
-        → Ran H.view default_root (split (S.left source.old)) s finds.payloads H.tells_out H.tells_files 4294967296 result (S.left source.new) (H.view host.old) (H.view host.new) }
+    ensures run { IsTrue S.tells → IsTrue H.tells_files → (root : Root) → AsksRun (map string_bytes words.now) root → (s : State) → (finds : FindsState (H.view host.old).bytes s)
+        → Ran H.view root (split (S.left source.old)) s finds.payloads H.tells_out H.tells_files 4294967296 result (S.left source.new) (H.view host.old) (H.view host.new) }
     ensures not_a_store { result ≡ Status.NotAStore → LeavesForeign H.tells_files (H.view host.old) (H.view host.new) }
-    ensures no_store { IsTrue H.tells_files → AreRun (map string_bytes words.now) → IsNoStore (H.view host.old).bytes → IsRefusal result }
+    ensures no_store { IsTrue H.tells_files → (root : Root) → AsksRun (map string_bytes words.now) root → IsNoStore (H.view host.old).bytes → IsRefusal result }
     ensures never_kept { IsTrue H.tells_files → Keeps (H.view host.old) → result ≢ Status.NotAStore }
     ensures keeps { IsTrue H.tells_files → Keeps (H.view host.old) → Keeps (H.view host.new) }
-    ensures completes { IsTrue S.tells → IsTrue H.tells_files → AreRun (map string_bytes words.now) → Completes (split (S.left source.old)) 4294967296 result (S.faults source.old) (S.faults source.new) (H.view host.old) (H.view host.new) }
+    ensures completes { IsTrue S.tells → IsTrue H.tells_files → (root : Root) → AsksRun (map string_bytes words.now) root → Completes (split (S.left source.old)) 4294967296 result (S.faults source.old) (S.faults source.new) (H.view host.old) (H.view host.new) }
     ensures cause { Faults result (S.faults source.old) (S.faults source.new) (H.view host.old) (H.view host.new) }
 {
-    if !are_run(words) {
-        return Status::Usage;
-    }
-    let Ok(root) = default_database(alloc) else {
+    let Ok(asked) = asked_database(alloc, words) else {
         return Status::NoMemory;
+    };
+    let Some(root) = asked else {
+        return Status::Usage;
     };
     run_within(alloc, root, source, host, 4_294_967_296)
 }

@@ -72,7 +72,7 @@ fn wrong_words(rt: HostRuntime) -> Result<(), Fail> {
         &["run"],
         &["run", ""],
         &["run", "-d"],
-        &["run", "d", "e"],
+        &["run", "d", "projects/p"],
         &["get", "d"],
         &["soak", "1"],
     ];
