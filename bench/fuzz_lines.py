@@ -25,7 +25,8 @@ from client import ROOT, find_program, get_line, run_lines  # noqa: E402
 from journal_reader import get_files, put_files, random_pair, read_pair  # noqa: E402
 
 LONGEST = 4194304
-CAUSES = {1: "BadLine", 3: "Unsupported", 11: "LineTooLong"}
+CAUSES = {1: ("BadLine", {"member"}), 2: ("BadName", {"fault", "name"}), 3: ("Unsupported", {"member"}), 4: ("TooDeep", set()), 11: ("LineTooLong", set())}
+NAMING_FAULTS = {"WrongRoot", "BadSegment", "OddLength", "BadPath", "ReservedField"}
 
 
 class Members(list):
@@ -82,7 +83,12 @@ def odd_value(chance):
     names = [front + "/rooms/a", front + "/rooms", front + "/rooms/", front + "//a", front + "/rooms/a/b/c", front,
              front + "/rooms/__a__", front + "/rooms/..", front + "/rooms/" + "x" * 20, front + "/rooms/" + "x" * 21,
              front + "/rooms/\u00e9", front.replace("demo", "other") + "/rooms/a", front + "/r%20/a"]
-    other = [None, True, False, 0, 1, -1, 1.5, 1e308, 10**30, [], Members(), [[]], Members([("integerValue", "1")]),
+    leaf = Members([(chance.choice(["integerValue", "doubleValue", "bytesValue", "referenceValue", "timestampValue"]),
+                     chance.choice(numbers + times + names + ["+w==", "-w", "+x", "AA=", "A"]))])
+    for _ in range(chance.choice([0, 1, 2, 19, 20, 21])):
+        leaf = Members([("arrayValue", Members([("values", [leaf])]))]) if chance.random() < 0.5 else \
+            Members([("mapValue", Members([("fields", Members([(odd_name(chance), leaf)]))]))])
+    other = [leaf, Members([("arrayValue", Members())]), Members([("mapValue", Members())]), "NULL_VALUE", None, True, False, 0, 1, -1, 1.5, 1e308, 10**30, [], Members(), [[]], Members([("integerValue", "1")]),
              Members([("integerValue", 1)]), Members([("stringValue", "x")]), Members([("nullValue", None)]),
              "\u0000", "\ud7ff", "\U0001f600", "x" * 2000]
     return chance.choice(chance.choice([numbers, times, names, other]))
@@ -90,7 +96,8 @@ def odd_value(chance):
 
 def odd_name(chance):
     return chance.choice(["", "a", "n", "name", "fields", "write", "writes", "get", "at", "update", "delete", "listen",
-                          "updateMask", "integerValue", "__a__", "\u00e9", "x" * 20, "x" * 21, "1a", "a b", "\u0000"])
+                          "updateMask", "currentDocument", "transform", "integerValue", "stringValue", "bytesValue", "arrayValue", "mapValue",
+                          "values", "__type__", "doubleValue", "nullValue", "null", "__a__", "\u00e9", "x" * 20, "x" * 21, "1a", "a b", "\u0000"])
 
 
 def damage(chance, tree):
@@ -203,10 +210,12 @@ def fault_of(number, line, answer, batches):
         return None if body == {"batch": batches + 1, "commit": batches + 1} else "the batch due is %d" % (batches + 1)
     if kind == "document":
         return None if {"exists", "name", "state"} <= set(body) <= {"exists", "fields", "name", "state"} else "other members are due"
-    if kind != "refused" or CAUSES.get(body.get("number")) != body.get("cause") or body.get("line") != number:
+    cause, besides = CAUSES.get(body.get("number"), (None, set()))
+    if kind != "refused" or cause is None or cause != body.get("cause") or body.get("line") != number:
         return "a refusal with a known number and the line's number is due"
-    wanted = {"cause", "line", "number"} | (set() if body["number"] == 11 else {"member"})
-    return None if set(body) == wanted and isinstance(body.get("member", ""), str) else "the refusal has other members"
+    if set(body) != {"cause", "line", "number"} | besides or not all(isinstance(body[name], str) for name in besides):
+        return "the refusal has other members"
+    return None if body.get("fault", "BadSegment") in NAMING_FAULTS else "a known fault of a name is due"
 
 
 def try_lines(program, store, text, counts):
