@@ -125,17 +125,18 @@ pub given_name : {E : Type 0} (root : Root) (o : Option Data) (d : Data) (r : Re
 given_name {E} root o d (Ok key) is named = (record { name = d; is = sym is; names = named }, subst (λ (p : Option Data). Required p (codes "name") (NameFaults root) []) is (found.NameFaults.named key named))
 given_name {E} root o d (Err e) is named = tt
 
-pub given_fields : {E : Type 0} (o : Option Data) (d : Data) (r : Result Entries E) → Some d ≡ o → FirstOf (FieldsFaults Caller d) None → IfOk r (λ fields. SpellsFields Caller d fields)
+pub given_fields : {E : Type 0} (o : Option Data) (d : Data) (r : Result Entries E) → Some d ≡ o → IfOk r (λ fields. SpellsFields Caller d fields) → IfOk r (λ fields. FieldsFaults Caller d [])
     → IfOk r (λ fields. SpellsGiven o fields × Optional o (FieldsFaults Caller) [])
-given_fields {E} o d (Ok fields) is none spelled = (subst (λ (p : Option Data). SpellsGiven p fields) is spelled, subst (λ (p : Option Data). Optional p (FieldsFaults Caller) []) is (clean (FieldsFaults Caller d) None none refl))
-given_fields {E} o d (Err e) is none spelled = tt
+given_fields {E} o d (Ok fields) is spelled clean = (subst (λ (p : Option Data). SpellsGiven p fields) is spelled, subst (λ (p : Option Data). Optional p (FieldsFaults Caller) []) is clean)
+given_fields {E} o d (Err e) is spelled clean = tt
 
 pub given_storable : {E : Type 0} (r : Result Entries E) → IfOk r (λ fields. entries_depth fields ≤ 20) → IfOk r AreStorable → IfOk r (λ fields. AreSpelledFields 20 fields)
 given_storable {E} (Ok fields) deep storable = record { storable = storable; nested = deep }
 given_storable {E} (Err e) deep storable = tt
 
-pub given_fault : (o : Option Data) (d : Data) (fault : JsonFault) → Some d ≡ o → FirstOf (FieldsFaults Caller d) (Some fault) → IsFault (Optional o (FieldsFaults Caller)) fault
-given_fault o d fault is first = subst (λ (p : Option Data). IsFault (Optional p (FieldsFaults Caller)) fault) is (inr first)
+pub given_fault : {T : Type 0} (o : Option Data) (d : Data) (r : Result T JsonFault) → Some d ≡ o → IfErr r (IsFault (FieldsFaults Caller d)) → IfErr r (IsFault (Optional o (FieldsFaults Caller)))
+given_fault {T} o d (Ok found) is fault = tt
+given_fault {T} o d (Err e) is fault = subst (λ (p : Option Data). IsFault (Optional p (FieldsFaults Caller)) e) is fault
 
 -- ---- a time
 

@@ -22,7 +22,7 @@ use crate::members::only_member;
 use crate::shape::{LineName, Shape, line_name};
 use crate::strays::{around_one, around_two};
 use document_keys::{Database, DocumentKey, NoMemory, Text};
-use json_model::{JsonFault, Place, Side, find_fault, given, read_fields, read_name};
+use json_model::{JsonFault, Side, given, read_fields, read_name};
 use mutations::Write;
 use serde_json::{Map, Value as Json};
 use std::alloc::Global;
@@ -64,9 +64,6 @@ fn read_given_fields(
     let Some(json) = given(members, "fields") else {
         return Ok(Fields::new(alloc));
     };
-    if let Some(fault) = find_fault(alloc, Side::Caller, 20, Place::Fields, "fields", json)? {
-        return Err(fault);
-    }
     read_fields(alloc, root, Side::Caller, json)
 }
 
