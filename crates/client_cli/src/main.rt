@@ -26,7 +26,7 @@ fn run<R: Files + Print + Input + Env + AllocGlobal + Clone + Drop>(rt: &R) -> S
     let Ok(handle) = handle else {
         return Status::NoMemory;
     };
-    let Some(folder) = folder_of(rt.alloc(), words.as_slice()) else {
+    let Ok(folder) = folder_of(rt.alloc(), words.as_slice()) else {
         return Status::NoMemory;
     };
     let mut source = StdSource::new(reader);
