@@ -16,3 +16,7 @@ pub mod ReadBack
 pub mod Deep
 pub mod OneList
 pub mod Once
+pub mod OneName
+pub mod EachMember
+pub mod Clean
+pub mod ReadOnce

@@ -19,7 +19,6 @@ use Rattle.json_model.specs.declared.side.Side.{Side}
 use Rattle.json_model.specs.declared.place.Place.{Place}
 use Rattle.json_model.specs.declared.place.Place.TheVariants as place
 use Rattle.json_model.specs.Grammar.{SpellsScalar, SpellsValue, of_kind, SpellsKind, as_scalar, as_array as by_array, as_map as by_map, SpellsList, no_list, a_list, SpellsItems, no_item, an_item, SpellsMap, no_map, a_map, SpellsMembers, no_member, left_out, a_member, SpellsFields, max_nesting}
-use Rattle.json_model.specs.Laws.{ATreeSpellsOnce}
 use Rattle.json_model.specs.Members.{given, kinds_given}
 use Rattle.json_model.specs.Numbers.{SpellsInteger, IsNumber, SpellsWhole, as_number, as_text}
 use Rattle.json_model.specs.Places.{value_member}
@@ -198,6 +197,3 @@ module _ (side : Side) where
 -- an object spells its fields once
 pub spells_fields_once : (side : Side) (d : json.Data) (a b : Entries) → SpellsFields side d a → SpellsFields side d b → a ≡ b
 spells_fields_once side d a b one two = members_once side max_nesting one.members [] a b one.spelled (subst (λ m. SpellsMembers side max_nesting m [] b) (same_object d two.members one.members two.is one.is) two.spelled)
-
-pub once : ATreeSpellsOnce
-once = record { value = value_once; fields = spells_fields_once }

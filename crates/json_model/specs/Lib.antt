@@ -3,6 +3,7 @@ pub mod Faults
 pub mod Grammar
 pub mod Laws
 pub mod Members
+pub mod NamesOnce
 pub mod Numbers
 pub mod Places
 pub mod Printed

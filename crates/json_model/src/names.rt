@@ -1,8 +1,9 @@
-ghost use Rattle.std.specs.Prelude.{◌≡◌, ◌≢◌, ℕ, ◌++◌, ◌∷◌, List, IfOk, IfErr, MatchOption};
+ghost use Rattle.std.specs.Prelude.{◌≡◌, ◌≢◌, ℕ, [], ◌++◌, ◌∷◌, List, IfOk, IfErr, MatchOption};
 ghost use Rattle.serde_json.specs.View.{view};
 ghost use Rattle.document_keys.specs.Names.{Root, IsPart, IsSegment, IsRoot, IsKey, name_text};
 ghost use Rattle.document_keys.specs.Paths.{IsFieldName};
 ghost use Rattle.value_model.specs.Storable.{IsStorableName, IsStorableKey};
+ghost use Rattle.json_model.specs.declared.fault.JsonFault.TheVariants as json_fault;
 ghost use Rattle.json_model.specs.References.{SpellsReference, IsUnder, HasDocumentFault, HasReferenceFault};
 ghost use Rattle.json_model.specs.Faults.{FirstOf, IsFault, IsNameFault, SpellsName, NameFaults, FieldNameFaults, bad_name as bad_name_of};
 
@@ -132,10 +133,12 @@ pub fn read_reference(alloc: Global, text: &str) -> Result<RefName, JsonFault>
     })
 }
 
-/// The key of the document that the tree names under the root. Both sides write names alike.
+/// The key of the document that the tree names under the root. Both sides write names alike. The tree then has no fault as a
+/// name.
 ///
 /// # Errors
-/// `BadShape` of `name` where the tree is no text, `BadName` as `DocumentKey::read` says, or `NoMemory`.
+/// `BadShape` of `name` where the tree is no text, `BadName` as `DocumentKey::read` says: the tree then names no document
+/// under the root. Or `NoMemory`.
 pub fn read_name(
     alloc: Global,
     root: &Database,
@@ -145,6 +148,8 @@ pub fn read_name(
     ensures name { IfOk result (λ key. SpellsName root.now (view json.now) key) }
     ensures storable { IfOk result IsStorableKey }
     ensures fault { IfErr result (λ fault. IsFault (NameFaults root.now (view json.now)) fault) }
+    ensures clean { IfOk result (λ _. NameFaults root.now (view json.now) []) }
+    ensures names_none { IfErr result (λ fault. fault ≢ json_fault.NoMemory → (key : List (List ℕ)) → ¬ (SpellsName root.now (view json.now) key)) }
 {
     let Some(text) = json.as_str() else {
         return Err(JsonFault::BadShape(Text::from_str(alloc, "name")?));

@@ -9,6 +9,7 @@ ghost use Rattle.json_model.specs.declared.place.Place.TheVariants as places;
 ghost use Rattle.json_model.specs.declared.fault.JsonFault.TheVariants as json_fault;
 ghost use Rattle.json_model.specs.Grammar.{are_known as are_known_of, is_strange as is_strange_of, none_strange as none_strange_of, SpellsScalar, SpellsValue, SpellsKind, SpellsItems, SpellsMembers, SpellsFields, FieldsFaults, max_nesting};
 ghost use Rattle.json_model.specs.Faults.{IsFault};
+ghost use Rattle.json_model.specs.NamesOnce.{HasNamesOnce};
 
 use crate::bytes::read_bytes;
 use crate::fault::JsonFault;
@@ -355,11 +356,12 @@ fn build_tree(alloc: Global, side: Side, json: &Json) -> Result<Option<Fields>, 
 }
 
 /// The fields that the tree spells: an object of values, in each of which at most 20 arrays and maps nest. References name
-/// documents of any database.
+/// documents of any database. The tree then has no fault.
 ///
 /// # Errors
 /// The first fault of the least kind, in the walk through the tree: members in byte order of their names, lists in order. A
-/// wrong shape of the tree itself names `fields`. Or `NoMemory`.
+/// wrong shape of the tree itself names `fields`. Where each name stands once, as in every tree that is read from a text, a
+/// tree with a fault spells no fields. Or `NoMemory`.
 pub fn read_fields(
     alloc: Global,
     _root: &Database,
@@ -371,6 +373,7 @@ pub fn read_fields(
     ensures deep { IfOk result (λ fields. entries_depth fields ≤ max_nesting) }
     ensures fault { IfErr result (λ fault. IsFault (FieldsFaults side (view json.now)) fault) }
     ensures clean { IfOk result (λ _. FieldsFaults side (view json.now) []) }
+    ensures spells_none { IfErr result (λ fault. fault ≢ json_fault.NoMemory → HasNamesOnce (view json.now) → (fields : Entries) → ¬ (SpellsFields side (view json.now) fields)) }
 {
     let fault = find_fault(alloc, side, MAX_NESTING, Place::Fields, "fields", json)?;
     if let Some(fault) = fault {
