@@ -1,8 +1,7 @@
 -- A host in memory, as its contracts see it.
-use Rattle.std.specs.Prelude.{◌≡◌, ℕ, ◌+◌, ◌-◌, ◌^◌, min, List, [], Contains, Result, OnOk, OnErr, ◌⊎◌}
-use Rattle.host_api.specs.Counts.{Rises}
+use Rattle.std.specs.Prelude.{◌≡◌, ℕ, ◌+◌, ◌-◌, ◌^◌, ◌<◌, min, Bool, true, false, List, [], length, Contains, Result, OnOk, OnErr, ◌⊎◌}
 use Rattle.host_api.specs.Host.{Files, View}
-use Rattle.host_api.specs.Past.{Past, view_of}
+use Rattle.host_api.specs.Past.{Past, Step, Grows, view_of}
 use Rattle.host_api.specs.declared.host.Failed.{Failed}
 use Rattle.host_api.specs.declared.host.FileId.TheVariants.{Zero, One}
 
@@ -40,14 +39,31 @@ pub record IsFresh (file0 file1 listed : List ℕ) (memory : Memory) : Type 0 wh
   pub sink_faults : memory.sink_faults ≡ 0
   pub disk_faults : memory.disk_faults ≡ 0
 
--- Why a call failed, which may be refused for this cause: it is one of those that fail, or was refused, or its number
--- would be above the last one; or it found no memory, and the number of those rose.
-abbrev pub Blames : Type 0 → Memory → Memory → Type 0
-Blames refused old new = ((new.starved ≡ old.starved) × (IsListed old ⊎ refused ⊎ IsFull old)) ⊎ Rises old.starved new.starved
+-- one more, up to the last value of a `u64`
+abbrev pub OneMore : ℕ → ℕ → Type 0
+OneMore old new = new ≡ min (old + 1) (2 ^ 64 - 1)
 
--- when a call fails
-pub record Explains {T : Type 0} (result : Result T Failed) (refused : Type 0) (old new : Memory) : Type 0 where
-  pub ok : OnOk result ((IsListed old → ⊥) × (refused → ⊥) × (new.starved ≡ old.starved))
-  pub err : OnErr result (Blames refused old new)
-  pub number : new.past.calls ≡ min (old.past.calls + 1) (2 ^ 64 - 1)
+-- The call was done, and made these steps: it isn't one of those that fail, and wasn't refused.
+abbrev pub Worked : List Step → Type 0 → Memory → Memory → Type 0
+Worked steps refused old new = (IsListed old → ⊥) × (refused → ⊥) × Grows steps old.past new.past
+
+-- The call failed though there was memory. It is one of those that fail, and made these steps, which a crash may tear; or
+-- it was refused, or its number would be above the last one, and it made none.
+abbrev pub Missed : List Step → Type 0 → Memory → Memory → Type 0
+Missed steps refused old new = (IsListed old × Grows steps old.past new.past) ⊎ ((refused ⊎ IsFull old) × Grows [] old.past new.past)
+
+-- The call found no memory, and did nothing. It wasn't refused; and one of those that fail needs memory only for its steps.
+abbrev pub Starves : List Step → Type 0 → Memory → Memory → Type 0
+Starves steps refused old new = (refused → ⊥) × (IsFull old → ⊥) × (IsListed old → 0 < length steps) × Grows [] old.past new.past
+
+-- why a call failed: the number of those that found no memory rose by one just where it is one of them
+abbrev pub Blames : List Step → Type 0 → Memory → Memory → Type 0
+Blames steps refused old new = ((new.starved ≡ old.starved) × Missed steps refused old new) ⊎ (OneMore old.starved new.starved × Starves steps refused old new)
+
+-- When a call fails that may be refused for this cause, and what it does: the steps are those of a call that was done and
+-- of one that failed.
+pub record Explains {T : Type 0} (steps : Bool → List Step) (refused : Type 0) (result : Result T Failed) (old new : Memory) : Type 0 where
+  pub ok : OnOk result ((new.starved ≡ old.starved) × Worked (steps true) refused old new)
+  pub err : OnErr result (Blames (steps false) refused old new)
+  pub number : OneMore old.past.calls new.past.calls
   pub failing : new.failing ≡ old.failing

@@ -1,27 +1,20 @@
 -- How a call of a host in memory went.
-use Rattle.std.specs.Prelude.{◌≡◌, ℕ, ◌+◌, ◌-◌, ◌^◌, min, Bool, true, false, List, [], Result, Ok, Err, ◌⊎◌}
-use Rattle.host_api.specs.Counts.{Rises}
-use Rattle.host_api.specs.Memory.{Memory, IsListed, IsFull}
-use Rattle.host_api.specs.Past.{Past, Step, Grows}
+use Rattle.std.specs.Prelude.{◌≡◌, ℕ, Bool, true, false, List, Result, Ok, Err, ◌⊎◌}
+use Rattle.host_api.specs.Memory.{Memory, OneMore, Worked, Missed, Starves}
+use Rattle.host_api.specs.Past.{Step}
 use Rattle.host_api.specs.declared.host.Failed.{Failed}
 use Rattle.host_api.specs.declared.memory_host.Outcome.{Outcome}
 use Rattle.host_api.specs.declared.memory_host.Outcome.TheVariants.{Done, Failing, Starved}
 
--- what the call did of these steps, which are those of a call that was done and of one that failed
-abbrev pub Tried : (Bool → List Step) → Outcome → Past → Past → Type 0
-Tried steps Done old new = Grows (steps true) old new
-Tried steps Failing old new = Grows [] old new ⊎ Grows (steps false) old new
-Tried steps Starved old new = Grows [] old new
-
--- why it went so
-abbrev pub Tells : Type 0 → Outcome → Memory → Type 0
-Tells refused Done old = (IsListed old → ⊥) × (refused → ⊥)
-Tells refused Failing old = IsListed old ⊎ refused ⊎ IsFull old
-Tells refused Starved old = Unit {0}
+-- what the call did, and why it went so
+abbrev pub Tried : (Bool → List Step) → Type 0 → Outcome → Memory → Memory → Type 0
+Tried steps refused Done old new = Worked (steps true) refused old new
+Tried steps refused Failing old new = Missed (steps false) refused old new
+Tried steps refused Starved old new = Starves (steps false) refused old new
 
 -- what only a fault changes stays, and the call was counted
 pub record Counted (old new : Memory) : Type 0 where
-  pub number : new.past.calls ≡ min (old.past.calls + 1) (2 ^ 64 - 1)
+  pub number : OneMore old.past.calls new.past.calls
   pub failing : new.failing ≡ old.failing
   pub starved : new.starved ≡ old.starved
   pub sink_faults : new.sink_faults ≡ old.sink_faults
@@ -31,7 +24,7 @@ pub record Counted (old new : Memory) : Type 0 where
 abbrev pub StarvedBy : Outcome → ℕ → ℕ → Type 0
 StarvedBy Done old new = new ≡ old
 StarvedBy Failing old new = new ≡ old
-StarvedBy Starved old new = Rises old new
+StarvedBy Starved old new = OneMore old new
 
 -- the answer of a call that went so
 abbrev pub Answers : Outcome → Result (Unit {0}) Failed → Type 0

@@ -1,5 +1,8 @@
 -- A source in memory, as its contracts see it.
-use Rattle.std.specs.Prelude.{◌≡◌, ℕ, ◌+◌, ◌-◌, ◌^◌, ◌==◌, ◌≤◌, min, Bool, false, List, [], ◌∷◌, length, take, drop, All, Contains, IsTrue, if◌then◌else◌}
+use Rattle.std.specs.Prelude.{◌≡◌, ℕ, ◌+◌, ◌-◌, ◌^◌, ◌==◌, ◌≤◌, min, Bool, true, false, List, [], ◌∷◌, length, take, drop, All, Contains, IsTrue, if◌then◌else◌}
+use Rattle.host_api.specs.Items.{limit}
+use Rattle.host_api.specs.declared.source.Line.{Line}
+use Rattle.host_api.specs.declared.source.Line.TheVariants as line
 
 pub record Reading : Type 0 where
   -- the bytes that haven't been read
@@ -58,3 +61,22 @@ pub record SameCounts (old new : Reading) : Type 0 where
 -- the next call is one of those that fail
 abbrev pub IsListed : Reading → Type 0
 IsListed reading = Contains reading.failing (next_number reading)
+
+-- the call is one of those that fail, and took nothing
+pub record Refuses (old new : Reading) : Type 0 where
+  pub listed : IsListed old
+  pub text : new.text ≡ old.text
+  pub skipping : new.skipping ≡ old.skipping
+
+-- the call took as many bytes as one call skips, of a line that was too long
+pub record Skips (old new : Reading) : Type 0 where
+  pub all : SkipsAll old
+  pub text : new.text ≡ drop skip_limit old.text
+  pub skipping : new.skipping ≡ old.skipping
+
+-- What a call leaves: of a line that is too long it took one byte more than a line may have, and the next call is to skip
+-- the rest.
+abbrev pub Leaves : Line → Reading → Reading → Type 0
+Leaves line.Text old new = new.skipping ≡ false
+Leaves line.TooLong old new = (new.skipping ≡ true) × (new.text ≡ drop (limit + 1) (left_of old))
+Leaves line.End old new = new.skipping ≡ false

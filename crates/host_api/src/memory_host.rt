@@ -6,7 +6,7 @@ ghost use Rattle.host_api.specs.Disk.{IsPicked};
 ghost use Rattle.host_api.specs.Past.{Grows, disk_at, output_at};
 ghost use Rattle.host_api.specs.Host.{IsPart, Emits, Stays, KeepsOut, Writes, Cuts, Syncs};
 ghost use Rattle.host_api.specs.Memory.{host_view, Explains, IsFresh, IsFull, IsListed};
-ghost use Rattle.host_api.specs.Outcome.{Tried, Tells, Counted, Settled};
+ghost use Rattle.host_api.specs.Outcome.{Tried, Counted, Settled};
 
 use crate::contents::Contents;
 use crate::host::{FILE_LIMIT, Failed, FileId, Host, NoMemory};
@@ -161,8 +161,7 @@ impl MemHost {
 
     // A call that changes nothing, and may be refused.
     fn look(&mut self, refused: bool) -> Outcome
-        ensures tried { Tried (λ _. []) result self.old.past self.new.past }
-        ensures tells { Tells (IsTrue refused) result self.old }
+        ensures tried { Tried (λ _. []) (IsTrue refused) result self.old self.new }
         ensures counted { Counted self.old self.new }
     {
         let failing = refused || self.is_full() || self.is_listed();
@@ -175,8 +174,7 @@ impl MemHost {
     }
 
     fn try_emit(&mut self, piece: &[u8]) -> Outcome
-        ensures tried { Tried (λ done. if done then past.emit piece.now ∷ [] else []) result self.old.past self.new.past }
-        ensures tells { Tells ⊥ result self.old }
+        ensures tried { Tried (λ done. if done then past.emit piece.now ∷ [] else []) ⊥ result self.old self.new }
         ensures counted { Counted self.old self.new }
     {
         if self.is_full() || self.is_listed() {
@@ -194,8 +192,7 @@ impl MemHost {
 
     fn try_write(&mut self, file: FileId, at: u64, piece: &[u8]) -> Outcome
         requires { at ≤ length ((host_view self.old).bytes file) }
-        ensures tried { Tried (λ done. past.write file at piece.now done ∷ []) result self.old.past self.new.past }
-        ensures tells { Tells (2 ^ 62 < at + length piece.now) result self.old }
+        ensures tried { Tried (λ done. past.write file at piece.now done ∷ []) (2 ^ 62 < at + length piece.now) result self.old self.new }
         ensures counted { Counted self.old self.new }
     {
         let fits = at <= FILE_LIMIT && piece.len() as u64 <= FILE_LIMIT - at;
@@ -215,8 +212,7 @@ impl MemHost {
     }
 
     fn try_cut(&mut self, file: FileId, len: u64) -> Outcome
-        ensures tried { Tried (λ done. past.cut file len done ∷ []) result self.old.past self.new.past }
-        ensures tells { Tells ⊥ result self.old }
+        ensures tried { Tried (λ done. past.cut file len done ∷ []) ⊥ result self.old self.new }
         ensures counted { Counted self.old self.new }
     {
         if self.is_full() {
@@ -234,8 +230,7 @@ impl MemHost {
     }
 
     fn try_sync(&mut self, file: FileId) -> Outcome
-        ensures tried { Tried (λ done. if done then past.sync file ∷ [] else []) result self.old.past self.new.past }
-        ensures tells { Tells ⊥ result self.old }
+        ensures tried { Tried (λ done. if done then past.sync file ∷ [] else []) ⊥ result self.old self.new }
         ensures counted { Counted self.old self.new }
     {
         if self.is_full() || self.is_listed() {
@@ -301,7 +296,7 @@ impl Host for MemHost {
         ensures files { Emits piece.now (host_view self.old) (host_view self.new) }
         ensures disk_faults { (host_view self.new).disk_faults ≡ (host_view self.old).disk_faults }
         ensures cause { Counts result (host_view self.old).sink_faults (host_view self.new).sink_faults }
-        ensures explains { Explains result ⊥ self.old self.new }
+        ensures explains { Explains (λ done. if done then past.emit piece.now ∷ [] else []) ⊥ result self.old self.new }
     {
         let outcome = self.try_emit(piece);
         self.settle_sink(outcome)
@@ -313,7 +308,7 @@ impl Host for MemHost {
         ensures files { Stays (host_view self.old) (host_view self.new) }
         ensures out { KeepsOut (host_view self.old) (host_view self.new) }
         ensures cause { Counts result (host_view self.old).disk_faults (host_view self.new).disk_faults }
-        ensures explains { Explains result (2 ^ 62 < length ((host_view self.old).bytes file)) self.old self.new }
+        ensures explains { Explains (λ _. []) (2 ^ 62 < length ((host_view self.old).bytes file)) result self.old self.new }
     {
         let len = self.file(file).len() as u64;
         let outcome = self.look(len > FILE_LIMIT);
@@ -327,7 +322,7 @@ impl Host for MemHost {
         ensures files { Stays (host_view self.old) (host_view self.new) }
         ensures out { KeepsOut (host_view self.old) (host_view self.new) }
         ensures cause { Counts result (host_view self.old).disk_faults (host_view self.new).disk_faults }
-        ensures explains { Explains result ⊥ self.old self.new }
+        ensures explains { Explains (λ _. []) ⊥ result self.old self.new }
     {
         let start = at as usize;
         into.copy_from_slice(&self.file(file)[start..start + into.len()]);
@@ -341,7 +336,7 @@ impl Host for MemHost {
         ensures small { OnOk result (at + length piece.now ≤ 2 ^ 62) }
         ensures out { KeepsOut (host_view self.old) (host_view self.new) }
         ensures cause { Counts result (host_view self.old).disk_faults (host_view self.new).disk_faults }
-        ensures explains { Explains result (2 ^ 62 < at + length piece.now) self.old self.new }
+        ensures explains { Explains (λ done. past.write file at piece.now done ∷ []) (2 ^ 62 < at + length piece.now) result self.old self.new }
     {
         let outcome = self.try_write(file, at, piece);
         self.settle_disk(outcome)
@@ -352,7 +347,7 @@ impl Host for MemHost {
         ensures files { Cuts file len result (host_view self.old) (host_view self.new) }
         ensures out { KeepsOut (host_view self.old) (host_view self.new) }
         ensures cause { Counts result (host_view self.old).disk_faults (host_view self.new).disk_faults }
-        ensures explains { Explains result ⊥ self.old self.new }
+        ensures explains { Explains (λ done. past.cut file len done ∷ []) ⊥ result self.old self.new }
     {
         let outcome = self.try_cut(file, len);
         self.settle_disk(outcome)
@@ -362,7 +357,7 @@ impl Host for MemHost {
         ensures files { Syncs file result (host_view self.old) (host_view self.new) }
         ensures out { KeepsOut (host_view self.old) (host_view self.new) }
         ensures cause { Counts result (host_view self.old).disk_faults (host_view self.new).disk_faults }
-        ensures explains { Explains result ⊥ self.old self.new }
+        ensures explains { Explains (λ done. if done then past.sync file ∷ [] else []) ⊥ result self.old self.new }
     {
         let outcome = self.try_sync(file);
         self.settle_disk(outcome)

@@ -2,7 +2,7 @@ ghost use Rattle.std.specs.Prelude.{◌≡◌, ◌≤◌, ◌<◌, ◌⊎◌, fa
 ghost use Rattle.host_api.specs.Items.{split, item_of, Next, IsSuffix};
 ghost use Rattle.host_api.specs.Counts.{SourceCounts};
 ghost use Rattle.host_api.specs.Front.{IsFront};
-ghost use Rattle.host_api.specs.Reading.{IsListed, left_of, next_number, SameCounts, IsWholeSkip, EndsSkip, SkipsAll};
+ghost use Rattle.host_api.specs.Reading.{IsListed, left_of, next_number, SameCounts, IsWholeSkip, EndsSkip, SkipsAll, Refuses, Skips, Leaves};
 
 use crate::source::{LINE_LIMIT, Line, SKIP_LIMIT, Source, SourceFault, newline_in};
 use std::alloc::{AllocError, Global};
@@ -117,7 +117,7 @@ impl MemSource {
     fn skip(&mut self) -> bool
         ensures left { left_of self.new ≡ left_of self.old }
         ensures behind { IsTrue result → self.new.skipping ≡ false }
-        ensures bound { MatchBool result (SkipsAll self.old → ⊥) (SkipsAll self.old) }
+        ensures bound { MatchBool result (SkipsAll self.old → ⊥) (Skips self.old self.new) }
         ensures counts { SameCounts self.old self.new }
     {
         if !self.skipping {
@@ -137,6 +137,7 @@ impl MemSource {
         requires start { self.old.skipping ≡ false }
         requires empty { out.old.items ≡ [] }
         ensures takes { IfOk result (λ line. Next (item_of line out.new.items) (split (left_of self.old)) (split (left_of self.new))) }
+        ensures leaves { IfOk result (λ line. Leaves line self.old self.new) }
         ensures stays { OnErr result (self.new ≡ self.old) }
         ensures counts { SameCounts self.old self.new }
     {
@@ -171,7 +172,8 @@ impl Source for MemSource {
         ensures stays { OnErr result (left_of self.new ≡ left_of self.old) }
         ensures suffix { OnErr result (IsSuffix (left_of self.old) (left_of self.new)) }
         ensures cause { SourceCounts result self.old.faults self.new.faults }
-        ensures failed { IsErrOf result SourceFault.Failed → IsListed self.old ⊎ SkipsAll self.old }
+        ensures leaves { IfOk result (λ line. Leaves line self.old self.new) }
+        ensures failed { IsErrOf result SourceFault.Failed → Refuses self.old self.new ⊎ Skips self.old self.new }
         ensures fails { IsListed self.old ⊎ SkipsAll self.old → IsErrOf result SourceFault.Failed }
         ensures number { self.new.calls ≡ next_number self.old }
         ensures failing { self.new.failing ≡ self.old.failing }
