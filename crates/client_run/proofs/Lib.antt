@@ -4,7 +4,6 @@ pub mod Committed
 pub mod Handled
 pub mod Honest
 pub mod Objects
-pub mod OneFault
 pub mod OneMember
 pub mod OneReading
 pub mod Opened

@@ -29,7 +29,7 @@ use Rattle.client_run.specs.declared.reading.Reading.{Reading}
 use Rattle.client_run.specs.declared.reading.Reading.TheVariants.{Line, Refused}
 use Rattle.json_model.proofs.OneList.{fields_faults_once, kind_one}
 use Rattle.json_model.proofs.Once.{spells_fields_once}
-use Rattle.client_run.proofs.OneFault.{name_faults_one, spells_name_one}
+use Rattle.json_model.proofs.OneName.{name_faults_one, spells_name_one}
 
 -- one list at most
 abbrev IsOne : (List JsonFault → Type 0) → Type 0
