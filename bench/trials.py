@@ -1,0 +1,50 @@
+"""What the trials of crashes share: numbered batches, and what must be found of them. Batch b writes the number b into one of 40 documents."""
+import json
+import subprocess
+
+from client import get_line, run_lines, write_line
+from journal_reader import get_files, read_enqueue, read_pair
+
+DOCUMENTS = 40
+
+
+def path_of(batch):
+    return "rooms/d%d" % (batch % DOCUMENTS)
+
+
+def check_journal(store):
+    """How many batches the journal has; they must be 1 and so on, each as it was sent."""
+    found = read_pair(get_files(store))
+    if found[0] == "blank":
+        return 0
+    if found[0] != "counts" or found[2] != 1:
+        raise AssertionError("the files give %s" % (found[:3],))
+    for number, payload in enumerate(found[3], 1):
+        batch, key, fields = read_enqueue(payload)
+        if (batch, b"/".join(key).decode(), fields) != (number, path_of(number), {"n": {"integerValue": str(number)}}):
+            raise AssertionError("record %d is batch %d of %s: %s" % (number, batch, key, fields))
+    return len(found[3])
+
+
+def check_reopened(program, store, batches):
+    """A second run must show each document as the last of its batches left it, and go on counting."""
+    status, output = run_lines(program, store, [get_line(path_of(number)) for number in range(DOCUMENTS)])
+    if status != 0:
+        raise AssertionError("the second run ends with status %d" % status)
+    answers = [json.loads(line)["document"] for line in output.splitlines()]
+    for number, answer in enumerate(answers):
+        newest = max((batch for batch in range(max(1, batches - DOCUMENTS + 1), batches + 1)
+                      if batch % DOCUMENTS == number), default=0)
+        shown = int(answer["fields"]["n"]["integerValue"]) if answer["exists"] else 0
+        if shown != newest:
+            raise AssertionError("%s shows %d, and its newest batch is %d" % (path_of(number), shown, newest))
+    if len(answers) != DOCUMENTS:
+        raise AssertionError("%d answers to %d gets" % (len(answers), DOCUMENTS))
+    status, output = run_lines(program, store, [write_line(path_of(batches + 1), batches + 1)])
+    if status != 0 or json.loads(output) != {"ok": {"batch": batches + 1, "commit": batches + 1}}:
+        raise AssertionError("the next write answers %r, status %d" % (output, status))
+
+
+def build_library(source, path, compiler):
+    """Builds a library that stands in front of the system's when a program is loaded."""
+    subprocess.run([compiler, "-shared", "-fPIC", "-O1", "-x", "c", "-", "-o", path], input=source.encode(), check=True)
