@@ -36,38 +36,39 @@ fn root(rt: &HostRuntime) -> Result<Database, Fail> {
 }
 
 // trees, and the trees that their fields print
+const TREES: [(&str, &str); 7] = [
+    ("{}", "{}"),
+    (
+        "{\"a\":{\"nullValue\":\"NULL_VALUE\"},\"b\":null}",
+        "{\"a\":{\"nullValue\":null}}",
+    ),
+    (
+        "{\"n\":{\"integerValue\":7,\"stringValue\":null}}",
+        "{\"n\":{\"integerValue\":\"7\"}}",
+    ),
+    (
+        "{\"n\":{\"integerValue\":\"-0\"},\"t\":{\"booleanValue\":false}}",
+        "{\"n\":{\"integerValue\":\"0\"},\"t\":{\"booleanValue\":false}}",
+    ),
+    (
+        "{\"m\":{\"mapValue\":{}},\"l\":{\"arrayValue\":{\"values\":[]}}}",
+        "{\"l\":{\"arrayValue\":{}},\"m\":{\"mapValue\":{}}}",
+    ),
+    (
+        "{\"x\":{\"bytesValue\":\"-w\"},\"y\":{\"bytesValue\":\"+w==\"}}",
+        "{\"x\":{\"bytesValue\":\"+w==\"},\"y\":{\"bytesValue\":\"+w==\"}}",
+    ),
+    (
+        "{\"r\":{\"referenceValue\":\"projects/p/databases/d/documents/c/i\"}}",
+        "{\"r\":{\"referenceValue\":\"projects/p/databases/d/documents/c/i\"}}",
+    ),
+];
+
 #[test]
 fn fields_read_back(rt: HostRuntime) -> Result<(), Fail> {
-    let cases = [
-        ("{}", "{}"),
-        (
-            "{\"a\":{\"nullValue\":\"NULL_VALUE\"},\"b\":null}",
-            "{\"a\":{\"nullValue\":null}}",
-        ),
-        (
-            "{\"n\":{\"integerValue\":7,\"stringValue\":null}}",
-            "{\"n\":{\"integerValue\":\"7\"}}",
-        ),
-        (
-            "{\"n\":{\"integerValue\":\"-0\"},\"t\":{\"booleanValue\":false}}",
-            "{\"n\":{\"integerValue\":\"0\"},\"t\":{\"booleanValue\":false}}",
-        ),
-        (
-            "{\"m\":{\"mapValue\":{}},\"l\":{\"arrayValue\":{\"values\":[]}}}",
-            "{\"l\":{\"arrayValue\":{}},\"m\":{\"mapValue\":{}}}",
-        ),
-        (
-            "{\"x\":{\"bytesValue\":\"-w\"},\"y\":{\"bytesValue\":\"+w==\"}}",
-            "{\"x\":{\"bytesValue\":\"+w==\"},\"y\":{\"bytesValue\":\"+w==\"}}",
-        ),
-        (
-            "{\"r\":{\"referenceValue\":\"projects/p/databases/d/documents/c/i\"}}",
-            "{\"r\":{\"referenceValue\":\"projects/p/databases/d/documents/c/i\"}}",
-        ),
-    ];
     let alloc = rt.alloc();
     let root = root(&rt)?;
-    for (tree, wanted) in cases {
+    for (tree, wanted) in TREES {
         let json = Json::from_str(alloc, tree)?;
         let Ok(fields) = read_fields(alloc, &root, Side::Caller, &json) else {
             return Err("fields".into());
@@ -78,51 +79,69 @@ fn fields_read_back(rt: HostRuntime) -> Result<(), Fail> {
     Ok(())
 }
 
-// trees of the caller, and their faults: the kind's number and the member or name
+// trees of the caller with a wrong shape, and the member at fault
+const SHAPES: [(&str, &str); 11] = [
+    ("5", "fields"),
+    ("{\"a\":{}}", "a"),
+    ("{\"a\":{\"doubleValue\":1,\"integerValue\":\"1\"}}", "a"),
+    ("{\"a\":{\"integerValue\":\"01\"}}", "integerValue"),
+    (
+        "{\"a\":{\"integerValue\":\"9223372036854775808\"}}",
+        "integerValue",
+    ),
+    (
+        "{\"a\":{\"integerValue\":9223372036854775808}}",
+        "integerValue",
+    ),
+    ("{\"a\":{\"integerValue\":1.5}}", "integerValue"),
+    ("{\"a\":{\"integerValue\":\"-\"}}", "integerValue"),
+    ("{\"a\":{\"foo\":1,\"integerValue\":\"1\"}}", "foo"),
+    ("{\"a\":{\"mapValue\":{\"__type__\":{}}}}", "__type__"),
+    (
+        "{\"a\":{\"arrayValue\":{\"values\":[{\"doubleValue\":1},null]}}}",
+        "values",
+    ),
+];
+
+// trees with other faults: the kind's number, and the member or name
+const OTHERS: [(&str, u8, &str); 9] = [
+    (
+        "{\"a\":{\"timestampValue\":\"2024-02-30T00:00:00Z\"}}",
+        2,
+        "timestampValue",
+    ),
+    ("{\"a\":{\"bytesValue\":\"+x\"}}", 3, "bytesValue"),
+    ("{\"a\":{\"bytesValue\":\"+_\"}}", 3, "bytesValue"),
+    ("{\"a\":{\"bytesValue\":\"+_8\"}}", 3, "bytesValue"),
+    ("{\"a\":{\"doubleValue\":1}}", 5, "doubleValue"),
+    (
+        "{\"a\":{\"mapValue\":{\"fields\":{\"A\":5,\"__type__\":{}}}}}",
+        5,
+        "vectorValue",
+    ),
+    ("{\"\":{\"doubleValue\":1}}", 5, "doubleValue"),
+    ("{\"__a__\":{\"nullValue\":null}}", 6, "__a__"),
+    ("{\"a\":{\"referenceValue\":\"x/y\"}}", 6, "x/y"),
+];
+
+// the fault of a tree of the caller
+fn fault_of(rt: &HostRuntime, tree: &str) -> Result<JsonFault, Fail> {
+    let json = Json::from_str(rt.alloc(), tree)?;
+    match read_fields(rt.alloc(), &root(rt)?, Side::Caller, &json) {
+        Ok(_) => Err("a fault".into()),
+        Err(fault) => Ok(fault),
+    }
+}
+
 #[test]
 fn faults(rt: HostRuntime) -> Result<(), Fail> {
-    let cases = [
-        ("5", 1, "fields"),
-        ("{\"a\":{}}", 1, "a"),
-        ("{\"a\":{\"doubleValue\":1,\"integerValue\":\"1\"}}", 1, "a"),
-        ("{\"a\":{\"doubleValue\":1}}", 5, "doubleValue"),
-        ("{\"a\":{\"integerValue\":\"01\"}}", 1, "integerValue"),
-        (
-            "{\"a\":{\"integerValue\":\"9223372036854775808\"}}",
-            1,
-            "integerValue",
-        ),
-        ("{\"a\":{\"integerValue\":1.5}}", 1, "integerValue"),
-        ("{\"a\":{\"bytesValue\":\"+x\"}}", 3, "bytesValue"),
-        ("{\"a\":{\"bytesValue\":\"+_\"}}", 3, "bytesValue"),
-        (
-            "{\"a\":{\"timestampValue\":\"2024-02-30T00:00:00Z\"}}",
-            2,
-            "timestampValue",
-        ),
-        ("{\"a\":{\"foo\":1,\"integerValue\":\"1\"}}", 1, "foo"),
-        (
-            "{\"a\":{\"mapValue\":{\"fields\":{\"A\":5,\"__type__\":{}}}}}",
-            5,
-            "vectorValue",
-        ),
-        ("{\"a\":{\"mapValue\":{\"__type__\":{}}}}", 1, "__type__"),
-        ("{\"__a__\":{\"nullValue\":null}}", 6, "__a__"),
-        ("{\"\":{\"doubleValue\":1}}", 5, "doubleValue"),
-        ("{\"a\":{\"referenceValue\":\"x/y\"}}", 6, "x/y"),
-        (
-            "{\"a\":{\"arrayValue\":{\"values\":[{\"doubleValue\":1},null]}}}",
-            1,
-            "values",
-        ),
-    ];
-    let alloc = rt.alloc();
-    let root = root(&rt)?;
-    for (tree, kind, name) in cases {
-        let json = Json::from_str(alloc, tree)?;
-        let Err(fault) = read_fields(alloc, &root, Side::Caller, &json) else {
-            return Err("a fault".into());
-        };
+    for (tree, name) in SHAPES {
+        let fault = fault_of(&rt, tree)?;
+        assert_eq!(rt; number(&fault), 1);
+        assert_eq!(rt; member(&fault), name);
+    }
+    for (tree, kind, name) in OTHERS {
+        let fault = fault_of(&rt, tree)?;
         assert_eq!(rt; number(&fault), kind);
         assert_eq!(rt; member(&fault), name);
     }
