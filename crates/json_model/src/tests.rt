@@ -1,7 +1,8 @@
-use crate::{JsonFault, Side, print_fields, read_fields, read_name, read_whole};
+use crate::{JsonFault, Side, print_document, print_fields, read_fields, read_name, read_whole};
 use document_keys::Database;
 use serde_json::Value as Json;
 use std::test::Fail;
+use value_model::{DocRef, DocState, Timestamp};
 
 /// The number of a kind of fault.
 fn number(fault: &JsonFault) -> u8 {
@@ -76,6 +77,35 @@ fn fields_read_back(rt: HostRuntime) -> Result<(), Fail> {
         let text = print_fields(alloc, &fields)?.to_string(alloc)?;
         assert_eq!(rt; text.as_str(), wanted);
     }
+    Ok(())
+}
+
+#[test]
+fn documents(rt: HostRuntime) -> Result<(), Fail> {
+    let alloc = rt.alloc();
+    let root = root(&rt)?;
+    let name = Json::from_str(
+        alloc,
+        "\"projects/demo/databases/(default)/documents/rooms/a\"",
+    )?;
+    let Ok(key) = read_name(alloc, &root, Side::Backend, &name) else {
+        return Err("a name".into());
+    };
+    let json = Json::from_str(alloc, "{\"n\":{\"integerValue\":1}}")?;
+    let Ok(fields) = read_fields(alloc, &root, Side::Backend, &json) else {
+        return Err("fields".into());
+    };
+    let document = DocRef {
+        key: &key,
+        fields: &fields,
+        update_time: Timestamp::read("2024-05-01T00:00:01.500Z"),
+        state: DocState::Synced,
+    };
+    let text = print_document(alloc, &root, document)?.to_string(alloc)?;
+    assert_eq!(rt;
+        text.as_str(),
+        "{\"fields\":{\"n\":{\"integerValue\":\"1\"}},\"name\":\"projects/demo/databases/(default)/documents/rooms/a\",\"state\":\"synced\",\"updateTime\":\"2024-05-01T00:00:01.500Z\"}"
+    );
     Ok(())
 }
 
