@@ -59,47 +59,40 @@ fn nested(alloc: Global, depth: u64) -> Result<Vec<u8>, Fail> {
     Ok(bytes)
 }
 
+/// A value of each kind.
+const VALUES: [&[u8]; 11] = [
+    &[0],
+    &[1, 0],
+    &[1, 1],
+    &[2, 0x80, 0, 0, 0, 0, 0, 0, 0],
+    &[3, 0, 0, 0, 0, 0x66, 0x31, 0x86, 1, 0, 0, 0, 9],
+    &[5, 0, 0, 0, 0, 0, 0, 0, 2, 0xc3, 0xa9],
+    &[6, 0, 0, 0, 0, 0, 0, 0, 1, 0xff],
+    &[
+        7, 0, 0, 0, 0, 0, 0, 0, 1, 0x70, 0, 0, 0, 0, 0, 0, 0, 1, 0x64, 0, 0, 0, 0, 0, 0, 0, 2, 0,
+        0, 0, 0, 0, 0, 0, 1, 0x63, 0, 0, 0, 0, 0, 0, 0, 1, 0x61,
+    ],
+    &[8, 0, 0, 0, 0, 0, 0, 0, 2, 0, 1, 1],
+    &[9, 0, 0, 0, 0, 0, 0, 0, 0],
+    &[
+        9, 0, 0, 0, 0, 0, 0, 0, 1, 0, 0, 0, 0, 0, 0, 0, 1, 0x61, 8, 0, 0, 0, 0, 0, 0, 0, 0,
+    ],
+];
+
 #[test]
 fn kinds_both_ways(rt: HostRuntime) -> Result<(), Fail> {
-    let rows: [&[u8]; 11] = [
-        &[0],
-        &[1, 0],
-        &[1, 1],
-        &[2, 0x80, 0, 0, 0, 0, 0, 0, 0],
-        &[3, 0, 0, 0, 0, 0x66, 0x31, 0x86, 1, 0, 0, 0, 9],
-        &[5, 0, 0, 0, 0, 0, 0, 0, 2, 0xc3, 0xa9],
-        &[6, 0, 0, 0, 0, 0, 0, 0, 1, 0xff],
-        &[
-            7, 0, 0, 0, 0, 0, 0, 0, 1, 0x70, 0, 0, 0, 0, 0, 0, 0, 1, 0x64, 0, 0, 0, 0, 0, 0, 0, 2,
-            0, 0, 0, 0, 0, 0, 0, 1, 0x63, 0, 0, 0, 0, 0, 0, 0, 1, 0x61,
-        ],
-        &[8, 0, 0, 0, 0, 0, 0, 0, 2, 0, 1, 1],
-        &[9, 0, 0, 0, 0, 0, 0, 0, 0],
-        &[
-            9, 0, 0, 0, 0, 0, 0, 0, 1, 0, 0, 0, 0, 0, 0, 0, 1, 0x61, 8, 0, 0, 0, 0, 0, 0, 0, 0,
-        ],
-    ];
-    for value in rows {
+    for value in VALUES {
         let payload = with_value(rt.alloc(), value)?;
         let read = decode(rt.alloc(), &payload).ok().ok_or("memory")?;
         let commit = read.ok_or("the bytes are a commit")?;
         let written = encode(rt.alloc(), &commit).ok().ok_or("memory")?;
         assert_eq!(rt; written.as_slice(), payload.as_slice());
     }
-    let rows: [(&str, &[u8]); 4] = [
-        ("a pending time", &[4, 0, 0, 0, 0, 0, 0, 0, 0, 0, 0, 0, 0]),
-        ("a boolean of 2", &[1, 2]),
-        ("no kind", &[10]),
-        (
-            "a text that isn't UTF-8",
-            &[5, 0, 0, 0, 0, 0, 0, 0, 1, 0xff],
-        ),
-    ];
-    for (what, value) in rows {
-        let payload = with_value(rt.alloc(), value)?;
-        let read = decode(rt.alloc(), &payload).ok().ok_or("memory")?;
-        assert!(rt; read.is_none(), "{what}");
-    }
+    Ok(())
+}
+
+#[test]
+fn depths(rt: HostRuntime) -> Result<(), Fail> {
     for (depth, reads) in [(20, true), (21, false)] {
         let payload = with_value(rt.alloc(), &nested(rt.alloc(), depth)?)?;
         let read = decode(rt.alloc(), &payload).ok().ok_or("memory")?;
@@ -108,59 +101,77 @@ fn kinds_both_ways(rt: HostRuntime) -> Result<(), Fail> {
     Ok(())
 }
 
+/// What is no value, in place of the payload's.
+const NO_VALUES: [(&str, &[u8]); 4] = [
+    ("a pending time", &[4, 0, 0, 0, 0, 0, 0, 0, 0, 0, 0, 0, 0]),
+    ("a boolean of 2", &[1, 2]),
+    ("no kind", &[10]),
+    (
+        "a text that isn't UTF-8",
+        &[5, 0, 0, 0, 0, 0, 0, 0, 1, 0xff],
+    ),
+];
+
+/// Bytes in place of those of the payload between two places, which leave no commit.
+const DAMAGES: [(&str, usize, usize, &[u8]); 17] = [
+    ("another format", 0, 1, &[2]),
+    ("another kind", 1, 2, &[2]),
+    (
+        "a second too early",
+        10,
+        18,
+        &[0xff, 0xff, 0xff, 0xf1, 0x88, 0x6e, 0x08, 0xff],
+    ),
+    ("a second of nanoseconds", 18, 22, &[0x3b, 0x9a, 0xca, 0]),
+    ("two writes", 29, 30, &[2]),
+    ("another write", 30, 31, &[2]),
+    (
+        "one segment",
+        38,
+        61,
+        &[1, 0, 0, 0, 0, 0, 0, 0, 5, 0x72, 0x6f, 0x6f, 0x6d, 0x73],
+    ),
+    ("a slash", 60, 61, &[0x2f]),
+    ("no UTF-8", 60, 61, &[0xff]),
+    ("more fields than bytes", 61, 62, &[0xff]),
+    (
+        "a reserved name",
+        76,
+        78,
+        &[5, 0x5f, 0x5f, 0x6e, 0x5f, 0x5f],
+    ),
+    ("another value", 78, 79, &[1]),
+    (
+        "a name twice",
+        68,
+        87,
+        &[
+            2, 0, 0, 0, 0, 0, 0, 0, 1, 0x6e, 2, 0, 0, 0, 0, 0, 0, 0, 1, 0, 0, 0, 0, 0, 0, 0, 1,
+            0x6e, 2, 0, 0, 0, 0, 0, 0, 0, 1,
+        ],
+    ),
+    (
+        "names that descend",
+        68,
+        87,
+        &[
+            2, 0, 0, 0, 0, 0, 0, 0, 1, 0x6e, 2, 0, 0, 0, 0, 0, 0, 0, 1, 0, 0, 0, 0, 0, 0, 0, 1,
+            0x6d, 2, 0, 0, 0, 0, 0, 0, 0, 1,
+        ],
+    ),
+    ("a mask", 87, 88, &[1]),
+    ("a byte less", 96, 97, &[]),
+    ("a byte more", 97, 97, &[0]),
+];
+
 #[test]
 fn damaged(rt: HostRuntime) -> Result<(), Fail> {
-    let rows: [(&str, usize, usize, &[u8]); 17] = [
-        ("another format", 0, 1, &[2]),
-        ("another kind", 1, 2, &[2]),
-        (
-            "a second too early",
-            10,
-            18,
-            &[0xff, 0xff, 0xff, 0xf1, 0x88, 0x6e, 0x08, 0xff],
-        ),
-        ("a second of nanoseconds", 18, 22, &[0x3b, 0x9a, 0xca, 0]),
-        ("two writes", 29, 30, &[2]),
-        ("another write", 30, 31, &[2]),
-        (
-            "one segment",
-            38,
-            61,
-            &[1, 0, 0, 0, 0, 0, 0, 0, 5, 0x72, 0x6f, 0x6f, 0x6d, 0x73],
-        ),
-        ("a slash", 60, 61, &[0x2f]),
-        ("no UTF-8", 60, 61, &[0xff]),
-        ("more fields than bytes", 61, 62, &[0xff]),
-        (
-            "a reserved name",
-            76,
-            78,
-            &[5, 0x5f, 0x5f, 0x6e, 0x5f, 0x5f],
-        ),
-        ("another value", 78, 79, &[1]),
-        (
-            "a name twice",
-            68,
-            87,
-            &[
-                2, 0, 0, 0, 0, 0, 0, 0, 1, 0x6e, 2, 0, 0, 0, 0, 0, 0, 0, 1, 0, 0, 0, 0, 0, 0, 0, 1,
-                0x6e, 2, 0, 0, 0, 0, 0, 0, 0, 1,
-            ],
-        ),
-        (
-            "names that descend",
-            68,
-            87,
-            &[
-                2, 0, 0, 0, 0, 0, 0, 0, 1, 0x6e, 2, 0, 0, 0, 0, 0, 0, 0, 1, 0, 0, 0, 0, 0, 0, 0, 1,
-                0x6d, 2, 0, 0, 0, 0, 0, 0, 0, 1,
-            ],
-        ),
-        ("a mask", 87, 88, &[1]),
-        ("a byte less", 96, 97, &[]),
-        ("a byte more", 97, 97, &[0]),
-    ];
-    for (what, from, to, bytes) in rows {
+    for (what, value) in NO_VALUES {
+        let payload = with_value(rt.alloc(), value)?;
+        let read = decode(rt.alloc(), &payload).ok().ok_or("memory")?;
+        assert!(rt; read.is_none(), "{what}");
+    }
+    for (what, from, to, bytes) in DAMAGES {
         let payload = changed(rt.alloc(), from, to, bytes)?;
         let read = decode(rt.alloc(), &payload).ok().ok_or("memory")?;
         assert!(rt; read.is_none(), "{what}");
