@@ -1,5 +1,5 @@
 #!/usr/bin/env python3
-"""Another reader of input lines, written from docs/FORMATS.md alone, against the program.
+"""Another reader of input lines, by the description in docs/FORMATS.md, against the program.
 
     bench/line_reader.py compare [--program P] [--runs N] [--lines N] [--minutes M] [--seed S]
     bench/line_reader.py answer [DATABASE] < LINES
