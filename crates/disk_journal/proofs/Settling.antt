@@ -1,7 +1,7 @@
 -- The two syncs that an opening begins with, and what a crash leaves after them.
-use Rattle.std.proofs.Common.{◌≡◌, ◌⊎◌, inl, inr, ⊎_elim, ℕ, List, Result, Ok, Err, refl, ap, sym, ◌∙◌, subst}
+use Rattle.std.proofs.Common.{◌≡◌, ◌⊎◌, inl, inr, ⊎_elim, Result, Ok, Err, ap, ◌∙◌, subst}
 use Rattle.host_api.specs.declared.host.FileId.{FileId}
-use Rattle.host_api.specs.Host.{Files, View, IsOnDisk, Stays, Spans}
+use Rattle.host_api.specs.Host.{Files, View, IsOnDisk, Stays}
 use Rattle.host_api.proofs.Spans.{spans_then, spans_weaker}
 use Rattle.disk_journal.specs.declared.fault.OpenFault.{OpenFault}
 use Rattle.disk_journal.specs.declared.fault.OpenFault.TheVariants as fault

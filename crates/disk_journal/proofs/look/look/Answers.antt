@@ -1,4 +1,3 @@
-use Rattle.std.proofs.Common.{rules}
 use Rattle.disk_journal.proofs.Settling.{settled_first, settles}
 use Rattle.disk_journal.proofs.look.look.Goals as goal
 
