@@ -2,10 +2,16 @@
 import os
 import subprocess
 import sys
+import tempfile
 import time
 
 ROOT = os.path.dirname(os.path.dirname(os.path.abspath(__file__)))
 NAME_FRONT = "projects/demo/databases/(default)/documents/"
+
+
+def memory_folder():
+    """A folder in memory, or where the machine has none, that of temporary files."""
+    return "/dev/shm" if os.path.isdir("/dev/shm") else tempfile.gettempdir()
 
 
 def find_program(given):

@@ -1,8 +1,8 @@
 #!/usr/bin/env python3
 """Another reader of input lines, by the description in docs/FORMATS.md, against the program.
 
-    bench/line_reader.py compare [--program P] [--runs N] [--lines N] [--minutes M] [--seed S]
-    bench/line_reader.py answer [DATABASE] < LINES
+    bench/readers/line_reader.py compare [--program P] [--runs N] [--lines N] [--minutes M] [--seed S]
+    bench/readers/line_reader.py answer [DATABASE] < LINES
 
 `compare` feeds the program the damaged lines of fuzz_lines.py, and lines that are built with several faults at once, and each
 answer must be, byte for byte, the one that this reader gives: the numbers of an `ok`, the printed document, or the number, the
@@ -24,9 +24,9 @@ import tempfile
 import time
 
 sys.dont_write_bytecode = True
-sys.path.insert(0, os.path.dirname(os.path.abspath(__file__)))
-from client import find_program, run_lines  # noqa: E402
-from fuzz_lines import items_of, keep, random_line, sample_lines  # noqa: E402
+sys.path.insert(0, os.path.dirname(os.path.dirname(os.path.abspath(__file__))))
+from client import find_program, memory_folder, run_lines  # noqa: E402
+from trials.fuzz_lines import items_of, keep, random_line, sample_lines  # noqa: E402
 
 sys.set_int_max_str_digits(0)
 
@@ -527,7 +527,7 @@ def try_lines(program, store, text, counts):
 def compare(words):
     program, chance, trees, counts = find_program(words.program), random.Random(words.seed), sample_lines(), {}
     ends, number, wrong = time.monotonic() + 60 * words.minutes, 0, None
-    with tempfile.TemporaryDirectory(prefix="line-reader-", dir="/dev/shm" if os.path.isdir("/dev/shm") else None) as folder:
+    with tempfile.TemporaryDirectory(prefix="line-reader-", dir=memory_folder()) as folder:
         while not wrong and (time.monotonic() < ends if words.minutes else number < words.runs):
             number += 1
             store = os.path.join(folder, "store")

@@ -1,7 +1,7 @@
 #!/usr/bin/env python3
 """Feeds the program damaged lines and damaged journal files.
 
-    bench/fuzz_lines.py [--program P] [--runs N] [--lines N] [--journals N] [--minutes M] [--seed S]
+    bench/trials/fuzz_lines.py [--program P] [--runs N] [--lines N] [--journals N] [--minutes M] [--seed S]
 
 Lines are built from those of the examples: members left out, doubled, renamed or of another type, values nested deeper,
 bytes broken, lines too long, random bytes. Each run of N lines must end with status 0 and have one line of JSON for each
@@ -20,9 +20,9 @@ import tempfile
 import time
 
 sys.dont_write_bytecode = True
-sys.path.insert(0, os.path.dirname(os.path.abspath(__file__)))
-from client import ROOT, find_program, get_line, run_lines  # noqa: E402
-from journal_reader import get_files, put_files, random_pair, read_pair  # noqa: E402
+sys.path.insert(0, os.path.dirname(os.path.dirname(os.path.abspath(__file__))))
+from client import ROOT, find_program, get_line, memory_folder, run_lines  # noqa: E402
+from readers.journal_reader import get_files, put_files, random_pair, read_pair  # noqa: E402
 
 LONGEST = 4194304
 CAUSES = {1: ("BadLine", {"member"}), 2: ("BadName", {"fault", "name"}), 3: ("Unsupported", {"member"}), 4: ("TooDeep", set()), 11: ("LineTooLong", set())}
@@ -289,7 +289,7 @@ def main():
     words = parser.parse_args()
     program, chance, trees, counts = find_program(words.program), random.Random(words.seed), sample_lines(), {}
     ends, number, wrong = time.monotonic() + 60 * words.minutes, 0, None
-    with tempfile.TemporaryDirectory(prefix="fuzz-lines-", dir="/dev/shm" if os.path.isdir("/dev/shm") else None) as folder:
+    with tempfile.TemporaryDirectory(prefix="fuzz-lines-", dir=memory_folder()) as folder:
         while not wrong and (time.monotonic() < ends if words.minutes else number < words.runs):
             number += 1
             wrong = one_round(program, folder, chance, trees, words, counts)

@@ -1,9 +1,10 @@
 """What the trials of crashes share: numbered batches, and what must be found of them. Batch b writes the number b into one of 40 documents."""
 import json
+import os
 import subprocess
 
 from client import get_line, run_lines, write_line
-from journal_reader import get_files, read_enqueue, read_pair
+from readers.journal_reader import get_files, read_enqueue, read_pair
 
 DOCUMENTS = 40
 
@@ -46,5 +47,6 @@ def check_reopened(program, store, batches):
 
 
 def build_library(source, path, compiler):
-    """Builds a library that stands in front of the system's when a program is loaded."""
-    subprocess.run([compiler, "-shared", "-fPIC", "-O1", "-x", "c", "-", "-o", path], input=source.encode(), check=True)
+    """Builds a library, from a source beside this file, that stands in front of the system's when a program is loaded."""
+    source = os.path.join(os.path.dirname(os.path.abspath(__file__)), source)
+    subprocess.run([compiler, "-shared", "-fPIC", "-O1", source, "-o", path], check=True)

@@ -18,8 +18,8 @@ import sys
 import tempfile
 
 sys.dont_write_bytecode = True
-sys.path.insert(0, os.path.dirname(os.path.abspath(__file__)))
-from client import NAME_FRONT, find_program, get_line, run_lines  # noqa: E402
+sys.path.insert(0, os.path.dirname(os.path.dirname(os.path.abspath(__file__))))
+from client import NAME_FRONT, find_program, get_line, memory_folder, run_lines  # noqa: E402
 
 MAGIC = b"FSJRNL1"
 OPEN = 1
@@ -468,7 +468,7 @@ def disagreement(program, folder, contents):
 
 def compare(program, pairs, seed):
     chance, counts = random.Random(seed), {}
-    with tempfile.TemporaryDirectory(prefix="journal-reader-", dir="/dev/shm" if os.path.isdir("/dev/shm") else None) as folder:
+    with tempfile.TemporaryDirectory(prefix="journal-reader-", dir=memory_folder()) as folder:
         for number in range(1, pairs + 1):
             contents = random_pair(chance)
             found = read_pair(contents)
