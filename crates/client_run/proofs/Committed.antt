@@ -7,7 +7,7 @@ use Rattle.disk_journal.specs.File.{Gives}
 use Rattle.disk_journal.specs.Place.{Place}
 use Rattle.disk_journal.specs.Steps.{Appends, GivesBeforeOrAfter}
 use Rattle.disk_journal.proofs.Held.{open_gives, open_crash}
-use Rattle.mutations.specs.declared.Batch.{Batch}
+use Rattle.mutations.specs.declared.plain.PlainBatch.{PlainBatch as Batch}
 use Rattle.record_codec.specs.declared.commit.Commit.{Commit}
 use Rattle.record_codec.specs.declared.commit.Commit.TheVariants.{Enqueue}
 use Rattle.record_codec.specs.Spelling.{spelling, HasSpelling}

@@ -12,7 +12,7 @@ use Rattle.json_model.specs.declared.fault.JsonFault.{JsonFault}
 use Rattle.json_model.specs.Faults.{FirstOf, SpellsName}
 use Rattle.json_model.specs.Members.{given}
 use Rattle.json_model.specs.Ranks.{first_of_least}
-use Rattle.mutations.specs.declared.Write.{Write}
+use Rattle.mutations.specs.declared.plain.PlainUpdate.{PlainUpdate as Write}
 use Rattle.host_api.specs.Items.{Item}
 use Rattle.client_run.specs.Faults.{InObject, Required, Optional, AroundOne, AroundTwo, UpdateFaults, AlternativeFaults, WriteFaults, ItemsFaults, WritesFaults, WriteLineFaults, GetLineFaults, NamedFaults, OnlyFaults, LineFaults, strays}
 use Rattle.client_run.specs.Grammar.{SpellsGiven, SpellsGivenName, SpellsUpdate, SpellsWrite, SpellsTime, SpellsWrites, SpellsWriteLine, SpellsGetLine, SpellsNamed, SpellsOnly, Spells, givens}

@@ -1,6 +1,6 @@
 -- What an opening finds.
 use Rattle.std.specs.declared.alloc.Global.{Global}
-use Rattle.mutations.specs.declared.Batch.{Batch}
+use Rattle.mutations.specs.declared.plain.PlainBatch.{PlainBatch as Batch}
 use Rattle.std.proofs.Common.{◌+◌, length, ◌≡◌, Bool, ℕ, List, map, Vec, IsTrue, refl, sym, subst}
 use Rattle.host_api.specs.declared.host.FileId.{FileId}
 use Rattle.host_api.specs.declared.host.FileId.TheVariants.{Zero, One}

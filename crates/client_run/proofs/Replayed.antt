@@ -3,7 +3,7 @@ use Rattle.std.proofs.Common.{◌≡◌, ℕ, ◌+◌, ◌<◌, suc, List, [], �
 use Rattle.std.specs.declared.alloc.Global.{Global}
 use Rattle.std.proofs.Math.Seq.{split_at}
 use Rattle.std.proofs.lemmas.List.{map-append, take_more}
-use Rattle.mutations.specs.declared.Batch.{Batch}
+use Rattle.mutations.specs.declared.plain.PlainBatch.{PlainBatch as Batch}
 use Rattle.record_codec.specs.declared.commit.Commit.TheVariants.{Enqueue}
 use Rattle.record_codec.specs.declared.commit.Commit.{Commit}
 use Rattle.record_codec.specs.Spelling.{spelling, HasSpelling}

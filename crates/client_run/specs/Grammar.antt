@@ -10,7 +10,7 @@ use Rattle.json_model.specs.declared.side.Side.TheVariants.{Caller}
 use Rattle.json_model.specs.Faults.{SpellsName}
 use Rattle.json_model.specs.Grammar.{SpellsFields}
 use Rattle.json_model.specs.Members.{is_null, given}
-use Rattle.mutations.specs.declared.Write.{Write}
+use Rattle.mutations.specs.declared.plain.PlainUpdate.{PlainUpdate as Write}
 use Rattle.client_run.specs.Shapes.{line_name}
 use Rattle.client_run.specs.declared.shape.LineName.{LineName}
 use Rattle.client_run.specs.declared.shape.LineName.TheVariants as line

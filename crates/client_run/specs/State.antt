@@ -4,7 +4,7 @@ use Rattle.std.specs.Cmp.Lexicographic.{pointwise}
 use Rattle.host_api.specs.Host.{Files}
 use Rattle.disk_journal.specs.File.{Gives}
 use Rattle.value_model.specs.Data.{Entries}
-use Rattle.mutations.specs.declared.Batch.{Batch}
+use Rattle.mutations.specs.declared.plain.PlainBatch.{PlainBatch as Batch}
 use Rattle.record_codec.specs.declared.commit.Commit.{Commit}
 use Rattle.record_codec.specs.declared.commit.Commit.TheVariants.{Enqueue}
 use Rattle.record_codec.specs.Spelling.{spelling, HasSpelling}

@@ -1,5 +1,5 @@
 use document_keys::DocumentKey;
-use mutations::Write;
+use mutations::PlainUpdate as Write;
 use value_model::Timestamp;
 
 /// What a line asks of the client.

@@ -17,7 +17,7 @@ use crate::reading::Reading;
 use crate::status::Status;
 use document_keys::Database;
 use host_api::Host;
-use mutations::{Batch, Write};
+use mutations::{PlainBatch as Batch, PlainUpdate as Write};
 use record_codec::Commit;
 use std::alloc::Global;
 use value_model::Timestamp;

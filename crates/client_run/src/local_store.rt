@@ -1,7 +1,7 @@
 ghost use Rattle.std.specs.Prelude.{◌≡◌, ℕ, ◌+◌, ◌^◌, ◌≤◌};
 
 use disk_journal::Journal;
-use mutations::Batch;
+use mutations::PlainBatch as Batch;
 
 /// The durable state, over the journal that keeps it: the number of commits, the id of the next batch, from 1, and the
 /// pending batches in order.

@@ -10,7 +10,7 @@ use crate::local_store::LocalStore;
 use disk_journal::{Journal, OpenFault};
 use document_keys::NoMemory;
 use host_api::Host;
-use mutations::Batch;
+use mutations::PlainBatch as Batch;
 use record_codec::{Commit, decode};
 use std::alloc::Global;
 

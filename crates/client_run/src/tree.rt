@@ -23,7 +23,7 @@ use crate::shape::{LineName, Shape, line_name};
 use crate::strays::{around_one, around_two};
 use document_keys::{Database, DocumentKey, NoMemory, Text};
 use json_model::{JsonFault, Side, given, read_fields, read_name};
-use mutations::Write;
+use mutations::PlainUpdate as Write;
 use serde_json::{Map, Value as Json};
 use std::alloc::Global;
 use value_model::{Fields, Timestamp};

@@ -1,40 +1,21 @@
-//! Writes and batches of writes.
+//! Writes as a caller gives them, and batches of writes.
+//!
+//! A `Write` updates or deletes one document. An update may have a mask, the paths that it speaks of, and transforms, which
+//! change a field by what stands there. Both have a precondition. `Mask`, `Transforms`, `Values` and `Writes` are lists that
+//! contracts see as such. A `Batch` is what was taken at once. `PlainUpdate` and `PlainBatch` are what the journal and the
+//! client know of these today: one update of all fields.
 #![tactic(auto)]
 
+mod batch;
+mod lists;
+mod plain;
 #[cfg(test)]
 mod tests;
+mod transform;
+mod write;
 
-ghost use Rattle.std.specs.Prelude.{◌≡◌, IfOk};
-
-use document_keys::{DocumentKey, NoMemory};
-use std::alloc::Global;
-use value_model::{Fields, Timestamp};
-
-/// A write of one document: an update without a mask, which replaces all of its fields.
-#[derive(Debug, Drop)]
-pub struct Write {
-    pub key: DocumentKey,
-    pub fields: Fields,
-}
-
-/// A write that was taken at once, under its number and with its local write time.
-#[derive(Debug, Drop)]
-pub struct Batch {
-    pub id: u64,
-    pub at: Timestamp,
-    pub write: Write,
-}
-
-impl Write {
-    /// A copy.
-    ///
-    /// # Errors
-    /// `NoMemory`
-    pub fn copy(&self, alloc: Global) -> Result<Write, NoMemory>
-        ensures { IfOk result (λ write. write ≡ self.now) }
-    {
-        let key = self.key.copy(alloc)?;
-        let fields = self.fields.copy(alloc)?;
-        Ok(Write { key, fields })
-    }
-}
+pub use batch::{Batch, Writes};
+pub use lists::{Mask, Values};
+pub use plain::{PlainBatch, PlainUpdate};
+pub use transform::{Change, Transform, Transforms};
+pub use write::{Precondition, Write};

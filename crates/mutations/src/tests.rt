@@ -1,4 +1,4 @@
-use crate::Write;
+use crate::PlainUpdate;
 use document_keys::{Database, DocumentKey, Text};
 use std::test::Fail;
 use value_model::{Field, Fields, Kind, Value};
@@ -19,7 +19,7 @@ fn copies(rt: HostRuntime) -> Result<(), Fail> {
     let Some(fields) = Fields::from_entries(entries) else {
         return Err("the fields ascend".into());
     };
-    let copy = Write { key, fields }.copy(rt.alloc())?;
+    let copy = PlainUpdate { key, fields }.copy(rt.alloc())?;
     assert_eq!(rt; copy.key.len(), 2);
     assert_eq!(rt; copy.fields.len(), 1);
     assert_eq!(rt; copy.fields.name_at(0), Some("n"));

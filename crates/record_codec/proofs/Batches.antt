@@ -4,8 +4,8 @@ use Rattle.std.proofs.lemmas.List.{append-nil, append_cancel_left}
 use Rattle.value_model.specs.Time.{IsMoment}
 use Rattle.value_model.specs.declared.timestamp.Timestamp.{Timestamp}
 use Rattle.value_model.specs.Data.{Entries}
-use Rattle.mutations.specs.declared.Write.{Write}
-use Rattle.mutations.specs.declared.Batch.{Batch}
+use Rattle.mutations.specs.declared.plain.PlainUpdate.{PlainUpdate as Write}
+use Rattle.mutations.specs.declared.plain.PlainBatch.{PlainBatch as Batch}
 use Rattle.record_codec.specs.declared.commit.Commit.{Commit}
 use Rattle.record_codec.specs.declared.commit.Commit.TheVariants.{Enqueue}
 use Rattle.record_codec.specs.Spelling.{number, key, time, fields, write, batch, spelling, IsSpelledKey, AreSpelledFields, IsSpelledWrite, IsSpelledBatch, HasSpelling}

@@ -6,8 +6,8 @@ use Rattle.std.proofs.lemmas.Int.{ints}
 use Rattle.std.proofs.lemmas.List.Elements.{recursion_from_All}
 use Rattle.value_model.specs.Time.{IsMoment}
 use Rattle.value_model.specs.declared.timestamp.Timestamp.{Timestamp}
-use Rattle.mutations.specs.declared.Write.{Write}
-use Rattle.mutations.specs.declared.Batch.{Batch}
+use Rattle.mutations.specs.declared.plain.PlainUpdate.{PlainUpdate as Write}
+use Rattle.mutations.specs.declared.plain.PlainBatch.{PlainBatch as Batch}
 use Rattle.record_codec.specs.Spelling.{number, text, key, time, fields, write, batch, IsNameText, IsSegmentText, IsSpelledKey}
 use Rattle.record_codec.proofs.Wide.{IsUnique, fronts, unique_wide, wide32, unique_number, unique_signed}
 

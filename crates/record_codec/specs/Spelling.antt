@@ -11,8 +11,8 @@ use Rattle.value_model.specs.Data.{Data, Items, Members, Entries, list_of, entri
 use Rattle.value_model.specs.Storable.{IsStorable, AreStorable}
 use Rattle.value_model.specs.declared.timestamp.Timestamp.{Timestamp}
 use Rattle.value_model.specs.declared.reference.RefName.{RefName}
-use Rattle.mutations.specs.declared.Write.{Write}
-use Rattle.mutations.specs.declared.Batch.{Batch}
+use Rattle.mutations.specs.declared.plain.PlainUpdate.{PlainUpdate as Write}
+use Rattle.mutations.specs.declared.plain.PlainBatch.{PlainBatch as Batch}
 use Rattle.record_codec.specs.declared.commit.Commit.{Commit}
 use Rattle.record_codec.specs.declared.commit.Commit.TheVariants.{Enqueue}
 

@@ -6,7 +6,7 @@ use crate::commits::commit_of;
 use crate::fault::ReadError;
 use crate::writing::put_commit;
 use document_keys::NoMemory;
-use mutations::Batch;
+use mutations::PlainBatch as Batch;
 use std::alloc::Global;
 
 /// One step of the durable state.

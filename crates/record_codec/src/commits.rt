@@ -8,7 +8,7 @@ use crate::fields::fields_of;
 use crate::names::key_of;
 use crate::numbers::{after, u64_of};
 use crate::times::time_of;
-use mutations::{Batch, Write};
+use mutations::{PlainBatch as Batch, PlainUpdate as Write};
 use std::alloc::Global;
 
 /// The byte that begins a commit, and names the format.

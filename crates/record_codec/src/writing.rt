@@ -7,7 +7,7 @@ use crate::commits::{ENQUEUE, FORMAT, PLAIN, UPDATE};
 use crate::fields::{ARRAY, MAP};
 use crate::scalars::{BOOLEAN, BYTES, INTEGER, NULL, PENDING, REFERENCE, TEXT, TIME};
 use document_keys::{DocumentKey, NoMemory};
-use mutations::{Batch, Write};
+use mutations::{PlainBatch as Batch, PlainUpdate as Write};
 use value_model::{Fields, Kind, RefName, Timestamp, Value};
 
 fn put_number(out: &mut Vec<u8>, n: u64) -> Result<(), NoMemory>
