@@ -22,6 +22,3 @@ pub use key_set::KeySet;
 pub use laws::{field_paths_read_back, key_faults_exclude, names_one_path, paths_are_ordered};
 pub use segment::Segment;
 pub use text::Text;
-
-#[cfg(test)]
-mod tests;

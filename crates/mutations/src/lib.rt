@@ -9,8 +9,6 @@
 mod batch;
 mod lists;
 mod plain;
-#[cfg(test)]
-mod tests;
 mod transform;
 mod write;
 

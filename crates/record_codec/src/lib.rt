@@ -14,6 +14,3 @@ mod writing;
 
 pub use commit::{Commit, decode, encode};
 pub use laws::{no_front, one_commit};
-
-#[cfg(test)]
-mod tests;

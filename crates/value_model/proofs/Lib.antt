@@ -1,4 +1,3 @@
-pub mod Alone
 pub mod ByRank
 pub mod Checked
 pub mod Counted

@@ -2,8 +2,6 @@
 #![tactic(auto)]
 
 mod bytes;
-#[cfg(test)]
-mod copy_tests;
 mod document;
 mod documents;
 mod entries;
@@ -15,11 +13,7 @@ mod nesting;
 mod order;
 mod printing;
 mod reference;
-#[cfg(test)]
-mod store_tests;
 mod target_ids;
-#[cfg(test)]
-mod tests;
 mod timestamp;
 mod value;
 

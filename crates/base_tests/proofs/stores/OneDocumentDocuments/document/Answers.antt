@@ -1,8 +1,8 @@
 use Rattle.std.proofs.Common.{◌∙◌, None, ap, sym}
 use Rattle.std.specs.Ordering.{is_eq}
 use Rattle.value_model.specs.declared.document.DocState.TheVariants.{Synced}
-use Rattle.value_model.proofs.Alone.{there, not_there}
-use Rattle.value_model.proofs.store_tests.OneDocumentDocuments.document.Goals as goal
+use Rattle.base_tests.proofs.Alone.{there, not_there}
+use Rattle.base_tests.proofs.stores.OneDocumentDocuments.document.Goals as goal
 
 pub returns-then-is_eq-clause-document : goal.returns-then-is_eq-clause-document
 returns-then-is_eq-clause-document c =

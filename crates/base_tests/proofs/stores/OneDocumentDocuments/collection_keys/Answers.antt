@@ -1,8 +1,8 @@
 use Rattle.std.proofs.Common.{None}
 use Rattle.value_model.specs.declared.document.DocState.TheVariants.{Synced}
 use Rattle.value_model.specs.Documents.{Stored}
-use Rattle.value_model.proofs.Alone.{lists_it, lists_none}
-use Rattle.value_model.proofs.store_tests.OneDocumentDocuments.collection_keys.Goals as goal
+use Rattle.base_tests.proofs.Alone.{lists_it, lists_none}
+use Rattle.base_tests.proofs.stores.OneDocumentDocuments.collection_keys.Goals as goal
 
 pub returns-then-not-is_in : goal.returns-then-not-is_in
 returns-then-not-is_in c =

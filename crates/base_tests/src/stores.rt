@@ -1,9 +1,11 @@
 //! A store of one document, asked as any store is.
 
-use crate::{DocRef, DocState, Documents, Fields, Kind, Timestamp, Value};
-use document_keys::{CollectionPath, DocumentKey, NoMemory, Segment, Text, check_field_name};
+use crate::fixtures::{key, put, time};
+use document_keys::{CollectionPath, DocumentKey, NoMemory};
 use std::alloc::Global;
+use std::process::Abort;
 use std::test::Fail;
+use value_model::{DocRef, DocState, Documents, Fields, Kind, Value};
 
 #[derive(Drop)]
 struct OneDocument {
@@ -67,39 +69,43 @@ fn key_count<D: Documents>(
     Ok(keys.len())
 }
 
-fn key(rt: &HostRuntime, collection: &str) -> Result<DocumentKey, Fail> {
-    let mut segments = Vec::new(rt.alloc());
-    segments.push(Segment::read(rt.alloc(), collection)?)?;
-    segments.push(Segment::read(rt.alloc(), "a")?)?;
-    Ok(DocumentKey::from_segments(segments).ok_or("two segments")?)
+fn check_count(
+    rt: &(impl Abort + AllocGlobal),
+    store: &OneDocument,
+    key: &DocumentKey,
+    count: usize,
+) -> Result<(), Fail> {
+    let parent = key.parent(rt.alloc())?;
+    assert!(rt; key_count(rt.alloc(), store, &parent)? == count);
+    Ok(())
+}
+
+fn check_store(rt: &(impl Abort + AllocGlobal), store: &OneDocument) -> Result<(), Fail> {
+    let other = key(rt.alloc(), &["users", "a"])?;
+    assert!(rt; field_count(store, &store.key) == Some(1));
+    assert!(rt; field_count(store, &other).is_none());
+    assert!(rt; !store.touched(&other));
+    check_count(rt, store, &other, 0)?;
+    check_count(rt, store, &store.key, 1)
+}
+
+fn sent(alloc: Global) -> Result<Fields, Fail> {
+    let mut fields = Fields::new(alloc);
+    let value = Value {
+        kind: Kind::Pending(time(0)),
+    };
+    put(alloc, &mut fields, "sent", value)?;
+    Ok(fields)
+}
+
+fn store(alloc: Global) -> Result<OneDocument, Fail> {
+    let fields = sent(alloc)?;
+    let key = key(alloc, &["rooms", "a"])?;
+    Ok(OneDocument { key, fields })
 }
 
 #[test]
 fn one_document(rt: HostRuntime) -> Result<(), Fail> {
-    let mut fields = Fields::new(rt.alloc());
-    let value = Value {
-        kind: Kind::Pending(Timestamp {
-            seconds: 0,
-            nanos: 0,
-        }),
-    };
-    check_field_name("sent")?;
-    fields.put(rt.alloc(), Text::from_str(rt.alloc(), "sent")?, value)?;
-    let store = OneDocument {
-        key: key(&rt, "rooms")?,
-        fields,
-    };
-    let other = key(&rt, "users")?;
-    assert_eq!(rt; field_count(&store, &store.key), Some(1));
-    assert_eq!(rt; field_count(&store, &other), None);
-    assert!(rt; !store.touched(&other));
-    assert_eq!(rt;
-        key_count(rt.alloc(), &store, &other.parent(rt.alloc())?)?,
-        0
-    );
-    assert_eq!(rt;
-        key_count(rt.alloc(), &store, &store.key.parent(rt.alloc())?)?,
-        1
-    );
-    Ok(())
+    let store = store(rt.alloc())?;
+    check_store(&rt, &store)
 }
