@@ -16,6 +16,3 @@ pub use fault::OpenFault;
 pub use frame::Frame;
 pub use journal::Journal;
 pub use laws::{a_file_is_read_once, two_files_give_once};
-
-#[cfg(test)]
-mod tests;

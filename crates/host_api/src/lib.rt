@@ -10,8 +10,6 @@ mod memory_source;
 mod replay;
 mod source;
 mod stream_source;
-#[cfg(test)]
-mod tests;
 
 pub use file_host::FileHost;
 pub use host::{Failed, FileId, Host, NoMemory};
