@@ -26,4 +26,6 @@ mod stores;
 #[cfg(test)]
 mod times;
 #[cfg(test)]
+mod trees;
+#[cfg(test)]
 mod writes;

@@ -14,8 +14,6 @@ mod place;
 mod printing;
 mod reading;
 mod side;
-#[cfg(test)]
-mod tests;
 mod texts;
 mod walk;
 
