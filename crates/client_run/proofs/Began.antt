@@ -10,12 +10,13 @@ use Rattle.document_keys.specs.Names.{Root}
 use Rattle.client_run.specs.Crash.{Keeps, Survives, FindsHandled, LeavesAtEnd, Crashes}
 use Rattle.client_run.specs.State.{State, start, Replays, FindsState}
 use Rattle.client_run.specs.Store.{IsNoStore, IsStored, state_of}
-use Rattle.client_run.specs.Run.{Ends, Prints, Ran, Faults, NoFaults}
+use Rattle.client_run.specs.Run.{Ends, Prints, Ran, Causes, NoFaults}
 use Rattle.client_run.specs.declared.local_store.LocalStore.{LocalStore}
 use Rattle.client_run.specs.declared.reading.Reading.{Reading}
 use Rattle.client_run.specs.declared.status.Status.{Status}
 use Rattle.client_run.specs.declared.status.Status.TheVariants.{Done, Usage, SourceFault, DiskFault, SinkFault, NoMemory, NotAStore, Budget}
 use Rattle.client_run.proofs.Replayed.{replays_once}
+use Rattle.client_run.proofs.Served.{rises_as}
 use Rattle.client_run.proofs.Surviving.{fine_none, survives_at}
 
 -- ---- what an opening leaves
@@ -36,8 +37,8 @@ same_finds {old} {c} {s} finds same = ⊎_elim
         }
 
 -- the files find the state from the opening on
-settled_crashes : {H : Type 0} (view : H → View) (how : Status) (root : Root) (items : List Item) (s : State) {old new : View} → FindsState old.bytes s → ((c : Files) → FindsState c s → LeavesAtEnd how root items s [] c) → Settled view old new → Crashes view how root items s [] old new
-settled_crashes view how root items s {old} {new} finds leaves settled = inl (record {
+settled_crashes : {H : Type 0} (view : H → View) (how : Status) (root : Root) (items : List Item) (s : State) (left : List ℕ) {old new : View} → FindsState old.bytes s → ((c : Files) → FindsState c s → LeavesAtEnd how root items s [] c) → Settled view old new → Crashes view how root items s [] left old new
+settled_crashes view how root items s left {old} {new} finds leaves settled = inl (record {
   host = settled.host;
   out = settled.out;
   before = settled.stays;
@@ -56,7 +57,7 @@ disk_first view root left s payloads tells_out tells_files budget old new some s
   taken = inr (refl, refl);
   output = λ told. same ∙ sym (append-nil old.out);
   kept = λ told which. ⊎_elim (λ is. cc) (λ is. cc) which;
-  crash = λ out files. ⊎_elim (λ stays. inr (record { stopped = inl refl; none = refl; before = stays })) (settled_crashes view DiskFault root (split left) s finds (λ c h. inl h)) how;
+  crash = λ out files. ⊎_elim (λ stays. inr (record { stopped = inl refl; none = refl; untaken = refl; before = stays })) (settled_crashes view DiskFault root (split left) s left finds (λ c h. inl h)) how;
 }
 
 -- there was no memory before the first line
@@ -68,7 +69,7 @@ memory_first view root left s payloads tells_out tells_files budget old new some
   taken = inl (record { rest = left; others = refl; suffix = ([], refl) });
   output = λ told. same ∙ sym (append-nil old.out);
   kept = λ told which. ⊎_elim (λ is. cc) (λ is. cc) which;
-  crash = λ out files. ⊎_elim (λ stays. inr (record { stopped = inr refl; none = refl; before = stays })) (settled_crashes view NoMemory root (split left) s finds (λ c h. inl h)) how;
+  crash = λ out files. ⊎_elim (λ stays. inr (record { stopped = inr refl; none = refl; untaken = refl; before = stays })) (settled_crashes view NoMemory root (split left) s left finds (λ c h. inl h)) how;
 }
 
 -- ---- an opening, and then a run
@@ -81,8 +82,8 @@ none_leaves how root items s readings c stopped none finds =
     (λ is. subst (λ (h : Status). LeavesAtEnd h root items s readings c) (sym is) (inl handled))
     stopped
 
-crashes_from : {H : Type 0} (view : H → View) (how : Status) (root : Root) (items : List Item) (s : State) (readings : List Reading) {old mid new : View} → FindsState old.bytes s → mid.out ≡ old.out → Settled view old mid → Crashes view how root items s readings mid new → Crashes view how root items s readings old new
-crashes_from view how root items s readings {old} {mid} {new} finds same settled crashes = inl (record {
+crashes_from : {H : Type 0} (view : H → View) (how : Status) (root : Root) (items : List Item) (s : State) (readings : List Reading) (left : List ℕ) {old mid new : View} → FindsState old.bytes s → mid.out ≡ old.out → Settled view old mid → Crashes view how root items s readings left mid new → Crashes view how root items s readings left old new
+crashes_from view how root items s readings left {old} {mid} {new} finds same settled crashes = inl (record {
   host = settled.host;
   out = settled.out;
   before = settled.stays;
@@ -110,7 +111,7 @@ crashes_from view how root items s readings {old} {mid} {new} finds same settled
         (λ unsynced. spans_weaker (Survives root items s old.out) unsynced.before.time still)
         crashes
 
-    at_end : Crashes view how root items s readings mid new → (c : Files) → new.may_leave c → LeavesAtEnd how root items s readings c
+    at_end : Crashes view how root items s readings left mid new → (c : Files) → new.may_leave c → LeavesAtEnd how root items s readings c
     at_end (inl synced) c now = synced.at_end c now
     at_end (inr unsynced) c now = none_leaves how root items s readings c unsynced.stopped unsynced.none (same_finds finds (settled.crash c (unsynced.before.crash c now)))
 
@@ -123,7 +124,7 @@ ran_from view root items s payloads tells_out tells_files budget how left old mi
   taken = it.taken;
   output = λ told. subst (λ (o : List ℕ). Prints how root items s it.readings o new.out) same (it.output told);
   kept = it.kept;
-  crash = λ out files. crashes_from view how root items s it.readings finds same settled (it.crash out files);
+  crash = λ out files. crashes_from view how root items s it.readings left finds same settled (it.crash out files);
 }
 
 -- what an opening hands out is what the files give
@@ -158,13 +159,20 @@ opens_keeps {old} {new} opens reads keeps = record {
 pub kept_is_store : {v : View} → Keeps v → IsNoStore v.bytes → ⊥
 kept_is_store {v} keeps none = let h = keeps.finds v.bytes keeps.reads in none h.0 h.1
 
+pub causes_from : {how : Status} {before after_it : ℕ} {old mid new : View} → mid.disk_faults ≡ old.disk_faults → mid.sink_faults ≡ old.sink_faults → Causes how before after_it mid new → Causes how before after_it old new
+causes_from disk sink causes = record {
+  source = causes.source;
+  disk = rises_as disk (λ is. is) (λ is. is) causes.disk;
+  sink = rises_as sink (λ is. is) (λ is. is) causes.sink;
+}
+
 -- a run in which no count rose came to its end
-pub completed : (how : Status) (handled all budget : ℕ) (before after_it : ℕ) (old mid new : View) → old.disk_faults ≤ mid.disk_faults → mid.sink_faults ≡ old.sink_faults → Ends how handled all budget → Faults how before after_it mid new → all < budget → NoFaults before after_it old new → (how ≡ Done) ⊎ (how ≡ NoMemory)
-completed Done handled all budget before after_it old mid new disk sink ends faults few none = inl refl
-completed NoMemory handled all budget before after_it old mid new disk sink ends faults few none = inr refl
-completed Usage handled all budget before after_it old mid new disk sink ends faults few none = absurd ends
-completed NotAStore handled all budget before after_it old mid new disk sink ends faults few none = absurd ends
-completed Budget handled all budget before after_it old mid new disk sink ends faults few none = absurd (omega (arith, ends.0, ends.1, few))
-completed SourceFault handled all budget before after_it old mid new disk sink ends faults few none = absurd (none.source faults)
-completed DiskFault handled all budget before after_it old mid new disk sink ends faults few none = absurd (none.disk (omega (arith, disk, faults)))
-completed SinkFault handled all budget before after_it old mid new disk sink ends faults few none = absurd (none.sink (omega (arith, sink, faults)))
+pub completed : (how : Status) (handled all budget : ℕ) {before after_it : ℕ} {old new : View} → Ends how handled all budget → Causes how before after_it old new → all < budget → NoFaults before after_it old new → (how ≡ Done) ⊎ (how ≡ NoMemory)
+completed Done handled all budget ends causes few none = inl refl
+completed NoMemory handled all budget ends causes few none = inr refl
+completed Usage handled all budget ends causes few none = absurd ends
+completed NotAStore handled all budget ends causes few none = absurd ends
+completed Budget handled all budget ends causes few none = absurd (omega (arith, ends.0, ends.1, few))
+completed SourceFault handled all budget ends causes few none = absurd (none.source (causes.source.failed refl))
+completed DiskFault handled all budget ends causes few none = absurd (none.disk (causes.disk.failed refl))
+completed SinkFault handled all budget ends causes few none = absurd (none.sink (causes.sink.failed refl))

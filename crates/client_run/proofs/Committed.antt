@@ -25,9 +25,9 @@ pub stored_reads : {store : LocalStore} {ps : List (List ℕ)} {v : View} → Is
 stored_reads {store} {ps} {v} is = subst (λ (g : ℕ). Gives v.bytes g ps) is.generation (open_gives is.open_with)
 
 -- no memory: nothing was written
-pub nothing_done : {store : LocalStore} {ps : List (List ℕ)} {v : View} (p : List ℕ) (f : StoreFault) → IsStored store ps v → Commits ps p (Err f) v v
-nothing_done {store} {ps} {v} p f is = record {
-  done = tt;
+pub nothing_done : {store : LocalStore} {ps : List (List ℕ)} {v : View} (p : List ℕ) (result : Result LocalStore StoreFault) → IsStored store ps v → IfOk result (λ next. IsStored next (ps ++ p ∷ []) v) → Commits ps p result v v
+nothing_done {store} {ps} {v} p result is done = record {
+  done = done;
   bytes = inl (stored_reads is);
   crash = λ c left. inl (stored_gives c is left);
   time = spans_none v (λ o c. (o ≡ v.out) × GivesBeforeOrAfter 1 ps p c);

@@ -7,11 +7,11 @@ use Rattle.record_codec.specs.declared.commit.Commit.{Commit}
 use Rattle.record_codec.specs.Spelling.{spelling}
 use Rattle.disk_journal.proofs.Held.{open_emits}
 use Rattle.client_run.specs.Store.{IsStored, Commits}
-use Rattle.client_run.specs.Turn.{Turn}
+use Rattle.client_run.specs.Turn.{Turn, added}
 use Rattle.client_run.specs.Turned.{Turned, InTurn}
 use Rattle.client_run.specs.declared.local_store.LocalStore.{LocalStore}
 use Rattle.client_run.specs.declared.committing.StoreFault.{StoreFault}
-use Rattle.client_run.specs.declared.status.Status.{Status}
+use Rattle.client_run.specs.declared.turn_fault.TurnFault.{TurnFault}
 use Rattle.client_run.proofs.Committed.{stored_gives}
 
 -- an output leaves the store where it is
@@ -23,7 +23,7 @@ emits_stored {store} {ps} {old} {new} piece is emits = record {
 }
 
 -- a line without a commit: its answer went out, or a part of it
-pub answered : {store : LocalStore} {ps : List (List ℕ)} {old new : View} (piece : List ℕ) (result : Result LocalStore Status) → IsStored store ps old → Emits piece old new → IfOk result (λ next. IsStored next ps new) → Turned ps (record { commit = None; output = piece }) result old new
+pub answered : {store : LocalStore} {ps : List (List ℕ)} {old new : View} (piece : List ℕ) (result : Result LocalStore TurnFault) → IsStored store ps old → Emits piece old new → IfOk result (λ next. IsStored next ps new) → Turned ps (record { commit = None; output = piece }) result old new
 answered {store} {ps} {old} {new} piece result is emits done = record {
   done = done;
   crash = λ c left. inl (stored_gives c is (emits.crash c left));
@@ -31,9 +31,9 @@ answered {store} {ps} {old} {new} piece result is emits done = record {
 }
 
 -- nothing was done for want of memory
-pub turned_nothing : {store : LocalStore} {ps : List (List ℕ)} {v : View} (turn : Turn) (status : Status) → IsStored store ps v → Turned ps turn (Err status) v v
-turned_nothing {store} {ps} {v} turn status is = record {
-  done = tt;
+pub turned_nothing : {store : LocalStore} {ps : List (List ℕ)} {v : View} (turn : Turn) (result : Result LocalStore TurnFault) → IsStored store ps v → IfOk result (λ next. IsStored next (added ps turn.commit) v) → Turned ps turn result v v
+turned_nothing {store} {ps} {v} turn result is done = record {
+  done = done;
   crash = λ c left. inl (stored_gives c is left);
   time = spans_none v (InTurn ps turn v.out);
 }
@@ -43,15 +43,15 @@ in_commit : (ps : List (List ℕ)) (commit : Commit) (piece out o : List ℕ) (c
 in_commit ps commit piece out o c h = ⊎_elim (λ before. inl (h.0, before)) (λ after. inr ((0, h.0 ∙ sym (append-nil out)), after)) h.1
 
 -- the disk failed in a commit, or there was no memory for it
-pub commit_failed : {ps : List (List ℕ)} {commit : Commit} {fault : StoreFault} {old new : View} (piece : List ℕ) (status : Status) → Commits ps (spelling commit) (Err fault) old new → Turned ps (record { commit = Some commit; output = piece }) (Err status) old new
-commit_failed {ps} {commit} {fault} {old} {new} piece status it = record {
-  done = tt;
+pub commit_failed : {ps : List (List ℕ)} {commit : Commit} {committed : Result LocalStore StoreFault} {old new : View} (piece : List ℕ) (result : Result LocalStore TurnFault) → Commits ps (spelling commit) committed old new → IfOk result (λ next. IsStored next (ps ++ spelling commit ∷ []) new) → Turned ps (record { commit = Some commit; output = piece }) result old new
+commit_failed {ps} {commit} {committed} {old} {new} piece result it done = record {
+  done = done;
   crash = it.crash;
   time = spans_weaker (InTurn ps (record { commit = Some commit; output = piece }) old.out) it.time (in_commit ps commit piece old.out);
 }
 
 -- a commit, and then its answer or a part of it
-pub commit_answered : {ps : List (List ℕ)} {commit : Commit} {committed : Result LocalStore StoreFault} {next : LocalStore} {old mid new : View} (piece : List ℕ) (result : Result LocalStore Status) → mid.out ≡ old.out
+pub commit_answered : {ps : List (List ℕ)} {commit : Commit} {committed : Result LocalStore StoreFault} {next : LocalStore} {old mid new : View} (piece : List ℕ) (result : Result LocalStore TurnFault) → mid.out ≡ old.out
     → Commits ps (spelling commit) committed old mid → IsStored next (ps ++ spelling commit ∷ []) mid → Emits piece mid new → IfOk result (λ last. IsStored last (ps ++ spelling commit ∷ []) new)
     → Turned ps (record { commit = Some commit; output = piece }) result old new
 commit_answered {ps} {commit} {committed} {next} {old} {mid} {new} piece result same it is emits done = record {

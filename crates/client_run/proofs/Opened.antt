@@ -1,10 +1,10 @@
 -- What an opening finds.
 use Rattle.std.specs.declared.alloc.Global.{Global}
 use Rattle.mutations.specs.declared.plain.PlainBatch.{PlainBatch as Batch}
-use Rattle.std.proofs.Common.{◌+◌, length, ◌≡◌, Bool, ℕ, List, map, Vec, IsTrue, refl, sym, subst}
+use Rattle.std.proofs.Common.{◌+◌, length, ◌≡◌, Bool, ℕ, List, [], map, Vec, IsTrue, refl, sym, subst}
 use Rattle.host_api.specs.declared.host.FileId.{FileId}
 use Rattle.host_api.specs.declared.host.FileId.TheVariants.{Zero, One}
-use Rattle.host_api.specs.Host.{Files, View}
+use Rattle.host_api.specs.Host.{Files, View, Stays}
 use Rattle.disk_journal.specs.File.{AreBlank, Gives, GoesOn, IsForeign, IsFirstForeign}
 use Rattle.disk_journal.specs.Steps.{Opens}
 use Rattle.disk_journal.specs.Opening.{IsCause}
@@ -30,7 +30,7 @@ refused_is_none file files (IsRefused.no_commits none goes_on g ps gives stuck) 
     stuck s same.0 (subst (λ (l : List (List ℕ)). Replays start l s) (sym same.1) finds.replays)
 
 -- a foreign file is no store, and stays
-foreign_refuses : (file : FileId) (old new : View) → IsFirstForeign file old.bytes → Opens old new → IsRefused file old.bytes × (new.bytes ≡ old.bytes)
+foreign_refuses : (file : FileId) (old new : View) → IsFirstForeign file old.bytes → Opens old new → IsRefused file old.bytes × Stays old new
 foreign_refuses file old new is opens = (IsRefused.foreign is, opens.kept (not_blank_of file old.bytes (foreign_of file old.bytes is)))
 
 pub journal_refuses : (tells : Bool) (f : OpenFault) (old new : View) → IsTrue tells → IsCause tells f old new → Opens old new → Refuses f old new
@@ -38,17 +38,21 @@ journal_refuses tells fault.DiskFault old new told cause opens = tt
 journal_refuses tells (fault.NotAStore file) old new told cause opens = foreign_refuses file old new (cause told) opens
 journal_refuses tells fault.NoMemory old new told cause opens = tt
 
+-- over files that are no store an opening changes nothing
+pub no_store_stays : {old new : View} → IsNoStore old.bytes → Opens old new → Stays old new
+no_store_stays none opens = opens.kept (λ are. none start (record { payloads = []; gives = Gives.fresh are refl refl; replays = refl }))
+
 -- payloads of another generation than 1, or that lead nowhere, are no store's
 refuses_counting : (file : FileId) (old : View) (g : ℕ) (ps : List (List ℕ)) → Gives old.bytes g ps → GoesOn old.bytes file → ((s : State) → g ≡ 1 → Replays start ps s → ⊥) → IsRefused file old.bytes
 refuses_counting file old g ps gives goes_on stuck = IsRefused.no_commits (λ each. none_foreign old.bytes g ps each gives) goes_on g ps gives stuck
 
 -- another generation than 1 is no store
-pub generation_refuses : (file : FileId) (old new : View) (g : ℕ) (ps : List (List ℕ)) → Gives old.bytes g ps → GoesOn old.bytes file → (g ≡ 1 → ⊥) → (AreBlank old.bytes → g ≡ 1) → Opens old new → IsRefused file old.bytes × (new.bytes ≡ old.bytes)
+pub generation_refuses : (file : FileId) (old new : View) (g : ℕ) (ps : List (List ℕ)) → Gives old.bytes g ps → GoesOn old.bytes file → (g ≡ 1 → ⊥) → (AreBlank old.bytes → g ≡ 1) → Opens old new → IsRefused file old.bytes × Stays old new
 generation_refuses file old new g ps gives goes_on other first opens =
     (refuses_counting file old g ps gives goes_on (λ s one replays. other one), opens.kept (λ are. other (first are)))
 
 -- payloads that lead nowhere are no store
-pub payloads_refuse : (file : FileId) (old new : View) (g : ℕ) (ps : List (List ℕ)) → Gives old.bytes g ps → GoesOn old.bytes file → ((s : State) → Replays start ps s → ⊥) → Opens old new → IsRefused file old.bytes × (new.bytes ≡ old.bytes)
+pub payloads_refuse : (file : FileId) (old new : View) (g : ℕ) (ps : List (List ℕ)) → Gives old.bytes g ps → GoesOn old.bytes file → ((s : State) → Replays start ps s → ⊥) → Opens old new → IsRefused file old.bytes × Stays old new
 payloads_refuse file old new g ps gives goes_on none opens = (
   refuses_counting file old g ps gives goes_on (λ s one replays. none s replays),
   opens.kept (λ are. none start (subst (λ (l : List (List ℕ)). Replays start l start) (sym (blank_gives old.bytes g ps are gives).1) refl)),

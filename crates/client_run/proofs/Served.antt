@@ -13,13 +13,16 @@ use Rattle.client_run.specs.Crash.{Keeps, FindsHandled, FindsNext, LeavesAtEnd, 
 use Rattle.client_run.specs.State.{State, start, Replays, FindsState}
 use Rattle.client_run.specs.Store.{IsStored, state_of}
 use Rattle.client_run.specs.Turn.{Past, run, one_more, turn, now, after, output_of, payloads_after, added}
-use Rattle.client_run.specs.Turned.{Turned, IsSpelledReading, Wrote, Blames, Later}
-use Rattle.client_run.specs.Run.{Ends, Takes, Prints, Ran, Faults}
+use Rattle.client_run.specs.Turned.{Turned, IsSpelledReading, Wrote, TurnCounts, status_of}
+use Rattle.client_run.specs.Taken.{TookNext}
+use Rattle.client_run.specs.Run.{Ends, Takes, Prints, Ran, Causes}
 use Rattle.client_run.specs.declared.local_store.LocalStore.{LocalStore}
 use Rattle.client_run.specs.declared.reading.Reading.{Reading}
+use Rattle.client_run.specs.declared.turn_fault.TurnFault.{TurnFault}
+use Rattle.client_run.specs.declared.turn_fault.TurnFault.TheVariants as fault
 use Rattle.client_run.specs.declared.status.Status.{Status}
 use Rattle.client_run.specs.declared.status.Status.TheVariants.{Done, Usage, SourceFault, DiskFault, SinkFault, NoMemory, NotAStore, Budget}
-use Rattle.host_api.specs.Counts.{Rises}
+use Rattle.host_api.specs.Counts.{RisesAt}
 use Rattle.host_api.specs.declared.source.Line.{Line}
 use Rattle.host_api.specs.declared.source.Line.TheVariants.{Text, TooLong, End}
 use Rattle.client_run.proofs.Committed.{stored_gives, stored_reads}
@@ -114,6 +117,9 @@ pub next_read : {root : Root} {items : List Item} {s : State} {payloads : List (
 next_read {root} {items} {rest = rest} it line text shown more reading open_still same next one =
     next_from root items it.readings reading (item_of line text) more it.read (ap (λ k. drop k items) it.count ∙ sym it.left_over ∙ next_item line text rest more open_still next) (subst (λ (t : List ℕ). Reads root (item_of line t) reading) same one)
 
+took_next : {root : Root} {items : List Item} {readings : List Reading} {reading : Reading} {left : List ℕ} → Nexts root items readings reading (split left) → TookNext (length readings) items left
+took_next nexts = record { below = nexts.below; others = nexts.left_over }
+
 -- the source was read to its end
 pub all_done : {root : Root} {items : List Item} {s : State} {payloads : List (List ℕ)} {tells_out tells_files : Bool} {done : ℕ} {rest : List Item} {store : LocalStore} {old new : View} → Serving root items s payloads tells_out tells_files done rest store old new
     → (line : Line) (text : List ℕ) (more : List Item) → line ≡ End → Next (item_of line text) rest more → done ≡ length items
@@ -129,14 +135,15 @@ none_left {rest = rest} it line text more is next =
     ended.1 ∙ sym ended.0 ∙ it.left_over
 
 -- an item was taken
-pub one_taken : {root : Root} {items : List Item} {s : State} {payloads : List (List ℕ)} {tells_out tells_files : Bool} {done : ℕ} {rest : List Item} {store : LocalStore} {old new : View} → Serving root items s payloads tells_out tells_files done rest store old new
-    → (line : Line) (text : List ℕ) (more : List Item) → (line ≡ End → ⊥) → Next (item_of line text) rest more → more ≡ drop (done + 1) items
-one_taken {items = items} {done = done} {rest = rest} it line text more open_still next =
-    let front : drop done items ≡ item_of line text ∷ more = sym it.left_over ∙ next_item line text rest more open_still next in
-    let cut = drop-cons items done (item_of line text) (below_of items done (item_of line text) more front) in
-    let others : drop (suc done) items ≡ more = cc in
+pub took_one : {root : Root} {items : List Item} {s : State} {payloads : List (List ℕ)} {tells_out tells_files : Bool} {done : ℕ} {rest : List Item} {store : LocalStore} {old new : View} → Serving root items s payloads tells_out tells_files done rest store old new
+    → (line : Line) (text : List ℕ) (left : List ℕ) → (line ≡ End → ⊥) → Next (item_of line text) rest (split left) → TookNext done items left
+took_one {items = items} {done = done} {rest = rest} it line text left open_still next =
+    let front : drop done items ≡ item_of line text ∷ split left = sym it.left_over ∙ next_item line text rest (split left) open_still next in
+    let below = below_of items done (item_of line text) (split left) front in
+    let cut = drop-cons items done (item_of line text) below in
+    let others : drop (suc done) items ≡ split left = cc in
     let place : suc done ≡ done + 1 = omega arith in
-    sym others ∙ ap (λ k. drop k items) place
+    record { below = below; others = sym others ∙ ap (λ k. drop k items) place }
 
 -- nothing was done
 pub stays_none : (v : View) → Stays v v
@@ -170,7 +177,7 @@ stops view first {root} {items} {s} budget how left it ends takes prints leaves 
 }
 
 -- what the call that handled the next item says of it
-pub record Handles (root : Root) (done : ℕ) (reading : Reading) (store : LocalStore) (result : Result LocalStore Status) (tells_out tells_files : Bool) (mid new : View) : Type 0 where
+pub record Handles (root : Root) (done : ℕ) (reading : Reading) (store : LocalStore) (result : Result LocalStore TurnFault) (tells_out tells_files : Bool) (mid new : View) : Type 0 where
   pub state : IfOk result (λ next. (past : Past) → state_of next ≡ after (state_of store) (turn root (state_of store) past reading).commit)
   pub out : IsTrue tells_out → (past : Past) → length past + 1 ≡ done + 1 → Wrote (turn root (state_of store) past reading).output result mid.out new.out
   pub files : IsTrue tells_files → (payloads : List (List ℕ)) → IsStored store payloads mid → (past : Past) → length past + 1 ≡ done + 1 → Turned payloads (turn root (state_of store) past reading) result mid new
@@ -182,13 +189,13 @@ store_honest : (root : Root) (store : LocalStore) (past : Past) (reading : Readi
 store_honest root store past reading long = turn_honest root (state_of store) past reading (omega (arith, store.counted, store.within)) store.next long
 
 -- the turn of the next item, and what is known of it
-pub record NextTurn (root : Root) (s : State) (payloads : List (List ℕ)) (tells_files : Bool) (readings : List Reading) (reading : Reading) (result : Result LocalStore Status) (mid new : View) : Type 0 where
+pub record NextTurn (root : Root) (s : State) (payloads : List (List ℕ)) (tells_files : Bool) (readings : List Reading) (reading : Reading) (result : Result LocalStore TurnFault) (mid new : View) : Type 0 where
   pub fine : IsFine s (one_more root s (run root s [] readings) reading)
   pub turned : IsTrue tells_files → Turned (payloads_after payloads (run root s [] readings)) (turn root (now s (run root s [] readings)) (run root s [] readings) reading) result mid new
   pub before : IsTrue tells_files → Replays start (payloads_after payloads (run root s [] readings)) (now s (run root s [] readings))
   pub behind : IsTrue tells_files → Replays start (payloads_after payloads (one_more root s (run root s [] readings) reading)) (now s (one_more root s (run root s [] readings) reading))
 
-next_turn : {root : Root} {items : List Item} {s : State} {payloads : List (List ℕ)} {tells_out tells_files : Bool} {done : ℕ} {rest : List Item} {store : LocalStore} {old mid new : View} {result : Result LocalStore Status} (reading : Reading) (it : Serving root items s payloads tells_out tells_files done rest store old mid)
+next_turn : {root : Root} {items : List Item} {s : State} {payloads : List (List ℕ)} {tells_out tells_files : Bool} {done : ℕ} {rest : List Item} {store : LocalStore} {old mid new : View} {result : Result LocalStore TurnFault} (reading : Reading) (it : Serving root items s payloads tells_out tells_files done rest store old mid)
     → IsSpelledReading reading → done + 1 < 2 ^ 64 → Handles root done reading store result tells_out tells_files mid new → NextTurn root s payloads tells_files it.readings reading result mid new
 next_turn {root} {s = s} {payloads = payloads} {done = done} {store = store} {mid = mid} {new = new} {result = result} reading it spelled long handles =
     let past = run root s [] it.readings in
@@ -202,7 +209,7 @@ next_turn {root} {s = s} {payloads = payloads} {done = done} {store = store} {mi
     }
 
 -- a crash at any moment until the item was handled, or met a fault
-turn_spans : {root : Root} {items : List Item} {s : State} {payloads : List (List ℕ)} {tells_out tells_files : Bool} {done : ℕ} {rest more : List Item} {store : LocalStore} {old mid new : View} {result : Result LocalStore Status} (reading : Reading) (it : Serving root items s payloads tells_out tells_files done rest store old mid)
+turn_spans : {root : Root} {items : List Item} {s : State} {payloads : List (List ℕ)} {tells_out tells_files : Bool} {done : ℕ} {rest more : List Item} {store : LocalStore} {old mid new : View} {result : Result LocalStore TurnFault} (reading : Reading) (it : Serving root items s payloads tells_out tells_files done rest store old mid)
     → Nexts root items it.readings reading more → NextTurn root s payloads tells_files it.readings reading result mid new → IsTrue tells_out → IsTrue tells_files → Spans old new (Survives root items s old.out)
 turn_spans {root} {items} {s} {payloads} {old = old} {mid = mid} reading it nexts next out files =
     let past = run root s [] it.readings in
@@ -236,11 +243,11 @@ served_more {root} {items} {s} {payloads} {done = done} {store = store} {next = 
     }
 
 -- what a crash leaves of a run that stops within an item
-crashes_within : {H : Type 0} (view : H → View) (first : H) {root : Root} {items : List Item} {s : State} {payloads : List (List ℕ)} {tells_out tells_files : Bool} {done : ℕ} {rest more : List Item} {store : LocalStore} {mid new : View} {result : Result LocalStore Status} (how : Status) (reading : Reading) (it : Serving root items s payloads tells_out tells_files done rest store (view first) mid)
+crashes_within : {H : Type 0} (view : H → View) (first : H) {root : Root} {items : List Item} {s : State} {payloads : List (List ℕ)} {tells_out tells_files : Bool} {done : ℕ} {rest more : List Item} {store : LocalStore} {mid new : View} {result : Result LocalStore TurnFault} (how : Status) (left : List ℕ) (reading : Reading) (it : Serving root items s payloads tells_out tells_files done rest store (view first) mid)
     → Nexts root items it.readings reading more → NextTurn root s payloads tells_files it.readings reading result mid new
     → ((c : Files) → FindsHandled root s it.readings c ⊎ FindsNext root items s it.readings c → LeavesAtEnd how root items s it.readings c)
-    → IsTrue tells_out → IsTrue tells_files → Crashes view how root items s it.readings (view first) new
-crashes_within view first {root} {items} {s} {payloads} how reading it nexts next leaves out files =
+    → IsTrue tells_out → IsTrue tells_files → Crashes view how root items s it.readings left (view first) new
+crashes_within view first {root} {items} {s} {payloads} how left reading it nexts next leaves out files =
     let past = run root s [] it.readings in
     inl (record {
       host = first;
@@ -256,31 +263,31 @@ crashes_within view first {root} {items} {s} {payloads} how reading it nexts nex
     })
 
 -- a run that stops within an item
-pub stops_within : {H : Type 0} (view : H → View) (first : H) {root : Root} {items : List Item} {s : State} {payloads : List (List ℕ)} {tells_out tells_files : Bool} {done : ℕ} {rest : List Item} {store : LocalStore} {mid new : View} (budget : ℕ) (how : Status) (left : List ℕ) (reading : Reading) (it : Serving root items s payloads tells_out tells_files done rest store (view first) mid)
-    → Nexts root items it.readings reading (split left) → IsSpelledReading reading → done + 1 < 2 ^ 64 → Handles root done reading store (Err how) tells_out tells_files mid new → done < budget → Blames how mid new → Ran view root items s payloads tells_out tells_files budget how left (view first) new
-stops_within view first {root} {items} {s} {done = done} budget DiskFault left reading it nexts spelled few handles below blames = record {
+pub stops_within : {H : Type 0} (view : H → View) (first : H) {root : Root} {items : List Item} {s : State} {payloads : List (List ℕ)} {tells_out tells_files : Bool} {done : ℕ} {rest : List Item} {store : LocalStore} {mid new : View} (budget : ℕ) (why : TurnFault) (left : List ℕ) (reading : Reading) (it : Serving root items s payloads tells_out tells_files done rest store (view first) mid)
+    → Nexts root items it.readings reading (split left) → IsSpelledReading reading → done + 1 < 2 ^ 64 → Handles root done reading store (Err why) tells_out tells_files mid new → done < budget → Ran view root items s payloads tells_out tells_files budget (status_of why) left (view first) new
+stops_within view first {root} {items} {s} {done = done} budget fault.DiskFault left reading it nexts spelled few handles below = record {
   readings = it.readings;
   read = it.read;
   ends = (omega (arith, nexts.below), omega (arith, below, it.count));
-  taken = inl nexts.left_over;
+  taken = inl (took_next nexts);
   output = λ told. handles.out told (run root s [] it.readings) (past_length root s it.readings done it.count) ∙ it.wrote told;
   kept = λ told which. ⊎_elim (λ same. cc) (λ same. cc) which;
-  crash = crashes_within view first DiskFault reading it nexts (next_turn reading it spelled few handles) (λ c h. h);
+  crash = crashes_within view first DiskFault left reading it nexts (next_turn reading it spelled few handles) (λ c h. h);
 }
-stops_within view first {root} {items} {s} {done = done} budget NoMemory left reading it nexts spelled few handles below blames = record {
+stops_within view first {root} {items} {s} {done = done} budget fault.NoMemory left reading it nexts spelled few handles below = record {
   readings = it.readings;
   read = it.read;
   ends = (omega (arith, nexts.below), omega (arith, below, it.count));
-  taken = inr nexts.left_over;
+  taken = inr (took_next nexts);
   output = λ told. handles.out told (run root s [] it.readings) (past_length root s it.readings done it.count) ∙ it.wrote told;
   kept = λ told which. ⊎_elim (λ same. cc) (λ same. cc) which;
-  crash = crashes_within view first NoMemory reading it nexts (next_turn reading it spelled few handles) (λ c h. h);
+  crash = crashes_within view first NoMemory left reading it nexts (next_turn reading it spelled few handles) (λ c h. h);
 }
-stops_within view first {root} {items} {s} {done = done} {mid = mid} {new = new} budget SinkFault left reading it nexts spelled few handles below blames = record {
+stops_within view first {root} {items} {s} {done = done} {mid = mid} {new = new} budget fault.SinkFault left reading it nexts spelled few handles below = record {
   readings = it.readings;
   read = it.read;
   ends = (nexts.below, omega (arith, below, it.count));
-  taken = nexts.left_over;
+  taken = took_next nexts;
   output = λ told. record {
     reading = reading;
     read = nexts.read;
@@ -288,29 +295,47 @@ stops_within view first {root} {items} {s} {done = done} {mid = mid} {new = new}
         (subst (λ (t : State). IsPart (turn root t (run root s [] it.readings) reading).output mid.out new.out) it.at (handles.out told (run root s [] it.readings) (past_length root s it.readings done it.count)));
   };
   kept = λ told which. ⊎_elim (λ same. cc) (λ same. cc) which;
-  crash = crashes_within view first SinkFault reading it nexts (next_turn reading it spelled few handles) (λ c h. h);
+  crash = crashes_within view first SinkFault left reading it nexts (next_turn reading it spelled few handles) (λ c h. h);
 }
-stops_within view first budget Done left reading it nexts spelled few handles below blames = absurd blames
-stops_within view first budget Usage left reading it nexts spelled few handles below blames = absurd blames
-stops_within view first budget SourceFault left reading it nexts spelled few handles below blames = absurd blames
-stops_within view first budget NotAStore left reading it nexts spelled few handles below blames = absurd blames
-stops_within view first budget Budget left reading it nexts spelled few handles below blames = absurd blames
 
-rises_from : (a b c : ℕ) → a ≤ b → Rises b c → Rises a c
-rises_from a b c below rises = omega (arith, below, rises)
+-- ---- counts of faults
 
-pub faults_within : (old mid new : View) (how : Status) (before after_it : ℕ) → Later old mid → Blames how mid new → Faults how before after_it old new
-faults_within old mid new DiskFault before after_it later blames = rises_from old.disk_faults mid.disk_faults new.disk_faults later.disk blames
-faults_within old mid new SinkFault before after_it later blames = rises_from old.sink_faults mid.sink_faults new.sink_faults later.sink blames
-faults_within old mid new NoMemory before after_it later blames = tt
-faults_within old mid new Done before after_it later blames = absurd blames
-faults_within old mid new Usage before after_it later blames = absurd blames
-faults_within old mid new SourceFault before after_it later blames = absurd blames
-faults_within old mid new NotAStore before after_it later blames = absurd blames
-faults_within old mid new Budget before after_it later blames = absurd blames
+-- neither count has risen
+pub record SameFaults (old new : View) : Type 0 where
+  pub disk : new.disk_faults ≡ old.disk_faults
+  pub sink : new.sink_faults ≡ old.sink_faults
 
-pub later_then : (old mid new : View) → Later old mid → Later mid new → Later old new
-later_then old mid new first second = record { disk = omega (arith, first.disk, second.disk); sink = omega (arith, first.sink, second.sink) }
+-- a count that stood until now rises for the same cause
+pub rises_as : {P Q : Type 0} {old mid new : ℕ} → mid ≡ old → (Q → P) → (P → Q) → RisesAt P mid new → RisesAt Q old new
+rises_as same to back counts = record {
+  later = omega (arith, same, counts.later);
+  failed = λ q. let rises = counts.failed (to q) in omega (arith, same, rises);
+  stays = λ never. counts.stays (λ p. never (back p)) ∙ same;
+}
+
+-- a count that stands still
+pub rises_not : {Q : Type 0} {old new : ℕ} → new ≡ old → ¬ Q → RisesAt Q old new
+rises_not same never = record { later = omega (arith, same); failed = λ q. absurd (never q); stays = λ _. same }
+
+pub causes_within : {old mid new : View} (why : TurnFault) {before after_it : ℕ} → after_it ≡ before → SameFaults old mid → TurnCounts (Err why) mid new → Causes (status_of why) before after_it old new
+causes_within fault.DiskFault source same counts = record {
+  source = rises_not source (λ is. cc);
+  disk = rises_as same.disk (λ is. refl) (λ is. refl) counts.disk;
+  sink = rises_as same.sink (λ is. cc) (λ is. cc) counts.sink;
+}
+causes_within fault.SinkFault source same counts = record {
+  source = rises_not source (λ is. cc);
+  disk = rises_as same.disk (λ is. cc) (λ is. cc) counts.disk;
+  sink = rises_as same.sink (λ is. refl) (λ is. refl) counts.sink;
+}
+causes_within fault.NoMemory source same counts = record {
+  source = rises_not source (λ is. cc);
+  disk = rises_as same.disk (λ is. cc) (λ is. cc) counts.disk;
+  sink = rises_as same.sink (λ is. cc) (λ is. cc) counts.sink;
+}
+
+pub same_then : {old mid new : View} {next : LocalStore} → SameFaults old mid → TurnCounts (Ok next) mid new → SameFaults old new
+same_then first counts = record { disk = counts.disk.stays (λ is. cc) ∙ first.disk; sink = counts.sink.stays (λ is. cc) ∙ first.sink }
 
 -- so many lines
 some_past : (root : Root) (s : State) (reading : Reading) (n : ℕ) → (past : Past) × (length past ≡ n)
@@ -328,9 +353,9 @@ pub keeps_stored : (store : LocalStore) (v : View) → v.may_leave v.bytes → (
 keeps_stored store v reads is = record { finds = λ c left. (state_of store, finds_from (stored_gives c is.1 left) is.1.replays); reads = reads }
 
 -- so does a turn that met a fault
-pub keeps_within : (root : Root) (done : ℕ) (reading : Reading) (store : LocalStore) (how : Status) (tells_out tells_files : Bool) (mid new : View) → IsTrue tells_files → new.may_leave new.bytes → (payloads : List (List ℕ)) × IsStored store payloads mid → IsSpelledReading reading → done + 1 < 2 ^ 64
-    → Handles root done reading store (Err how) tells_out tells_files mid new → Keeps new
-keeps_within root done reading store how tells_out tells_files mid new told reads is spelled few handles =
+pub keeps_within : (root : Root) (done : ℕ) (reading : Reading) (store : LocalStore) (why : TurnFault) (tells_out tells_files : Bool) (mid new : View) → IsTrue tells_files → new.may_leave new.bytes → (payloads : List (List ℕ)) × IsStored store payloads mid → IsSpelledReading reading → done + 1 < 2 ^ 64
+    → Handles root done reading store (Err why) tells_out tells_files mid new → Keeps new
+keeps_within root done reading store why tells_out tells_files mid new told reads is spelled few handles =
     let p = some_past root (state_of store) reading done in
     let c = (turn root (state_of store) p.0 reading).commit in
     let honest = store_honest root store p.0 reading (omega (arith, p.1, few)) in

@@ -1,6 +1,7 @@
 -- What a crash may leave of a run, and that the files of a store stay those of a store.
 use Rattle.std.specs.Prelude.{◌≡◌, ◌⊎◌, ℕ, ◌+◌, ◌<◌, ◌≤◌, ◌^◌, List, [], ◌∷◌, ◌++◌, length, Option, Some, None, fold}
 use Rattle.host_api.specs.Items.{Item}
+use Rattle.client_run.specs.Taken.{Took}
 use Rattle.host_api.specs.declared.host.FileId.{FileId}
 use Rattle.host_api.specs.Host.{Files, View, Spans, Stays, IsOnDisk}
 use Rattle.document_keys.specs.Names.{Root}
@@ -86,13 +87,14 @@ pub record Synced {H : Type 0} (view : H → View) (how : Status) (root : Root) 
   pub later : Spans (view host) new (Survives root items s old.out)
   pub at_end : (c : Files) → new.may_leave c → LeavesAtEnd how root items s readings c
 
--- An opening sync failed, or there was no memory before: nothing was handled, and a crash leaves a pair that it could
--- leave at the start.
-pub record Unsynced (how : Status) (readings : List Reading) (old new : View) : Type 0 where
+-- An opening sync failed, or there was no memory before: nothing was handled or taken, and a crash leaves a pair that it
+-- could leave at the start.
+pub record Unsynced (how : Status) (items : List Item) (readings : List Reading) (left : List ℕ) (old new : View) : Type 0 where
   pub stopped : (how ≡ ended.DiskFault) ⊎ (how ≡ ended.NoMemory)
   pub none : readings ≡ []
+  pub untaken : Took 0 items left
   pub before : Stays old new
 
 -- What a crash may leave at each moment of a run, where host and source tell what they hold.
-abbrev pub Crashes : {H : Type 0} → (H → View) → Status → Root → List Item → State → List Reading → View → View → Type 0
-Crashes view how root items s readings old new = Synced view how root items s readings old new ⊎ Unsynced how readings old new
+abbrev pub Crashes : {H : Type 0} → (H → View) → Status → Root → List Item → State → List Reading → List ℕ → View → View → Type 0
+Crashes view how root items s readings left old new = Synced view how root items s readings old new ⊎ Unsynced how items readings left old new

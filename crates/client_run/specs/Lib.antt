@@ -9,6 +9,7 @@ pub mod Shapes
 pub mod Split
 pub mod State
 pub mod Store
+pub mod Taken
 pub mod Trees
 pub mod Turn
 pub mod Turned

@@ -1,15 +1,16 @@
 -- The run: what a call answers, and what it writes and keeps.
-use Rattle.std.specs.Prelude.{◌≡◌, ◌⊎◌, ℕ, ◌+◌, ◌<◌, ◌≤◌, List, [], ◌∷◌, ◌++◌, length, drop, IsTrue, Bool}
-use Rattle.host_api.specs.Items.{Item, split, IsSuffix}
-use Rattle.host_api.specs.Counts.{Rises}
+use Rattle.std.specs.Prelude.{◌≡◌, ◌⊎◌, ℕ, ◌+◌, ◌<◌, ◌≤◌, List, [], ◌∷◌, ◌++◌, length, IsTrue, Bool}
+use Rattle.host_api.specs.Items.{Item}
+use Rattle.host_api.specs.Counts.{Rises, RisesAt}
 use Rattle.host_api.specs.declared.host.FileId.{FileId}
-use Rattle.host_api.specs.Host.{View, IsPart}
+use Rattle.host_api.specs.Host.{View, IsPart, Stays}
 use Rattle.disk_journal.specs.File.{Gives}
 use Rattle.document_keys.specs.Names.{Root}
 use Rattle.client_run.specs.Crash.{Keeps, Crashes}
 use Rattle.client_run.specs.Reading.{AreRead}
 use Rattle.client_run.specs.State.{State}
 use Rattle.client_run.specs.Store.{IsRefused, IsNoStore}
+use Rattle.client_run.specs.Taken.{Took, TookAndFailed, TookNext}
 use Rattle.client_run.specs.Turn.{run, turn, now, output_of, payloads_after}
 use Rattle.client_run.specs.declared.reading.Reading.{Reading}
 use Rattle.client_run.specs.declared.status.Status.{Status}
@@ -27,25 +28,15 @@ Ends ended.NoMemory handled all budget = (handled ≤ all) × (handled < budget)
 Ends ended.Usage handled all budget = ⊥
 Ends ended.NotAStore handled all budget = ⊥
 
--- The first n items were taken from the source, and these bytes are left.
-abbrev pub Took : ℕ → List Item → List ℕ → Type 0
-Took n items left = split left ≡ drop n items
-
--- The first n items were taken; of the bytes behind them a front may be gone, for the source failed in the next item.
-pub record TookAndFailed (n : ℕ) (items : List Item) (left : List ℕ) : Type 0 where
-  pub rest : List ℕ
-  pub others : Took n items rest
-  pub suffix : IsSuffix rest left
-
 -- Which items a run took from the source: those that were handled, and besides them the one that met a fault. A disk
 -- fault of the opening took none.
 abbrev pub Takes : Status → ℕ → List Item → List ℕ → Type 0
 Takes ended.Done handled items left = Took handled items left
 Takes ended.Budget handled items left = Took handled items left
 Takes ended.SourceFault handled items left = TookAndFailed handled items left
-Takes ended.DiskFault handled items left = Took (handled + 1) items left ⊎ ((handled ≡ 0) × Took 0 items left)
-Takes ended.SinkFault handled items left = Took (handled + 1) items left
-Takes ended.NoMemory handled items left = TookAndFailed handled items left ⊎ Took (handled + 1) items left
+Takes ended.DiskFault handled items left = TookNext handled items left ⊎ ((handled ≡ 0) × Took 0 items left)
+Takes ended.SinkFault handled items left = TookNext handled items left
+Takes ended.NoMemory handled items left = TookAndFailed handled items left ⊎ TookNext handled items left
 Takes ended.Usage handled items left = Took 0 items left
 Takes ended.NotAStore handled items left = Took 0 items left
 
@@ -77,24 +68,19 @@ pub record Ran {H : Type 0} (view : H → View) (root : Root) (items : List Item
   -- at Done and Budget the files give the payloads found and then those of the commits
   pub kept : IsTrue tells_files → (status ≡ ended.Done) ⊎ (status ≡ ended.Budget) → Gives new.bytes 1 (payloads_after payloads (run root s [] readings))
   -- at each moment a crash finds a prefix of the commits that has every reported one
-  pub crash : IsTrue tells_out → IsTrue tells_files → Crashes view status root items s readings old new
+  pub crash : IsTrue tells_out → IsTrue tells_files → Crashes view status root items s readings left old new
 
--- why a run stops before its end
-abbrev pub Faults : Status → ℕ → ℕ → View → View → Type 0
-Faults ended.SourceFault before after old new = Rises before after
-Faults ended.DiskFault before after old new = Rises old.disk_faults new.disk_faults
-Faults ended.SinkFault before after old new = Rises old.sink_faults new.sink_faults
-Faults ended.Done before after old new = Unit {0}
-Faults ended.Usage before after old new = Unit {0}
-Faults ended.NoMemory before after old new = Unit {0}
-Faults ended.NotAStore before after old new = Unit {0}
-Faults ended.Budget before after old new = Unit {0}
+-- each count rose just where the run ended with its fault
+pub record Causes (status : Status) (before after : ℕ) (old new : View) : Type 0 where
+  pub source : RisesAt (status ≡ ended.SourceFault) before after
+  pub disk : RisesAt (status ≡ ended.DiskFault) old.disk_faults new.disk_faults
+  pub sink : RisesAt (status ≡ ended.SinkFault) old.sink_faults new.sink_faults
 
--- the files are no store, and stand as they did; nothing was written
-pub record LeavesForeign (tells_files : Bool) (old new : View) : Type 0 where
+-- the files are no store; nothing was written, and nothing of the files changed
+pub record IsForeign (tells_files : Bool) (old new : View) : Type 0 where
   pub refused : IsTrue tells_files → (file : FileId) × IsRefused file old.bytes
   pub no_store : IsTrue tells_files → IsNoStore old.bytes
-  pub bytes : IsTrue tells_files → new.bytes ≡ old.bytes
+  pub stays : IsTrue tells_files → Stays old new
   pub out : new.out ≡ old.out
 
 -- what a run over files that are no store answers
@@ -102,22 +88,20 @@ abbrev pub IsRefusal : Status → Type 0
 IsRefusal ended.NotAStore = Unit {0}
 IsRefusal ended.DiskFault = Unit {0}
 IsRefusal ended.NoMemory = Unit {0}
-IsRefusal ended.Done = ⊥
-IsRefusal ended.Usage = ⊥
-IsRefusal ended.SourceFault = ⊥
-IsRefusal ended.SinkFault = ⊥
-IsRefusal ended.Budget = ⊥
+IsRefusal _ = ⊥
+
+-- A run over files that are no store: whatever it answers, nothing was written, and a crash leaves no pair of files that it
+-- couldn't leave before.
+pub record LeavesForeign (status : Status) (old new : View) : Type 0 where
+  pub answer : IsRefusal status
+  pub stays : Stays old new
+  pub out : new.out ≡ old.out
 
 -- what a run answers after its store was opened
 abbrev pub IsServed : Status → Type 0
-IsServed ended.Done = Unit {0}
-IsServed ended.SourceFault = Unit {0}
-IsServed ended.DiskFault = Unit {0}
-IsServed ended.SinkFault = Unit {0}
-IsServed ended.NoMemory = Unit {0}
-IsServed ended.Budget = Unit {0}
 IsServed ended.Usage = ⊥
 IsServed ended.NotAStore = ⊥
+IsServed _ = Unit {0}
 
 -- no count of faults rose
 pub record NoFaults (before after : ℕ) (old new : View) : Type 0 where

@@ -1,8 +1,7 @@
 -- What an open store stands for.
 use Rattle.std.specs.Prelude.{◌≡◌, ℕ, List, [], ◌∷◌, ◌++◌, Result, IfOk}
-use Rattle.host_api.specs.Counts.{Rises}
 use Rattle.host_api.specs.declared.host.FileId.{FileId}
-use Rattle.host_api.specs.Host.{Files, View, Spans}
+use Rattle.host_api.specs.Host.{Files, View, Spans, Stays}
 use Rattle.disk_journal.specs.File.{IsForeign, IsFirstForeign, Gives, GoesOn}
 use Rattle.disk_journal.specs.Steps.{GivesBeforeOrAfter}
 use Rattle.disk_journal.specs.Place.{IsOpen}
@@ -11,7 +10,6 @@ use Rattle.disk_journal.specs.declared.fault.OpenFault.TheVariants as fault
 use Rattle.client_run.specs.State.{State, start, Replays, FindsState}
 use Rattle.client_run.specs.declared.local_store.LocalStore.{LocalStore}
 use Rattle.client_run.specs.declared.committing.StoreFault.{StoreFault}
-use Rattle.client_run.specs.declared.committing.StoreFault.TheVariants as store_fault
 
 abbrev pub state_of : LocalStore → State
 state_of store = record { number = store.number; batches = store.pending.items; next_batch = store.next_batch }
@@ -36,10 +34,10 @@ pub data IsRefused (file : FileId) (files : Files) : Type 0 where
 abbrev pub RefusedFilesAreNoStore : Type 0
 RefusedFilesAreNoStore = (file : FileId) (files : Files) → IsRefused file files → IsNoStore files
 
--- A refusal of the files has its cause in them, and leaves each byte as it was.
+-- A refusal of the files has its cause in them, and changes nothing of them.
 abbrev pub Refuses : OpenFault → View → View → Type 0
 Refuses fault.DiskFault old new = Unit {0}
-Refuses (fault.NotAStore file) old new = IsRefused file old.bytes × (new.bytes ≡ old.bytes)
+Refuses (fault.NotAStore file) old new = IsRefused file old.bytes × Stays old new
 Refuses fault.NoMemory old new = Unit {0}
 
 -- A commit whose payload this is: what a read gives, and what a crash now or at any moment of the call may have left,
@@ -49,8 +47,3 @@ pub record Commits (payloads : List (List ℕ)) (payload : List ℕ) (result : R
   pub bytes : GivesBeforeOrAfter 1 payloads payload new.bytes
   pub crash : (c : Files) → new.may_leave c → GivesBeforeOrAfter 1 payloads payload c
   pub time : Spans old new (λ o c. (o ≡ old.out) × GivesBeforeOrAfter 1 payloads payload c)
-
--- a disk fault rose its count
-abbrev pub IsStoreCause : StoreFault → View → View → Type 0
-IsStoreCause store_fault.DiskFault old new = Rises old.disk_faults new.disk_faults
-IsStoreCause store_fault.NoMemory old new = Unit {0}

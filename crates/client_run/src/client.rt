@@ -6,7 +6,7 @@ ghost use Rattle.client_run.specs.Words.{AsksRun};
 ghost use Rattle.client_run.specs.Crash.{Keeps};
 ghost use Rattle.client_run.specs.State.{State, FindsState};
 ghost use Rattle.client_run.specs.Store.{IsNoStore};
-ghost use Rattle.client_run.specs.Run.{Ran, Faults, Completes, LeavesForeign, IsRefusal};
+ghost use Rattle.client_run.specs.Run.{Ran, Causes, Completes, IsForeign, LeavesForeign};
 
 use crate::running::run_within;
 use crate::status::Status;
@@ -32,15 +32,15 @@ pub fn run_client<S: Source, H: Host>(
 ) -> Status
     ensures usage { result ≡ Status.Usage → (root : Root) → ¬ (AsksRun (map string_bytes words.now) root) }
     ensures no_run { ((root : Root) → ¬ (AsksRun (map string_bytes words.now) root)) → (result ≡ Status.Usage) ⊎ (result ≡ Status.NoMemory) }
-    ensures untouched { result ≡ Status.Usage → (source.new ≡ source.old) × (host.new ≡ host.old) }
+    ensures untouched { ((root : Root) → ¬ (AsksRun (map string_bytes words.now) root)) → (source.new ≡ source.old) × (host.new ≡ host.old) }
     ensures run { IsTrue S.tells → IsTrue H.tells_files → (root : Root) → AsksRun (map string_bytes words.now) root → (s : State) → (finds : FindsState (H.view host.old).bytes s)
         → Ran H.view root (split (S.left source.old)) s finds.payloads H.tells_out H.tells_files 4294967296 result (S.left source.new) (H.view host.old) (H.view host.new) }
-    ensures not_a_store { result ≡ Status.NotAStore → LeavesForeign H.tells_files (H.view host.old) (H.view host.new) }
-    ensures no_store { IsTrue H.tells_files → (root : Root) → AsksRun (map string_bytes words.now) root → IsNoStore (H.view host.old).bytes → IsRefusal result }
+    ensures not_a_store { result ≡ Status.NotAStore → IsForeign H.tells_files (H.view host.old) (H.view host.new) }
+    ensures no_store { IsTrue H.tells_files → (root : Root) → AsksRun (map string_bytes words.now) root → IsNoStore (H.view host.old).bytes → LeavesForeign result (H.view host.old) (H.view host.new) }
     ensures never_kept { IsTrue H.tells_files → Keeps (H.view host.old) → result ≢ Status.NotAStore }
     ensures keeps { IsTrue H.tells_files → Keeps (H.view host.old) → Keeps (H.view host.new) }
     ensures completes { IsTrue S.tells → IsTrue H.tells_files → (root : Root) → AsksRun (map string_bytes words.now) root → Completes (split (S.left source.old)) 4294967296 result (S.faults source.old) (S.faults source.new) (H.view host.old) (H.view host.new) }
-    ensures cause { Faults result (S.faults source.old) (S.faults source.new) (H.view host.old) (H.view host.new) }
+    ensures cause { Causes result (S.faults source.old) (S.faults source.new) (H.view host.old) (H.view host.new) }
 {
     let Ok(asked) = asked_database(alloc, words) else {
         return Status::NoMemory;

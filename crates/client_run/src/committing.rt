@@ -1,17 +1,18 @@
-ghost use Rattle.std.specs.Prelude.{◌≡◌, ℕ, ◌+◌, ◌^◌, ◌≤◌, ◌<◌, List, length, IsTrue, IfOk, IfErr};
+ghost use Rattle.std.specs.Prelude.{◌≡◌, ℕ, ◌+◌, ◌^◌, ◌≤◌, ◌<◌, List, length, IsTrue, IfOk, IsErrOf};
 ghost use Rattle.std.specs.Vec.{vec_len, vec_capacity};
+ghost use Rattle.host_api.specs.Counts.{RisesAt};
 ghost use Rattle.host_api.specs.Host.{KeepsOut};
 ghost use Rattle.record_codec.specs.Spelling.{spelling, HasSpelling};
 ghost use Rattle.client_run.specs.State.{Fits, committed};
-ghost use Rattle.client_run.specs.Store.{IsStored, Commits, IsStoreCause, state_of};
+ghost use Rattle.client_run.specs.Store.{IsStored, Commits, state_of};
 
 use crate::local_store::LocalStore;
 use crate::opening::enqueued;
 use disk_journal::Frame;
 use document_keys::NoMemory;
-use host_api::Host;
+use host_api::{Failed, Host};
 use record_codec::{Commit, encode};
-use std::alloc::Global;
+use std::alloc::{AllocError, Global};
 
 /// Why a commit wasn't made.
 #[derive(Clone, Copy, Debug, PartialEq, Eq)]
@@ -20,6 +21,36 @@ pub enum StoreFault {
     DiskFault,
     /// No memory was found. Nothing was written.
     NoMemory,
+}
+
+impl From<Failed> for StoreFault {
+    ghost use Rattle.client_run.specs.declared.committing.StoreFault.TheVariants.{DiskFault};
+
+    ghost from_gives = { λ _ e. e ≡ DiskFault };
+
+    fn from(_failed: Failed) -> StoreFault {
+        StoreFault::DiskFault
+    }
+}
+
+impl From<NoMemory> for StoreFault {
+    ghost use Rattle.client_run.specs.declared.committing.StoreFault.TheVariants as fault;
+
+    ghost from_gives = { λ _ e. e ≡ fault.NoMemory };
+
+    fn from(_error: NoMemory) -> StoreFault {
+        StoreFault::NoMemory
+    }
+}
+
+impl From<AllocError> for StoreFault {
+    ghost use Rattle.client_run.specs.declared.committing.StoreFault.TheVariants as fault;
+
+    ghost from_gives = { λ _ e. e ≡ fault.NoMemory };
+
+    fn from(_error: AllocError) -> StoreFault {
+        StoreFault::NoMemory
+    }
 }
 
 /// The frame of the commit's payload.
@@ -52,27 +83,18 @@ impl LocalStore {
         ensures state { IfOk result (λ store. state_of store ≡ committed (state_of self) commit) }
         ensures files { IsTrue H.tells_files → (payloads : List (List ℕ)) → IsStored self payloads (H.view host.old) → Commits payloads (spelling commit) result (H.view host.old) (H.view host.new) }
         ensures out { KeepsOut (H.view host.old) (H.view host.new) }
-        ensures later { (H.view host.old).disk_faults ≤ (H.view host.new).disk_faults }
-        ensures cause { IfErr result (λ fault. IsStoreCause fault (H.view host.old) (H.view host.new)) }
+        ensures counts { RisesAt (IsErrOf result StoreFault.DiskFault) (H.view host.old).disk_faults (H.view host.new).disk_faults }
     {
-        let Ok(frame) = frame_of(alloc, &commit) else {
-            return Err(StoreFault::NoMemory);
-        };
+        let frame = frame_of(alloc, &commit)?;
         let LocalStore {
             journal,
             number,
             next_batch,
             mut pending,
         } = self;
-        let Ok(()) = pending.reserve(1) else {
-            return Err(StoreFault::NoMemory);
-        };
-        let Ok(journal) = journal.append(host, &frame) else {
-            return Err(StoreFault::DiskFault);
-        };
-        let Ok(()) = pending.push(enqueued(commit)) else {
-            unreachable!();
-        };
+        pending.reserve(1)?;
+        let journal = journal.append(host, &frame)?;
+        pending.push_reserved(enqueued(commit));
         Ok(LocalStore {
             journal,
             number: number + 1,

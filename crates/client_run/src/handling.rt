@@ -1,20 +1,19 @@
-ghost use Rattle.std.specs.Prelude.{◌≡◌, ℕ, ◌+◌, List, length, None, IsTrue, IfOk, IfErr};
+ghost use Rattle.std.specs.Prelude.{◌≡◌, ℕ, ◌+◌, List, length, None, IsTrue, IfOk};
 ghost use Rattle.std.specs.String.{string_bytes};
 ghost use Rattle.document_keys.specs.Names.{Root};
 ghost use Rattle.value_model.specs.Time.{IsMoment};
 ghost use Rattle.record_codec.specs.Spelling.{IsSpelledWrite};
 ghost use Rattle.client_run.specs.Store.{IsStored, state_of};
 ghost use Rattle.client_run.specs.Turn.{Turn, Past, turn, after};
-ghost use Rattle.client_run.specs.Turned.{IsSpelledReading, Turned, Wrote, Blames, Later};
+ghost use Rattle.client_run.specs.Turned.{IsSpelledReading, Turned, Wrote, TurnCounts};
 ghost use Rattle.client_run.specs.declared.event.Event.TheVariants as event;
 ghost use Rattle.client_run.specs.declared.reading.Reading.TheVariants as reading_of;
 
-use crate::committing::StoreFault;
 use crate::event::Event;
 use crate::local_store::LocalStore;
 use crate::printing::{print_document, print_ok, print_refusal};
 use crate::reading::Reading;
-use crate::status::Status;
+use crate::turn_fault::TurnFault;
 use document_keys::Database;
 use host_api::Host;
 use mutations::{PlainBatch as Batch, PlainUpdate as Write};
@@ -23,18 +22,15 @@ use std::alloc::Global;
 use value_model::Timestamp;
 
 /// Answers a line that makes no commit.
-fn answer<H: Host>(host: &mut H, store: LocalStore, output: &str) -> Result<LocalStore, Status>
+fn answer<H: Host>(host: &mut H, store: LocalStore, output: &str) -> Result<LocalStore, TurnFault>
     ensures state { IfOk result (λ next. state_of next ≡ state_of store) }
     ensures out { IsTrue H.tells_out → Wrote output.now result (H.view host.old).out (H.view host.new).out }
     ensures files { IsTrue H.tells_files → (payloads : List (List ℕ)) → IsStored store payloads (H.view host.old)
         → Turned payloads (record { commit = None; output = output.now }) result (H.view host.old) (H.view host.new) }
-    ensures later { Later (H.view host.old) (H.view host.new) }
-    ensures cause { IfErr result (λ status. Blames status (H.view host.old) (H.view host.new)) }
+    ensures counts { TurnCounts result (H.view host.old) (H.view host.new) }
 {
-    match host.emit(output.as_bytes()) {
-        Ok(()) => Ok(store),
-        Err(_) => Err(Status::SinkFault),
-    }
+    host.emit(output.as_bytes())?;
+    Ok(store)
 }
 
 /// Commits a write, and then answers it. The answer is made before the commit.
@@ -45,7 +41,7 @@ fn handle_write<H: Host>(
     store: LocalStore,
     at: Timestamp,
     write: Write,
-) -> Result<LocalStore, Status>
+) -> Result<LocalStore, TurnFault>
     requires stored { IsTrue H.tells_files → (payloads : List (List ℕ)) × IsStored store payloads (H.view host.old) }
     requires moment { IsMoment at }
     requires spelled { IsSpelledWrite write }
@@ -53,23 +49,14 @@ fn handle_write<H: Host>(
     ensures out { IsTrue H.tells_out → (root : Root) (past : Past) → Wrote (turn root (state_of store) past (reading_of.Line (event.Write at write))).output result (H.view host.old).out (H.view host.new).out }
     ensures files { IsTrue H.tells_files → (payloads : List (List ℕ)) → IsStored store payloads (H.view host.old)
         → (root : Root) (past : Past) → Turned payloads (turn root (state_of store) past (reading_of.Line (event.Write at write))) result (H.view host.old) (H.view host.new) }
-    ensures later { Later (H.view host.old) (H.view host.new) }
-    ensures cause { IfErr result (λ status. Blames status (H.view host.old) (H.view host.new)) }
+    ensures counts { TurnCounts result (H.view host.old) (H.view host.new) }
 {
     let id = store.next_batch;
-    let Ok(output) = print_ok(alloc, id, store.number + 1) else {
-        return Err(Status::NoMemory);
-    };
+    let output = print_ok(alloc, id, store.number + 1)?;
     let commit = Commit::Enqueue(Batch { id, at, write });
-    let store = match store.commit(alloc, host, commit) {
-        Ok(store) => store,
-        Err(StoreFault::DiskFault) => return Err(Status::DiskFault),
-        Err(StoreFault::NoMemory) => return Err(Status::NoMemory),
-    };
-    match host.emit(output.as_str().as_bytes()) {
-        Ok(()) => Ok(store),
-        Err(_) => Err(Status::SinkFault),
-    }
+    let store = store.commit(alloc, host, commit)?;
+    host.emit(output.as_str().as_bytes())?;
+    Ok(store)
 }
 
 /// Handles one line: what it commits is on the disk before its answer goes out, in one call of `emit`. `line` is its
@@ -82,27 +69,22 @@ pub fn handle<H: Host>(
     store: LocalStore,
     line: u64,
     reading: Reading,
-) -> Result<LocalStore, Status>
+) -> Result<LocalStore, TurnFault>
     requires stored { IsTrue H.tells_files → (payloads : List (List ℕ)) × IsStored store payloads (H.view host.old) }
     requires spelled { IsSpelledReading reading }
     ensures state { IfOk result (λ next. (past : Past) → state_of next ≡ after (state_of store) (turn root.now (state_of store) past reading).commit) }
     ensures out { IsTrue H.tells_out → (past : Past) → length past + 1 ≡ line → Wrote (turn root.now (state_of store) past reading).output result (H.view host.old).out (H.view host.new).out }
     ensures files { IsTrue H.tells_files → (payloads : List (List ℕ)) → IsStored store payloads (H.view host.old)
         → (past : Past) → length past + 1 ≡ line → Turned payloads (turn root.now (state_of store) past reading) result (H.view host.old) (H.view host.new) }
-    ensures later { Later (H.view host.old) (H.view host.new) }
-    ensures cause { IfErr result (λ status. Blames status (H.view host.old) (H.view host.new)) }
+    ensures counts { TurnCounts result (H.view host.old) (H.view host.new) }
 {
     match reading {
         Reading::Refused(refusal) => {
-            let Ok(output) = print_refusal(alloc, line, &refusal) else {
-                return Err(Status::NoMemory);
-            };
+            let output = print_refusal(alloc, line, &refusal)?;
             answer(host, store, output.as_str())
         }
         Reading::Line(Event::Get(key)) => {
-            let Ok(output) = print_document(alloc, root, &key, store.document(&key)) else {
-                return Err(Status::NoMemory);
-            };
+            let output = print_document(alloc, root, &key, store.document(&key))?;
             answer(host, store, output.as_str())
         }
         Reading::Line(Event::Write { at, write }) => handle_write(alloc, host, store, at, write),

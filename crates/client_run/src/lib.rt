@@ -22,6 +22,7 @@ mod strays;
 #[cfg(test)]
 mod tests;
 mod tree;
+mod turn_fault;
 mod words;
 
 pub use client::run_client;

@@ -1,6 +1,6 @@
 ghost use Rattle.std.specs.Prelude.{◌≡◌, ℕ, ◌+◌, ◌^◌, ◌≤◌, List, length, map, IsTrue, IfOk, IfErr, IsErrOf, MatchOption};
 ghost use Rattle.host_api.specs.Host.{KeepsOut};
-ghost use Rattle.host_api.specs.Counts.{Rises};
+ghost use Rattle.host_api.specs.Counts.{RisesAt};
 ghost use Rattle.disk_journal.specs.File.{Gives};
 ghost use Rattle.disk_journal.specs.Steps.{Opens, SettlesFirst};
 ghost use Rattle.client_run.specs.State.{State, start, Replays};
@@ -57,13 +57,9 @@ impl LocalStore {
         ensures files { IsTrue H.tells_files → Opens (H.view host.old) (H.view host.new) }
         ensures settled { IsTrue H.tells_files → SettlesFirst H.view result (H.view host.old) (H.view host.new) }
         ensures out { KeepsOut (H.view host.old) (H.view host.new) }
-        ensures later { (H.view host.old).disk_faults ≤ (H.view host.new).disk_faults }
-        ensures cause { IsErrOf result OpenFault.DiskFault → Rises (H.view host.old).disk_faults (H.view host.new).disk_faults }
+        ensures counts { RisesAt (IsErrOf result OpenFault.DiskFault) (H.view host.old).disk_faults (H.view host.new).disk_faults }
     {
-        let (journal, file, payloads) = match Journal::open(alloc, host) {
-            Ok(opened) => opened,
-            Err(fault) => return Err(fault),
-        };
+        let (journal, file, payloads) = Journal::open(alloc, host)?;
         if journal.generation() != 1 {
             return Err(OpenFault::NotAStore(file));
         }

@@ -3,7 +3,7 @@ ghost use Rattle.host_api.specs.Items.{split};
 ghost use Rattle.client_run.specs.Crash.{Keeps};
 ghost use Rattle.client_run.specs.State.{State, FindsState};
 ghost use Rattle.client_run.specs.Store.{IsNoStore};
-ghost use Rattle.client_run.specs.Run.{Ran, Faults, Completes, LeavesForeign, IsRefusal};
+ghost use Rattle.client_run.specs.Run.{Ran, Causes, Completes, IsForeign, LeavesForeign};
 
 use crate::local_store::LocalStore;
 use crate::serving::serve;
@@ -31,13 +31,13 @@ pub fn run_within<S: Source, H: Host>(
     requires budget { 1 ≤ budget }
     ensures run { IsTrue S.tells → IsTrue H.tells_files → (s : State) → (finds : FindsState (H.view host.old).bytes s)
         → Ran H.view root (split (S.left source.old)) s finds.payloads H.tells_out H.tells_files budget result (S.left source.new) (H.view host.old) (H.view host.new) }
-    ensures not_a_store { result ≡ Status.NotAStore → LeavesForeign H.tells_files (H.view host.old) (H.view host.new) }
-    ensures no_store { IsTrue H.tells_files → IsNoStore (H.view host.old).bytes → IsRefusal result }
+    ensures not_a_store { result ≡ Status.NotAStore → IsForeign H.tells_files (H.view host.old) (H.view host.new) }
+    ensures no_store { IsTrue H.tells_files → IsNoStore (H.view host.old).bytes → LeavesForeign result (H.view host.old) (H.view host.new) }
     ensures never_kept { IsTrue H.tells_files → Keeps (H.view host.old) → result ≢ Status.NotAStore }
     ensures keeps { IsTrue H.tells_files → Keeps (H.view host.old) → Keeps (H.view host.new) }
     ensures completes { IsTrue S.tells → IsTrue H.tells_files → Completes (split (S.left source.old)) budget result (S.faults source.old) (S.faults source.new) (H.view host.old) (H.view host.new) }
     ensures words { result ≢ Status.Usage }
-    ensures cause { Faults result (S.faults source.old) (S.faults source.new) (H.view host.old) (H.view host.new) }
+    ensures cause { Causes result (S.faults source.old) (S.faults source.new) (H.view host.old) (H.view host.new) }
 {
     let store = match LocalStore::open(alloc, host) {
         Ok(store) => store,

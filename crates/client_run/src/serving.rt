@@ -2,7 +2,7 @@ ghost use Rattle.std.specs.Prelude.{◌≡◌, ℕ, ◌≤◌, List, length, IsT
 ghost use Rattle.host_api.specs.Items.{split};
 ghost use Rattle.client_run.specs.Crash.{Keeps};
 ghost use Rattle.client_run.specs.Store.{IsStored, state_of};
-ghost use Rattle.client_run.specs.Run.{Ran, Faults, IsServed};
+ghost use Rattle.client_run.specs.Run.{Ran, Causes, IsServed};
 
 use crate::handling::handle;
 use crate::line::read_item;
@@ -26,7 +26,7 @@ pub fn serve<S: Source, H: Host>(
         → Ran H.view root.now (split (S.left source.old)) (state_of store) payloads H.tells_out H.tells_files budget result (S.left source.new) (H.view host.old) (H.view host.new) }
     ensures keeps { IsTrue H.tells_files → Keeps (H.view host.new) }
     ensures serving { IsServed result }
-    ensures cause { Faults result (S.faults source.old) (S.faults source.new) (H.view host.old) (H.view host.new) }
+    ensures cause { Causes result (S.faults source.old) (S.faults source.new) (H.view host.old) (H.view host.new) }
 {
     let mut store = store;
     let mut text = Vec::new(alloc);
@@ -44,7 +44,7 @@ pub fn serve<S: Source, H: Host>(
         };
         store = match handle(alloc, root, host, store, handled + 1, reading) {
             Ok(next) => next,
-            Err(status) => return status,
+            Err(fault) => return fault.status(),
         };
     }
     Status::Budget

@@ -30,7 +30,7 @@ stays_on_disk {file} {a} {b} stays on_disk c now = on_disk c (stays.crash c now)
 pub opens_none : {old new : View} → Stays old new → Opens old new
 opens_none {old} {new} stays = record {
   bytes = λ g ps gives. subst (λ (f : Files). Gives f g ps) (sym stays.bytes) gives;
-  kept = λ some. stays.bytes;
+  kept = λ some. stays;
   second = ap (λ (f : Files). f One) stays.bytes;
   crash = λ c now. inl (stays.crash c now);
   time = spans_weaker (λ o c. (o ≡ old.out) × (old.may_leave c ⊎ GiveSame old.bytes c)) stays.time (λ o c h. (h.0, inl h.1));
@@ -39,7 +39,7 @@ opens_none {old} {new} stays = record {
 pub opens_after : {old mid new : View} → mid.out ≡ old.out → Stays old mid → Opens mid new → Opens old new
 opens_after {old} {mid} {new} same stays opens = record {
   bytes = λ g ps gives. opens.bytes g ps (subst (λ (f : Files). Gives f g ps) (sym stays.bytes) gives);
-  kept = λ some. opens.kept (subst (λ (f : Files). ¬ AreBlank f) (sym stays.bytes) some) ∙ stays.bytes;
+  kept = λ some. stays_then same stays (opens.kept (subst (λ (f : Files). ¬ AreBlank f) (sym stays.bytes) some));
   second = opens.second ∙ ap (λ (f : Files). f One) stays.bytes;
   crash = λ c now. earlier c (opens.crash c now);
   time = spans_then (λ o c. (o ≡ old.out) × (old.may_leave c ⊎ GiveSame old.bytes c)) stays.time opens.time (λ o c h. (h.0, inl h.1)) (λ o c h. (h.0 ∙ same, earlier c h.1));

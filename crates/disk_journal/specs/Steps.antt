@@ -36,10 +36,11 @@ abbrev pub GiveSame : Files → Files → Type 0
 GiveSame a b = (generation : ℕ) × (payloads : List (List ℕ)) × Gives a generation payloads × Gives b generation payloads
 
 -- An opening: what a crash now or at any moment of the call may have left, it might have left before, or it gives what
--- the files gave as they read. Nothing is written but to a file 0 beside which file 1 is blank too.
+-- the files gave as they read. Nothing is written but to a file 0 beside which file 1 is blank too; where one of them isn't
+-- blank, nothing of the files changes.
 pub record Opens (old new : View) : Type 0 where
   pub bytes : (generation : ℕ) (payloads : List (List ℕ)) → Gives old.bytes generation payloads → Gives new.bytes generation payloads
-  pub kept : ¬ AreBlank old.bytes → new.bytes ≡ old.bytes
+  pub kept : ¬ AreBlank old.bytes → Stays old new
   pub second : new.bytes One ≡ old.bytes One
   pub crash : (c : Files) → new.may_leave c → old.may_leave c ⊎ GiveSame old.bytes c
   pub time : Spans old new (λ o c. (o ≡ old.out) × (old.may_leave c ⊎ GiveSame old.bytes c))

@@ -1,5 +1,5 @@
-ghost use Rattle.std.specs.Prelude.{◌≡◌, ℕ, ◌+◌, ◌^◌, ◌≤◌, ◌<◌, List, map, length, IsTrue, IfOk, IfErr};
-ghost use Rattle.host_api.specs.Counts.{Counts};
+ghost use Rattle.std.specs.Prelude.{◌≡◌, ℕ, ◌+◌, ◌^◌, ◌≤◌, ◌<◌, List, map, length, IsTrue, IfOk, IfErr, IsErrOf};
+ghost use Rattle.host_api.specs.Counts.{Counts, RisesAt};
 ghost use Rattle.host_api.specs.Host.{KeepsOut, other};
 ghost use Rattle.disk_journal.specs.Place.{Place, IsOpen};
 ghost use Rattle.disk_journal.specs.File.{AreBlank, Gives, GoesOn};
@@ -66,7 +66,7 @@ impl Journal {
         ensures files { IsTrue H.tells_files → Opens (H.view host.old) (H.view host.new) }
         ensures settled { IsTrue H.tells_files → SettlesFirst H.view result (H.view host.old) (H.view host.new) }
         ensures out { KeepsOut (H.view host.old) (H.view host.new) }
-        ensures later { (H.view host.old).disk_faults ≤ (H.view host.new).disk_faults }
+        ensures counts { RisesAt (IsErrOf result OpenFault.DiskFault) (H.view host.old).disk_faults (H.view host.new).disk_faults }
         ensures cause { IfErr result (λ fault. IsCause H.tells_files fault (H.view host.old) (H.view host.new)) }
     {
         let (zero, one) = look(alloc, host)?;
@@ -90,7 +90,9 @@ impl Journal {
         self.generation
     }
 
-    /// Adds the framed payload as a record, and brings it to the disk. It takes no memory.
+    /// Adds the framed payload as a record, and brings it to the disk. It takes no memory. It asks that the files have the
+    /// journal's payloads, and that both files are on the disk, as an opening and each append leave them; that is more than
+    /// that a crash finds the payloads.
     ///
     /// # Errors
     /// `Failed` only where the count of disk faults rose. There is no journal then, so that nothing is written behind

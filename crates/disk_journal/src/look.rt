@@ -1,5 +1,5 @@
-ghost use Rattle.std.specs.Prelude.{◌≡◌, ℕ, ◌^◌, ◌≤◌, length, IsTrue, IfOk, IfErr};
-ghost use Rattle.host_api.specs.Counts.{Counts};
+ghost use Rattle.std.specs.Prelude.{◌≡◌, ℕ, ◌^◌, ◌≤◌, length, IsTrue, IfOk, IfErr, IsErrOf};
+ghost use Rattle.host_api.specs.Counts.{Counts, RisesAt};
 ghost use Rattle.host_api.specs.Host.{KeepsOut, Stays, IsOnDisk};
 ghost use Rattle.host_api.specs.declared.host.FileId.{FileId};
 ghost use Rattle.disk_journal.specs.Reading.{IsReading, IsWithin};
@@ -26,7 +26,7 @@ fn read_whole<H: Host>(alloc: Global, host: &mut H, file: FileId) -> Result<Vec<
     ensures small { IfOk result (λ bytes. length bytes.items ≤ 2 ^ 62) }
     ensures files { IsTrue H.tells_files → Stays (H.view host.old) (H.view host.new) }
     ensures out { KeepsOut (H.view host.old) (H.view host.new) }
-    ensures later { (H.view host.old).disk_faults ≤ (H.view host.new).disk_faults }
+    ensures counts { RisesAt (IsErrOf result OpenFault.DiskFault) (H.view host.old).disk_faults (H.view host.new).disk_faults }
     ensures cause { IfErr result (λ fault. IsReadCause fault (H.view host.old) (H.view host.new)) }
 {
     let len = host.file_len(file)?;
@@ -40,7 +40,7 @@ fn look_at<H: Host>(alloc: Global, host: &mut H, file: FileId) -> Result<Reading
     ensures within { IfOk result IsWithin }
     ensures files { IsTrue H.tells_files → Stays (H.view host.old) (H.view host.new) }
     ensures out { KeepsOut (H.view host.old) (H.view host.new) }
-    ensures later { (H.view host.old).disk_faults ≤ (H.view host.new).disk_faults }
+    ensures counts { RisesAt (IsErrOf result OpenFault.DiskFault) (H.view host.old).disk_faults (H.view host.new).disk_faults }
     ensures cause { IfErr result (λ fault. IsReadCause fault (H.view host.old) (H.view host.new)) }
 {
     let bytes = read_whole(alloc, host, file)?;
@@ -52,7 +52,7 @@ fn look_at_each<H: Host>(alloc: Global, host: &mut H) -> Result<(Reading, Readin
     ensures within { IfOk result (λ r. IsWithin r.0 × IsWithin r.1) }
     ensures files { IsTrue H.tells_files → Stays (H.view host.old) (H.view host.new) }
     ensures out { KeepsOut (H.view host.old) (H.view host.new) }
-    ensures later { (H.view host.old).disk_faults ≤ (H.view host.new).disk_faults }
+    ensures counts { RisesAt (IsErrOf result OpenFault.DiskFault) (H.view host.old).disk_faults (H.view host.new).disk_faults }
     ensures cause { IfErr result (λ fault. IsReadCause fault (H.view host.old) (H.view host.new)) }
 {
     let zero = look_at(alloc, host, FileId::Zero)?;
@@ -67,7 +67,7 @@ pub(crate) fn look<H: Host>(alloc: Global, host: &mut H) -> Result<(Reading, Rea
     ensures files { IsTrue H.tells_files → Stays (H.view host.old) (H.view host.new) }
     ensures settled { IsTrue H.tells_files → SettlesFirst H.view result (H.view host.old) (H.view host.new) }
     ensures out { KeepsOut (H.view host.old) (H.view host.new) }
-    ensures later { (H.view host.old).disk_faults ≤ (H.view host.new).disk_faults }
+    ensures counts { RisesAt (IsErrOf result OpenFault.DiskFault) (H.view host.old).disk_faults (H.view host.new).disk_faults }
     ensures cause { IfErr result (λ fault. IsReadCause fault (H.view host.old) (H.view host.new)) }
 {
     settle(host)?;

@@ -1,5 +1,5 @@
--- Counts of faults. A fault is told only where its count rose.
-use Rattle.std.specs.Prelude.{ℕ, ◌+◌, ◌-◌, ◌^◌, ◌≤◌, min, Result, IsErr, IsErrOf}
+-- Counts of faults. A fault is told just where its count rose.
+use Rattle.std.specs.Prelude.{◌≡◌, ℕ, ◌+◌, ◌-◌, ◌^◌, ◌≤◌, min, Result, IsErr, IsErrOf}
 use Rattle.host_api.specs.declared.host.Failed.{Failed}
 use Rattle.host_api.specs.declared.source.SourceFault.{SourceFault}
 use Rattle.host_api.specs.declared.source.SourceFault.TheVariants as fault
@@ -8,12 +8,16 @@ use Rattle.host_api.specs.declared.source.SourceFault.TheVariants as fault
 abbrev pub Rises : ℕ → ℕ → Type 0
 Rises old new = min (old + 1) (2 ^ 64 - 1) ≤ new
 
--- the count doesn't fall, and an error is told only where it rose
-pub record Counts {T : Type 0} (result : Result T Failed) (old new : ℕ) : Type 0 where
+-- the count rose where this fault is told, and else stands as it did
+pub record RisesAt (fault : Type 0) (old new : ℕ) : Type 0 where
   pub later : old ≤ new
-  pub failed : IsErr result → Rises old new
+  pub failed : fault → Rises old new
+  pub stays : ¬ fault → new ≡ old
 
--- the same of a source, which may also find no memory
-pub record SourceCounts {T : Type 0} (result : Result T SourceFault) (old new : ℕ) : Type 0 where
-  pub later : old ≤ new
-  pub failed : IsErrOf result fault.Failed → Rises old new
+-- the count of a device: any error of a call on it is its fault
+abbrev pub Counts : {T : Type 0} → Result T Failed → ℕ → ℕ → Type 0
+Counts result old new = RisesAt (IsErr result) old new
+
+-- the count of a source, which may also find no memory
+abbrev pub SourceCounts : {T : Type 0} → Result T SourceFault → ℕ → ℕ → Type 0
+SourceCounts result old new = RisesAt (IsErrOf result fault.Failed) old new

@@ -14,7 +14,10 @@ pub returns-in_default-asked-clause-run : goal.returns-in_default-asked-clause-r
 returns-in_default-asked-clause-run g c = λ tells told root asks. absurd (rw c.in_default-asked.is at c.in-Ok.ensures root asks)
 
 pub returns-in_default-asked-clause-no_store : goal.returns-in_default-asked-clause-no_store
-returns-in_default-asked-clause-no_store g c = λ told root asks no. rw c.in_default-asked.is at c.in-Ok.ensures root asks
+returns-in_default-asked-clause-no_store g c = λ told root asks none. absurd (rw c.in_default-asked.is at c.in-Ok.ensures root asks)
+
+pub returns-in_default-clause-no_store : goal.returns-in_default-clause-no_store
+returns-in_default-clause-no_store g c = λ told root asks none. record { answer = tt; stays = stays_none _; out = refl }
 
 pub returns-in_default-asked-clause-completes : goal.returns-in_default-asked-clause-completes
 returns-in_default-asked-clause-completes g c = λ tells told root asks keeps few none. absurd (rw c.in_default-asked.is at c.in-Ok.ensures root asks)

@@ -1,6 +1,6 @@
 use Rattle.std.proofs.Common.{inr, refl}
-use Rattle.client_run.proofs.Began.{disk_first, memory_first, finds_of, opened_runs, opens_keeps, kept_is_store, completed}
-use Rattle.client_run.proofs.Opened.{refused_is_none}
+use Rattle.client_run.proofs.Began.{disk_first, memory_first, finds_of, opened_runs, opens_keeps, kept_is_store, causes_from, completed}
+use Rattle.client_run.proofs.Opened.{refused_is_none, no_store_stays}
 use Rattle.client_run.proofs.running.run_within.Goals as goal
 
 pub returns-in-Err-DiskFault-clause-run : goal.returns-in-Err-DiskFault-clause-run
@@ -22,7 +22,7 @@ pub returns-in-Err-NotAStore-clause-not_a_store : goal.returns-in-Err-NotAStore-
 returns-in-Err-NotAStore-clause-not_a_store g c = λ is. record {
   refused = λ told. let refuses = rw c.in-Err-NotAStore.field-0-is at c.in-Err-NotAStore.ensures.refused told in (_, refuses.0);
   no_store = λ told. let refuses = rw c.in-Err-NotAStore.field-0-is at c.in-Err-NotAStore.ensures.refused told in refused_is_none _ _ refuses.0;
-  bytes = λ told. let refuses = rw c.in-Err-NotAStore.field-0-is at c.in-Err-NotAStore.ensures.refused told in refuses.1;
+  stays = λ told. let refuses = rw c.in-Err-NotAStore.field-0-is at c.in-Err-NotAStore.ensures.refused told in refuses.1;
   out = c.in-Err-NotAStore.ensures.out.out;
 }
 
@@ -45,10 +45,19 @@ returns-in-Err-NotAStore-clause-keeps g c = λ told keeps. opens_keeps (c.in-Err
 pub returns-in-Err-NoMemory-clause-keeps : goal.returns-in-Err-NoMemory-clause-keeps
 returns-in-Err-NoMemory-clause-keeps g c = λ told keeps. opens_keeps (c.in-Err-NoMemory.ensures.files told) (g.met.H.Host.may_stay _ told) keeps
 
+pub returns-in-Err-DiskFault-clause-no_store : goal.returns-in-Err-DiskFault-clause-no_store
+returns-in-Err-DiskFault-clause-no_store g c = λ told none. record { answer = tt; stays = no_store_stays none (c.in-Err-DiskFault.ensures.files told); out = c.in-Err-DiskFault.ensures.out.out }
+
+pub returns-in-Err-NotAStore-clause-no_store : goal.returns-in-Err-NotAStore-clause-no_store
+returns-in-Err-NotAStore-clause-no_store g c = λ told none. record { answer = tt; stays = no_store_stays none (c.in-Err-NotAStore.ensures.files told); out = c.in-Err-NotAStore.ensures.out.out }
+
+pub returns-in-Err-NoMemory-clause-no_store : goal.returns-in-Err-NoMemory-clause-no_store
+returns-in-Err-NoMemory-clause-no_store g c = λ told none. record { answer = tt; stays = no_store_stays none (c.in-Err-NoMemory.ensures.files told); out = c.in-Err-NoMemory.ensures.out.out }
+
 pub returns-in-Err-DiskFault-clause-completes : goal.returns-in-Err-DiskFault-clause-completes
 returns-in-Err-DiskFault-clause-completes g c = λ tells told keeps few none.
-    let cause = rw c.in-Err-DiskFault.field-0-is at c.in-Err-DiskFault.ensures.cause in
-    absurd (none.disk (cause refl))
+    let counts = rw c.in-Err-DiskFault.field-0-is at c.in-Err-DiskFault.ensures.counts in
+    absurd (none.disk (counts.failed refl))
 
 pub returns-in-Err-NotAStore-clause-completes : goal.returns-in-Err-NotAStore-clause-completes
 returns-in-Err-NotAStore-clause-completes g c = λ tells told keeps few none.
@@ -59,7 +68,11 @@ pub returns-clause-completes : goal.returns-clause-completes
 returns-clause-completes g c = λ tells told keeps few none.
     let st = c.in-Ok.ensures.stored told in
     let ran = c.serve.ensures.run tells st.0 (λ files. st.2) in
-    completed c.serve.result _ _ c.args.budget _ _ _ _ _ c.in-Ok.ensures.later c.in-Ok.ensures.out.faults ran.ends c.serve.ensures.cause few none
+    let causes = causes_from (c.in-Ok.ensures.counts.stays (λ is. cc)) c.in-Ok.ensures.out.faults c.serve.ensures.cause in
+    completed c.serve.result _ _ c.args.budget ran.ends causes few none
+
+pub returns-clause-cause : goal.returns-clause-cause
+returns-clause-cause g c = causes_from (c.in-Ok.ensures.counts.stays (λ is. cc)) c.in-Ok.ensures.out.faults c.serve.ensures.cause
 
 pub returns-in-Err-NotAStore-clause-never_kept : goal.returns-in-Err-NotAStore-clause-never_kept
 returns-in-Err-NotAStore-clause-never_kept g c = λ told keeps.

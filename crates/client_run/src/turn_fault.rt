@@ -1,0 +1,63 @@
+ghost use Rattle.std.specs.Prelude.{◌≡◌};
+ghost use Rattle.client_run.specs.Turned.{turn_fault_of, status_of};
+
+use crate::committing::StoreFault;
+use crate::status::Status;
+use document_keys::NoMemory;
+use host_api::Failed;
+
+/// Why a line wasn't handled to its end.
+#[derive(Clone, Copy, Debug, PartialEq, Eq)]
+pub enum TurnFault {
+    /// The disk failed, and the host counted it. The line's commit may have been made.
+    DiskFault,
+    /// The output failed, and the host counted it. The line's commit was made.
+    SinkFault,
+    /// No memory was found.
+    NoMemory,
+}
+
+impl From<StoreFault> for TurnFault {
+    ghost from_gives = { λ fault e. e ≡ turn_fault_of fault };
+
+    fn from(fault: StoreFault) -> TurnFault {
+        match fault {
+            StoreFault::DiskFault => TurnFault::DiskFault,
+            StoreFault::NoMemory => TurnFault::NoMemory,
+        }
+    }
+}
+
+// the output is the one device that a turn calls by itself
+impl From<Failed> for TurnFault {
+    ghost use Rattle.client_run.specs.declared.turn_fault.TurnFault.TheVariants.{SinkFault};
+
+    ghost from_gives = { λ _ e. e ≡ SinkFault };
+
+    fn from(_failed: Failed) -> TurnFault {
+        TurnFault::SinkFault
+    }
+}
+
+impl From<NoMemory> for TurnFault {
+    ghost use Rattle.client_run.specs.declared.turn_fault.TurnFault.TheVariants as fault;
+
+    ghost from_gives = { λ _ e. e ≡ fault.NoMemory };
+
+    fn from(_error: NoMemory) -> TurnFault {
+        TurnFault::NoMemory
+    }
+}
+
+impl TurnFault {
+    /// How a run ends that meets it.
+    pub fn status(self) -> Status
+        ensures { result ≡ status_of self }
+    {
+        match self {
+            TurnFault::DiskFault => Status::DiskFault,
+            TurnFault::SinkFault => Status::SinkFault,
+            TurnFault::NoMemory => Status::NoMemory,
+        }
+    }
+}
