@@ -19,8 +19,6 @@ mod serving;
 mod shape;
 mod status;
 mod strays;
-#[cfg(test)]
-mod tests;
 mod tree;
 mod turn_fault;
 mod words;
