@@ -1,8 +1,8 @@
 -- All that a run asks of the turn of a line: it writes whole lines, which report no number above that after its commit, and
 -- its commit fits and has a spelling.
-use Rattle.std.proofs.Common.{◌≡◌, ℕ, ◌+◌, ◌<◌, ◌≤◌, ◌^◌, List, [], ◌∷◌, length, codes, Option, Some, None, IfSome, refl, sym, subst, arith}
+use Rattle.std.proofs.Common.{◌≡◌, ℕ, ◌+◌, ◌<◌, ◌≤◌, ◌^◌, List, [], ◌∷◌, ◌++◌, codes, Option, Some, None, IfSome, refl, sym, ap, subst, ◌∙◌, arith}
 use Rattle.std.specs.List.{All}
-use Rattle.std.proofs.lemmas.List.Elements.{All-nil, All-cons}
+use Rattle.std.proofs.lemmas.List.Elements.{All-nil, All-cons, All-append}
 use Rattle.json.specs.Tree.{HasNumbers, ItemsHaveNumbers, MembersHaveNumbers}
 use Rattle.json.proofs.Printed.Decimals.{IsNumber-decimal}
 use Rattle.serde_json.specs.Data as json
@@ -14,17 +14,17 @@ use Rattle.value_model.specs.Data.{Data, Items, Members, Entries, members_of}
 use Rattle.json_model.specs.Printed.{printed_value, printed_items, printed_members, values_tree, fields_tree}
 use Rattle.record_codec.specs.Spelling.{HasSpelling}
 use Rattle.client_run.specs.Trees.{one}
-use Rattle.client_run.specs.Output.{line_of, ok_tree, refused_tree, document_tree}
-use Rattle.client_run.specs.Reported.{Reports, ReportsWithin, ReportedWithin}
+use Rattle.client_run.specs.Lines.{line_of, ok_tree, refused_tree, document_tree}
+use Rattle.client_run.specs.Reported.{Reports, ReportsWithin, ReportedWithin, lines_on, whole_lines}
 use Rattle.client_run.specs.State.{State, Fits, local_document}
-use Rattle.client_run.specs.Turn.{Turn, Past, turn, after}
+use Rattle.client_run.specs.Turn.{Turn, Past, turn, after, printed}
 use Rattle.client_run.specs.Turned.{IsSpelledReading}
 use Rattle.client_run.specs.declared.event.Event.TheVariants as event
 use Rattle.client_run.specs.declared.reading.Reading.{Reading}
 use Rattle.client_run.specs.declared.reading.Reading.TheVariants.{Line, Refused}
 use Rattle.client_run.specs.declared.refusal.Refusal.{Refusal}
 use Rattle.client_run.specs.declared.refusal.Refusal.TheVariants.{LineTooLong, BadLine, TooDeep, Unsupported, BadName}
-use Rattle.client_run.proofs.Breaks.{open_on, one_line, nothing_open}
+use Rattle.client_run.proofs.Breaks.{open_on, lines_append, open_append, one_line, nothing_open}
 use Rattle.client_run.proofs.Parsed.{no_report, ok_within}
 
 -- whole lines that report no number above this one
@@ -32,9 +32,26 @@ pub record IsWithin (most : ℕ) (output : List ℕ) : Type 0 where
   pub whole : open_on [] output ≡ []
   pub within : ReportedWithin most output
 
-pub record IsHonest (s : State) (reading : Reading) (t : Turn) : Type 0 where
-  pub output : IsWithin (after s t.commit).number t.output
+pub record IsHonest (root : Root) (number : ℕ) (s : State) (reading : Reading) (t : Turn) : Type 0 where
+  pub output : IsWithin (after s t.commit).number (printed root number t)
   pub commit : IsSpelledReading reading → IfSome t.commit (λ c. Fits s c × HasSpelling c)
+
+-- ---- lines, one after another
+
+within_nothing : (most : ℕ) → IsWithin most []
+within_nothing most = record { whole = refl; within = All-nil (ReportsWithin most) }
+
+within_append : (most : ℕ) (a b : List ℕ) → IsWithin most a → IsWithin most b → IsWithin most (a ++ b)
+within_append most a b first second = record {
+  whole = open_append [] a b ∙ ap (λ (l : List ℕ). open_on l b) first.whole ∙ second.whole;
+  within = subst (λ (ls : List (List ℕ)). All (ReportsWithin most) ls)
+      (ap (λ (l : List ℕ). whole_lines a ++ lines_on l b) (sym first.whole) ∙ sym (lines_append [] a b))
+      (All-append (ReportsWithin most) (whole_lines a) (whole_lines b) first.within second.within);
+}
+
+-- one line and no more
+within_one : (most : ℕ) (a : List ℕ) → IsWithin most a → IsWithin most (a ++ [])
+within_one most a first = within_append most a [] first (within_nothing most)
 
 -- ---- one line
 
@@ -87,17 +104,17 @@ document_within most root key (Some (field ∷ fields)) = quiet_within most (cod
 
 -- ---- each turn
 
-pub turn_honest : (root : Root) (s : State) (past : Past) (reading : Reading) → s.number ≤ 2 ^ 62 → s.next_batch ≤ s.number + 1 → length past + 1 < 2 ^ 64 → IsHonest s reading (turn root s past reading)
+pub turn_honest : (root : Root) (number : ℕ) (s : State) (past : Past) (reading : Reading) → s.number ≤ 2 ^ 62 → s.next_batch ≤ s.number + 1 → number < 2 ^ 64 → IsHonest root number s reading (turn root s past reading)
 unfolding turn
-turn_honest root s past (Refused refusal) few next long = record {
-  output = refused_within s.number (length past + 1) refusal long;
+turn_honest root number s past (Refused refusal) few next long = record {
+  output = within_one s.number (line_of (refused_tree number refusal)) (refused_within s.number number refusal long);
   commit = λ spelled. tt;
 }
-turn_honest root s past (Line (event.Write at write)) few next long = record {
-  output = line_within (s.number + 1) (ok_tree s.next_batch (s.number + 1)) (ok_within s.next_batch (s.number + 1) (omega (arith, few, next)) (omega (arith, few)));
+turn_honest root number s past (Line (event.Write at write)) few next long = record {
+  output = within_one (s.number + 1) (line_of (ok_tree s.next_batch (s.number + 1))) (line_within (s.number + 1) (ok_tree s.next_batch (s.number + 1)) (ok_within s.next_batch (s.number + 1) (omega (arith, few, next)) (omega (arith, few))));
   commit = λ spelled. ((refl, omega (arith, few)), record { id = omega (arith, few, next); at = spelled.0; write = spelled.1 });
 }
-turn_honest root s past (Line (event.Get key)) few next long = record {
-  output = document_within s.number root key (local_document s.batches key);
+turn_honest root number s past (Line (event.Get key)) few next long = record {
+  output = within_one s.number (line_of (document_tree root key (local_document s.batches key))) (document_within s.number root key (local_document s.batches key));
   commit = λ spelled. tt;
 }

@@ -11,8 +11,7 @@ use Rattle.disk_journal.specs.Opening.{IsCause}
 use Rattle.disk_journal.specs.declared.fault.OpenFault.{OpenFault}
 use Rattle.disk_journal.specs.declared.fault.OpenFault.TheVariants as fault
 use Rattle.disk_journal.proofs.Pairs.{gives_once, none_foreign}
-use Rattle.disk_journal.proofs.Openings.{blank_gives}
-use Rattle.client_run.specs.State.{State, start, Replays}
+use Rattle.client_run.specs.State.{State, start, Replays, LeadsTo, FindsState}
 use Rattle.client_run.specs.Store.{IsNoStore, IsRefused, Refuses}
 
 foreign_of : (file : FileId) (files : Files) → IsFirstForeign file files → IsForeign (files file)
@@ -24,10 +23,10 @@ not_blank_of Zero files foreign are = foreign.not_blank are.0
 not_blank_of One files foreign are = foreign.not_blank are.1
 
 pub refused_is_none : (file : FileId) (files : Files) → IsRefused file files → IsNoStore files
-refused_is_none file files (IsRefused.foreign is) s finds = none_foreign files 1 finds.payloads file finds.gives (foreign_of file files is)
+refused_is_none file files (IsRefused.foreign is) s finds = none_foreign files finds.generation finds.payloads file finds.gives (foreign_of file files is)
 refused_is_none file files (IsRefused.no_commits none goes_on g ps gives stuck) s finds =
-    let same = gives_once files g ps 1 finds.payloads gives finds.gives in
-    stuck s same.0 (subst (λ (l : List (List ℕ)). Replays start l s) (sym same.1) finds.replays)
+    let same = gives_once files g ps finds.generation finds.payloads gives finds.gives in
+    stuck s (subst (λ (n : ℕ). LeadsTo n ps s) (sym same.0) (subst (λ (l : List (List ℕ)). LeadsTo finds.generation l s) (sym same.1) finds.leads))
 
 -- a foreign file is no store, and stays
 foreign_refuses : (file : FileId) (old new : View) → IsFirstForeign file old.bytes → Opens old new → IsRefused file old.bytes × Stays old new
@@ -38,29 +37,23 @@ journal_refuses tells fault.DiskFault old new told cause opens = tt
 journal_refuses tells (fault.NotAStore file) old new told cause opens = foreign_refuses file old new (cause told) opens
 journal_refuses tells fault.NoMemory old new told cause opens = tt
 
+-- files that are blank find the empty state
+blank_finds : {files : Files} → AreBlank files → FindsState files start
+blank_finds are = record { generation = 1; payloads = []; gives = Gives.fresh are refl refl; leads = record { first = refl; replays = refl } }
+
 -- over files that are no store an opening changes nothing
 pub no_store_stays : {old new : View} → IsNoStore old.bytes → Opens old new → Stays old new
-no_store_stays none opens = opens.kept (λ are. none start (record { payloads = []; gives = Gives.fresh are refl refl; replays = refl }))
+no_store_stays none opens = opens.kept (λ are. none start (blank_finds are))
 
--- payloads of another generation than 1, or that lead nowhere, are no store's
-refuses_counting : (file : FileId) (old : View) (g : ℕ) (ps : List (List ℕ)) → Gives old.bytes g ps → GoesOn old.bytes file → ((s : State) → g ≡ 1 → Replays start ps s → ⊥) → IsRefused file old.bytes
-refuses_counting file old g ps gives goes_on stuck = IsRefused.no_commits (λ each. none_foreign old.bytes g ps each gives) goes_on g ps gives stuck
-
--- another generation than 1 is no store
-pub generation_refuses : (file : FileId) (old new : View) (g : ℕ) (ps : List (List ℕ)) → Gives old.bytes g ps → GoesOn old.bytes file → (g ≡ 1 → ⊥) → (AreBlank old.bytes → g ≡ 1) → Opens old new → IsRefused file old.bytes × Stays old new
-generation_refuses file old new g ps gives goes_on other first opens =
-    (refuses_counting file old g ps gives goes_on (λ s one replays. other one), opens.kept (λ are. other (first are)))
-
--- payloads that lead nowhere are no store
-pub payloads_refuse : (file : FileId) (old new : View) (g : ℕ) (ps : List (List ℕ)) → Gives old.bytes g ps → GoesOn old.bytes file → ((s : State) → Replays start ps s → ⊥) → Opens old new → IsRefused file old.bytes × Stays old new
-payloads_refuse file old new g ps gives goes_on none opens = (
-  refuses_counting file old g ps gives goes_on (λ s one replays. none s replays),
-  opens.kept (λ are. none start (subst (λ (l : List (List ℕ)). Replays start l start) (sym (blank_gives old.bytes g ps are gives).1) refl)),
-)
+-- payloads that lead to no state are no store's, and nothing changes
+pub stuck_refuses : (file : FileId) (old new : View) (g : ℕ) (ps : List (List ℕ)) → Gives old.bytes g ps → GoesOn old.bytes file → ((s : State) → LeadsTo g ps s → ⊥) → Opens old new → IsRefused file old.bytes × Stays old new
+stuck_refuses file old new g ps gives goes_on stuck opens =
+    let refused = IsRefused.no_commits (λ each. none_foreign old.bytes g ps each gives) goes_on g ps gives stuck in
+    (refused, no_store_stays (refused_is_none file old.bytes refused) opens)
 
 -- what a replay finds, in the words of an opening
-pub none_found : (ps qs : List (Vec ℕ Global)) → ps ≡ qs → ((s : State) → Replays start (map (λ p. p.items) ps) s → ⊥) → (s : State) → Replays start (map (λ p. p.items) qs) s → ⊥
-none_found ps qs same none s leads = none s (subst (λ (l : List (Vec ℕ Global)). Replays start (map (λ p. p.items) l) s) (sym same) leads)
+pub none_found : {ps qs : List (Vec ℕ Global)} {g : ℕ} → ps ≡ qs → ((s : State) → Replays start (map (λ p. p.items) ps) s → ⊥) → (s : State) → LeadsTo g (map (λ p. p.items) qs) s → ⊥
+none_found same none s leads = none s (subst (λ (l : List (Vec ℕ Global)). Replays start (map (λ p. p.items) l) s) (sym same) leads.replays)
 
 pub some_found : (ps qs : List (Vec ℕ Global)) (batches : List Batch) (n : ℕ) → ps ≡ qs → n ≡ length qs → Replays start (map (λ p. p.items) ps) (record { number = length ps; batches = batches; next_batch = length ps + 1 })
     → Replays start (map (λ p. p.items) qs) (record { number = n; batches = batches; next_batch = n + 1 })

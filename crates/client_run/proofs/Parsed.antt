@@ -16,7 +16,7 @@ use Rattle.serde_json.specs.Written.{outline, compact_text}
 use Rattle.serde_json.proofs.Numbers.{number_of-decimal}
 use Rattle.serde_json.proofs.Texts.{print-outline}
 use Rattle.client_run.specs.Trees.{one}
-use Rattle.client_run.specs.Output.{ok_tree}
+use Rattle.client_run.specs.Lines.{ok_tree}
 use Rattle.client_run.specs.Reported.{Reports, reported_in, commit_in, ALineReportsOnce}
 
 -- the tokens of a text that was printed

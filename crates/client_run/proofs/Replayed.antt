@@ -42,8 +42,8 @@ replays_once s (p ∷ ps) t u (c, has, is, fits, rest) (d, also_has, also_is, al
 -- two files find one state
 pub find_once : (files : Files) (a b : State) → FindsState files a → FindsState files b → a ≡ b
 find_once files a b first second =
-    let same = gives_once files 1 first.payloads 1 second.payloads first.gives second.gives in
-    replays_once start second.payloads a b (subst (λ (ps : List (List ℕ)). Replays start ps a) same.1 first.replays) second.replays
+    let same = gives_once files first.generation first.payloads second.generation second.payloads first.gives second.gives in
+    replays_once start second.payloads a b (subst (λ (ps : List (List ℕ)). Replays start ps a) same.1 first.leads.replays) second.leads.replays
 
 -- ---- a loop over the payloads
 

@@ -1,33 +1,34 @@
 -- The lines that were handled so far, and what they wrote and kept.
-use Rattle.std.proofs.Common.{◌≡◌, ◌⊎◌, inl, inr, ⊎_elim, ℕ, ◌+◌, ◌<◌, ◌≤◌, ◌^◌, zero, suc, Bool, IsTrue, List, [], ◌∷◌, ◌++◌, length, take, drop, get_or, Result, Ok, Err, IfOk, refl, sym, ap, subst, ◌∙◌, arith}
+use Rattle.std.proofs.Common.{◌≡◌, ◌⊎◌, inl, inr, ⊎_elim, ℕ, ◌+◌, ◌<◌, ◌≤◌, ◌^◌, suc, Bool, IsTrue, List, [], ◌∷◌, ◌++◌, length, take, drop, get_or, Result, Ok, Err, IfOk, refl, sym, ap, subst, ◌∙◌, arith}
 use Rattle.std.specs.List.{AllZip}
 use Rattle.std.proofs.lemmas.List.{take_more, length-append, length-drop, append_assoc, append-nil}
 use Rattle.std.proofs.Math.Seq.{drop-cons}
+use Rattle.host_api.specs.Counts.{RisesAt}
 use Rattle.host_api.specs.Items.{Item, Next, item_of, split}
+use Rattle.host_api.specs.declared.source.Line.{Line}
+use Rattle.host_api.specs.declared.source.Line.TheVariants.{Text, TooLong, End}
 use Rattle.host_api.specs.declared.host.FileId.{FileId}
 use Rattle.host_api.specs.Host.{Files, View, IsPart, IsOnDisk, Stays, Spans}
 use Rattle.host_api.proofs.Spans.{spans_none, spans_then}
 use Rattle.document_keys.specs.Names.{Root}
+use Rattle.client_run.specs.Causes.{Causes, IsServed}
+use Rattle.client_run.specs.Crash.{Keeps, FindsHandled, FindsNext, FindsAtEnd, Survives, Crashes}
+use Rattle.client_run.specs.Output.{Call, past_of, out_after, next_text, TookNext, EndsAs}
 use Rattle.client_run.specs.Reading.{Reads, AreRead}
-use Rattle.client_run.specs.Crash.{Keeps, FindsHandled, FindsNext, LeavesAtEnd, Survives, Crashes, commits_of, after_all}
-use Rattle.client_run.specs.State.{State, start, Replays, FindsState}
+use Rattle.client_run.specs.Run.{Ran, LeavesAll, Kept}
+use Rattle.client_run.specs.State.{State, FindsState}
 use Rattle.client_run.specs.Store.{IsStored, state_of}
-use Rattle.client_run.specs.Turn.{Past, run, one_more, turn, now, after, output_of, payloads_after, added}
-use Rattle.client_run.specs.Turned.{Turned, IsSpelledReading, Wrote, TurnCounts, status_of}
-use Rattle.client_run.specs.Taken.{TookNext}
-use Rattle.client_run.specs.Run.{Ends, Takes, Prints, Ran, Causes}
+use Rattle.client_run.specs.Turn.{Past, run, one_more, next_turn, turn, heard, now, after, printed, output_of, commits_of, after_all}
+use Rattle.client_run.specs.Turned.{StandsFor, Turned, IsSpelledReading, Writes, TurnCounts, state_then, heard_then, status_of}
 use Rattle.client_run.specs.declared.local_store.LocalStore.{LocalStore}
 use Rattle.client_run.specs.declared.reading.Reading.{Reading}
 use Rattle.client_run.specs.declared.turn_fault.TurnFault.{TurnFault}
 use Rattle.client_run.specs.declared.turn_fault.TurnFault.TheVariants as fault
 use Rattle.client_run.specs.declared.status.Status.{Status}
 use Rattle.client_run.specs.declared.status.Status.TheVariants.{Done, Usage, SourceFault, DiskFault, SinkFault, NoMemory, NotAStore, Budget}
-use Rattle.host_api.specs.Counts.{RisesAt}
-use Rattle.host_api.specs.declared.source.Line.{Line}
-use Rattle.host_api.specs.declared.source.Line.TheVariants.{Text, TooLong, End}
-use Rattle.client_run.proofs.Committed.{stored_gives, stored_reads}
+use Rattle.client_run.proofs.Committed.{stored_finds}
 use Rattle.client_run.proofs.Honest.{IsHonest, turn_honest}
-use Rattle.client_run.proofs.Surviving.{IsFine, fine_none, fine_more, leads, finds_from, finds_either, survives_at, survives_part}
+use Rattle.client_run.proofs.Surviving.{IsFine, fine_none, fine_more, survives_at, survives_part}
 
 run_more : (root : Root) (first : State) (past : Past) (xs : List Reading) (x : Reading) → run root first past (xs ++ x ∷ []) ≡ one_more root first (run root first past xs) x
 run_more root first past [] x = refl
@@ -42,36 +43,34 @@ pub record Starts (s : State) (v : View) : Type 0 where
   pub on_disk : (file : FileId) → IsOnDisk file v
   pub finds : (c : Files) → v.may_leave c → FindsState c s
 
-pub stored_starts : {store : LocalStore} {payloads : List (List ℕ)} {v : View} → IsStored store payloads v → Starts (state_of store) v
-stored_starts is = record { on_disk = is.open_with.on_disk; finds = λ c left. finds_from (stored_gives c is left) is.replays }
+stored_starts : {store : LocalStore} {s : State} {past : Past} {v : View} → IsStored store v → StandsFor store s past → Starts s v
+stored_starts is stands = record { on_disk = is.open_with.on_disk; finds = λ c left. subst (FindsState c) stands.state (stored_finds is c left) }
 
-pub record Serving (root : Root) (items : List Item) (s : State) (payloads : List (List ℕ)) (tells_out tells_files : Bool) (done : ℕ) (rest : List Item) (store : LocalStore) (old new : View) : Type 0 where
+pub record Serving (call : Call) (done : ℕ) (rest : List Item) (store : LocalStore) (old v : View) : Type 0 where
   pub readings : List Reading
   pub count : length readings ≡ done
-  pub read : AreRead root items readings
-  pub within : done ≤ length items
-  pub left_over : rest ≡ drop done items
-  pub at : state_of store ≡ now s (run root s [] readings)
-  pub wrote : IsTrue tells_out → new.out ≡ old.out ++ output_of (run root s [] readings)
-  pub kept : IsTrue tells_files → IsStored store (payloads_after payloads (run root s [] readings)) new
-  pub fine : IsFine s (run root s [] readings)
-  pub starts : IsTrue tells_files → Starts s old
-  pub time : IsTrue tells_out → IsTrue tells_files → Spans old new (Survives root items s old.out)
+  pub read : AreRead call.root call.items readings
+  pub within : done ≤ length call.items
+  pub left_over : rest ≡ drop done call.items
+  pub stands : StandsFor store (now call.first (past_of call readings)) (heard (past_of call readings))
+  pub wrote : IsTrue call.tells_out → v.out ≡ out_after call readings
+  pub fine : IsFine call.root call.first (past_of call readings)
+  pub starts : Starts call.first old
+  pub time : IsTrue call.tells_out → Spans old v (Survives call)
 
 -- nothing was handled yet
-pub served_none : (root : Root) (items : List Item) (payloads : List (List ℕ)) (tells_out tells_files : Bool) (store : LocalStore) (v : View) → (IsTrue tells_files → IsStored store payloads v) → Serving root items (state_of store) payloads tells_out tells_files 0 items store v v
-served_none root items payloads tells_out tells_files store v is = record {
+pub served_none : (call : Call) (store : LocalStore) (v : View) → call.out ≡ v.out → IsStored store v → StandsFor store call.first [] → Serving call 0 call.items store v v
+served_none call store v same is stands = record {
   readings = [];
   count = refl;
   read = tt;
   within = omega arith;
   left_over = refl;
-  at = refl;
-  wrote = λ told. sym (append-nil v.out);
-  kept = is;
-  fine = fine_none (state_of store);
-  starts = λ told. stored_starts (is told);
-  time = λ out files. spans_none v (Survives root items (state_of store) v.out);
+  stands = stands;
+  wrote = λ told. sym same ∙ sym (append-nil call.out);
+  fine = fine_none call.root call.first;
+  starts = stored_starts is stands;
+  time = λ out. spans_none v (Survives call);
 }
 
 -- the next item is read as this
@@ -112,191 +111,212 @@ next_from root items readings reading item rest read is one =
       left_over = sym others ∙ ap (λ k. drop k items) place;
     }
 
-pub next_read : {root : Root} {items : List Item} {s : State} {payloads : List (List ℕ)} {tells_out tells_files : Bool} {done : ℕ} {rest : List Item} {store : LocalStore} {old new : View} (it : Serving root items s payloads tells_out tells_files done rest store old new)
-    (line : Line) (text shown : List ℕ) (more : List Item) (reading : Reading) → (line ≡ End → ⊥) → shown ≡ text → Next (item_of line text) rest more → Reads root (item_of line shown) reading → Nexts root items it.readings reading more
-next_read {root} {items} {rest = rest} it line text shown more reading open_still same next one =
-    next_from root items it.readings reading (item_of line text) more it.read (ap (λ k. drop k items) it.count ∙ sym it.left_over ∙ next_item line text rest more open_still next) (subst (λ (t : List ℕ). Reads root (item_of line t) reading) same one)
+pub next_read : {call : Call} {done : ℕ} {rest : List Item} {store : LocalStore} {old v : View} (it : Serving call done rest store old v)
+    (line : Line) (text shown : List ℕ) (more : List Item) (reading : Reading) → (line ≡ End → ⊥) → shown ≡ text → Next (item_of line text) rest more → Reads call.root (item_of line shown) reading → Nexts call.root call.items it.readings reading more
+next_read {call} {rest = rest} it line text shown more reading open_still same next one =
+    next_from call.root call.items it.readings reading (item_of line text) more it.read (ap (λ k. drop k call.items) it.count ∙ sym it.left_over ∙ next_item line text rest more open_still next) (subst (λ (t : List ℕ). Reads call.root (item_of line t) reading) same one)
 
-took_next : {root : Root} {items : List Item} {readings : List Reading} {reading : Reading} {left : List ℕ} → Nexts root items readings reading (split left) → TookNext (length readings) items left
+took_next : {call : Call} {readings : List Reading} {reading : Reading} {left : List ℕ} → Nexts call.root call.items readings reading (split left) → TookNext call readings left
 took_next nexts = record { below = nexts.below; others = nexts.left_over }
 
 -- the source was read to its end
-pub all_done : {root : Root} {items : List Item} {s : State} {payloads : List (List ℕ)} {tells_out tells_files : Bool} {done : ℕ} {rest : List Item} {store : LocalStore} {old new : View} → Serving root items s payloads tells_out tells_files done rest store old new
-    → (line : Line) (text : List ℕ) (more : List Item) → line ≡ End → Next (item_of line text) rest more → done ≡ length items
-all_done {items = items} {done = done} {rest = rest} it line text more is next =
+pub all_done : {call : Call} {done : ℕ} {rest : List Item} {store : LocalStore} {old v : View} → Serving call done rest store old v
+    → (line : Line) (text : List ℕ) (more : List Item) → line ≡ End → Next (item_of line text) rest more → done ≡ length call.items
+all_done {call} {done = done} {rest = rest} it line text more is next =
     let ended = subst (λ (l : Line). Next (item_of l text) rest more) is next in
-    let none : length (drop done items) ≡ 0 = ap length (sym it.left_over ∙ ended.0) in
-    omega (arith, length-drop done items, none, it.within)
+    let none : length (drop done call.items) ≡ 0 = ap length (sym it.left_over ∙ ended.0) in
+    omega (arith, length-drop done call.items, none, it.within)
 
-pub none_left : {root : Root} {items : List Item} {s : State} {payloads : List (List ℕ)} {tells_out tells_files : Bool} {done : ℕ} {rest : List Item} {store : LocalStore} {old new : View} → Serving root items s payloads tells_out tells_files done rest store old new
-    → (line : Line) (text : List ℕ) (more : List Item) → line ≡ End → Next (item_of line text) rest more → more ≡ drop done items
+pub none_left : {call : Call} {done : ℕ} {rest : List Item} {store : LocalStore} {old v : View} → Serving call done rest store old v
+    → (line : Line) (text : List ℕ) (more : List Item) → line ≡ End → Next (item_of line text) rest more → more ≡ drop done call.items
 none_left {rest = rest} it line text more is next =
     let ended = subst (λ (l : Line). Next (item_of l text) rest more) is next in
     ended.1 ∙ sym ended.0 ∙ it.left_over
 
+-- what was taken of so many items, as of those that were handled
+pub taken_as : {call : Call} {done : ℕ} {rest : List Item} {store : LocalStore} {old v : View} (it : Serving call done rest store old v) {more : List Item} → more ≡ drop done call.items → more ≡ drop (length it.readings) call.items
+taken_as {call} it is = is ∙ ap (λ k. drop k call.items) (sym it.count)
+
 -- an item was taken
-pub took_one : {root : Root} {items : List Item} {s : State} {payloads : List (List ℕ)} {tells_out tells_files : Bool} {done : ℕ} {rest : List Item} {store : LocalStore} {old new : View} → Serving root items s payloads tells_out tells_files done rest store old new
-    → (line : Line) (text : List ℕ) (left : List ℕ) → (line ≡ End → ⊥) → Next (item_of line text) rest (split left) → TookNext done items left
-took_one {items = items} {done = done} {rest = rest} it line text left open_still next =
-    let front : drop done items ≡ item_of line text ∷ split left = sym it.left_over ∙ next_item line text rest (split left) open_still next in
-    let below = below_of items done (item_of line text) (split left) front in
-    let cut = drop-cons items done (item_of line text) below in
-    let others : drop (suc done) items ≡ split left = cc in
-    let place : suc done ≡ done + 1 = omega arith in
-    record { below = below; others = sym others ∙ ap (λ k. drop k items) place }
+pub took_one : {call : Call} {done : ℕ} {rest : List Item} {store : LocalStore} {old v : View} (it : Serving call done rest store old v)
+    → (line : Line) (text : List ℕ) (left : List ℕ) → (line ≡ End → ⊥) → Next (item_of line text) rest (split left) → TookNext call it.readings left
+took_one {call} {done = done} {rest = rest} it line text left open_still next =
+    let front : drop done call.items ≡ item_of line text ∷ split left = sym it.left_over ∙ next_item line text rest (split left) open_still next in
+    let below = below_of call.items done (item_of line text) (split left) front in
+    let cut = drop-cons call.items done (item_of line text) below in
+    let others : drop (suc done) call.items ≡ split left = cc in
+    let place : suc done ≡ length it.readings + 1 = omega (arith, it.count) in
+    record { below = omega (arith, below, it.count); others = sym others ∙ ap (λ k. drop k call.items) place }
 
 -- nothing was done
 pub stays_none : (v : View) → Stays v v
 stays_none v = record { bytes = refl; crash = λ c left. left; time = spans_none v (λ o c. (o ≡ v.out) × v.may_leave c) }
 
 -- the files find the state after every handled item
-finds_handled : {root : Root} {items : List Item} {s : State} {payloads : List (List ℕ)} {tells_out tells_files : Bool} {done : ℕ} {rest : List Item} {store : LocalStore} {old new : View} (it : Serving root items s payloads tells_out tells_files done rest store old new) (c : Files)
-    → FindsState c (now s (run root s [] it.readings)) → FindsHandled root s it.readings c
+finds_handled : {call : Call} {done : ℕ} {rest : List Item} {store : LocalStore} {old v : View} (it : Serving call done rest store old v) (c : Files) → FindsState c (now call.first (past_of call it.readings)) → FindsHandled call it.readings c
 finds_handled it c finds = subst (FindsState c) it.fine.state finds
 
 -- a run that stops between two items
-pub stops : {H : Type 0} (view : H → View) (first : H) {root : Root} {items : List Item} {s : State} {payloads : List (List ℕ)} {tells_out tells_files : Bool} {done : ℕ} {rest : List Item} {store : LocalStore} {new : View} (budget : ℕ) (how : Status) (left : List ℕ) → Serving root items s payloads tells_out tells_files done rest store (view first) new
-    → Ends how done (length items) budget → Takes how done items left → ((readings : List Reading) → new.out ≡ (view first).out ++ output_of (run root s [] readings) → Prints how root items s readings (view first).out new.out)
-    → ((readings : List Reading) (c : Files) → FindsHandled root s readings c → LeavesAtEnd how root items s readings c) → Ran view root items s payloads tells_out tells_files budget how left (view first) new
-stops view first {root} {items} {s} budget how left it ends takes prints leaves = record {
+pub stops : {H : Type 0} (view : H → View) (first : H) {call : Call} {done : ℕ} {rest : List Item} {store : LocalStore} {new : View} (how : Status) (left : List ℕ) (it : Serving call done rest store (view first) new) → IsStored store new
+    → EndsAs how call it.readings left new.out → ((c : Files) → FindsHandled call it.readings c → FindsAtEnd how call it.readings c) → Ran view call how left (view first) new
+stops view first {call} how left it is ends leaves = record {
   readings = it.readings;
   read = it.read;
-  ends = subst (λ (n : ℕ). Ends how n (length items) budget) (sym it.count) ends;
-  taken = subst (λ (n : ℕ). Takes how n items left) (sym it.count) takes;
-  output = λ told. prints it.readings (it.wrote told);
-  kept = λ told which. stored_reads (it.kept told);
-  crash = λ out files. inl (record {
+  within = omega (arith, it.within, it.count);
+  ends = ends;
+  crash = λ out. inl (record {
     host = first;
     out = refl;
     before = stays_none (view first);
-    on_disk = (it.starts files).on_disk;
-    at_once = (it.starts files).finds;
-    later = it.time out files;
-    at_end = λ c now. leaves it.readings c (finds_handled it c (subst (FindsState c) it.at (finds_from (stored_gives c (it.kept files) now) (it.kept files).replays)));
+    on_disk = it.starts.on_disk;
+    at_once = it.starts.finds;
+    later = it.time out;
+    at_end = λ c left. leaves c (finds_handled it c (subst (FindsState c) it.stands.state (stored_finds is c left)));
   });
 }
 
+-- the files read as every handled item left them
+pub leaves_all : {call : Call} {done : ℕ} {rest : List Item} {store : LocalStore} {old v : View} (it : Serving call done rest store old v) (count : ℕ) → done ≡ count → FindsState v.bytes (state_of store) → LeavesAll count call v.bytes
+leaves_all {v = v} it count many reads = record {
+  readings = it.readings;
+  read = it.read;
+  many = it.count ∙ many;
+  finds = finds_handled it v.bytes (subst (FindsState v.bytes) it.stands.state reads);
+}
+
 -- what the call that handled the next item says of it
-pub record Handles (root : Root) (done : ℕ) (reading : Reading) (store : LocalStore) (result : Result LocalStore TurnFault) (tells_out tells_files : Bool) (mid new : View) : Type 0 where
-  pub state : IfOk result (λ next. (past : Past) → state_of next ≡ after (state_of store) (turn root (state_of store) past reading).commit)
-  pub out : IsTrue tells_out → (past : Past) → length past + 1 ≡ done + 1 → Wrote (turn root (state_of store) past reading).output result mid.out new.out
-  pub files : IsTrue tells_files → (payloads : List (List ℕ)) → IsStored store payloads mid → (past : Past) → length past + 1 ≡ done + 1 → Turned payloads (turn root (state_of store) past reading) result mid new
+pub record Handles (root : Root) (number : ℕ) (reading : Reading) (store : LocalStore) (result : Result LocalStore TurnFault) (tells_out : Bool) (mid new : View) : Type 0 where
+  pub stands : IfOk result (λ next. (s : State) (past : Past) → StandsFor store s past → StandsFor next (state_then root s past reading) (heard_then root s past reading))
+  pub out : IsTrue tells_out → (s : State) (past : Past) → StandsFor store s past → Writes (printed root number (turn root s past reading)) result mid.out new.out
+  pub files : (s : State) (past : Past) → StandsFor store s past → Turned s (state_then root s past reading) (printed root number (turn root s past reading)) mid new
 
-past_length : (root : Root) (s : State) (readings : List Reading) (done : ℕ) → length readings ≡ done → length (run root s [] readings) + 1 ≡ done + 1
-past_length root s readings done count = omega (arith, run_length root s [] readings, count)
+past_length : (call : Call) (readings : List Reading) (done : ℕ) → length readings ≡ done → length (past_of call readings) ≡ done
+past_length call readings done count = omega (arith, run_length call.root call.first [] readings, count)
 
-store_honest : (root : Root) (store : LocalStore) (past : Past) (reading : Reading) → length past + 1 < 2 ^ 64 → IsHonest (state_of store) reading (turn root (state_of store) past reading)
-store_honest root store past reading long = turn_honest root (state_of store) past reading (omega (arith, store.counted, store.within)) store.next long
+-- the next item's turn, and what is known of it
+record NextTurn (call : Call) (readings : List Reading) (reading : Reading) (mid new : View) : Type 0 where
+  pub fine : IsFine call.root call.first (one_more call.root call.first (past_of call readings) reading)
+  pub turned : Turned (now call.first (past_of call readings)) (now call.first (one_more call.root call.first (past_of call readings) reading)) (next_text call readings reading) mid new
 
--- the turn of the next item, and what is known of it
-pub record NextTurn (root : Root) (s : State) (payloads : List (List ℕ)) (tells_files : Bool) (readings : List Reading) (reading : Reading) (result : Result LocalStore TurnFault) (mid new : View) : Type 0 where
-  pub fine : IsFine s (one_more root s (run root s [] readings) reading)
-  pub turned : IsTrue tells_files → Turned (payloads_after payloads (run root s [] readings)) (turn root (now s (run root s [] readings)) (run root s [] readings) reading) result mid new
-  pub before : IsTrue tells_files → Replays start (payloads_after payloads (run root s [] readings)) (now s (run root s [] readings))
-  pub behind : IsTrue tells_files → Replays start (payloads_after payloads (one_more root s (run root s [] readings) reading)) (now s (one_more root s (run root s [] readings) reading))
-
-next_turn : {root : Root} {items : List Item} {s : State} {payloads : List (List ℕ)} {tells_out tells_files : Bool} {done : ℕ} {rest : List Item} {store : LocalStore} {old mid new : View} {result : Result LocalStore TurnFault} (reading : Reading) (it : Serving root items s payloads tells_out tells_files done rest store old mid)
-    → IsSpelledReading reading → done + 1 < 2 ^ 64 → Handles root done reading store result tells_out tells_files mid new → NextTurn root s payloads tells_files it.readings reading result mid new
-next_turn {root} {s = s} {payloads = payloads} {done = done} {store = store} {mid = mid} {new = new} {result = result} reading it spelled long handles =
-    let past = run root s [] it.readings in
-    let count = past_length root s it.readings done it.count in
-    let honest : IsHonest (now s past) reading (turn root (now s past) past reading) = subst (λ (t : State). IsHonest t reading (turn root t past reading)) it.at (store_honest root store past reading (omega (arith, count, long))) in
+next_turned : {call : Call} {done : ℕ} {rest : List Item} {store : LocalStore} {old mid new : View} {result : Result LocalStore TurnFault} (reading : Reading) (it : Serving call done rest store old mid)
+    → done + 1 < 2 ^ 64 → Handles call.root (done + 1) reading store result call.tells_out mid new → NextTurn call it.readings reading mid new
+next_turned {call} {done = done} {store = store} {mid = mid} {new = new} reading it few handles =
+    let past = past_of call it.readings in
+    let long : length past + 1 ≡ done + 1 = ap (λ n. n + 1) (past_length call it.readings done it.count) in
+    let number : (now call.first past).number ≡ store.number = ap (λ (t : State). t.number) (sym it.stands.state) in
+    let next : (now call.first past).next_batch ≡ store.next_batch = ap (λ (t : State). t.next_batch) (sym it.stands.state) in
+    let honest = turn_honest call.root (length past + 1) (now call.first past) (heard past) reading (omega (arith, number, store.counted, store.within)) (omega (arith, number, next, store.next)) (omega (arith, long, few)) in
     record {
-      fine = fine_more root s past reading honest it.fine;
-      turned = λ told. subst (λ (t : State). Turned (payloads_after payloads past) (turn root t past reading) result mid new) it.at (handles.files told (payloads_after payloads past) (it.kept told) past count);
-      before = λ told. subst (λ (t : State). Replays start (payloads_after payloads past) t) it.at (it.kept told).replays;
-      behind = λ told. leads (payloads_after payloads past) (now s past) (turn root (now s past) past reading).commit (subst (λ (t : State). Replays start (payloads_after payloads past) t) it.at (it.kept told).replays) (honest.commit spelled);
+      fine = fine_more call.root call.first past reading honest it.fine;
+      turned = subst (λ (n : ℕ). Turned (now call.first past) (now call.first (one_more call.root call.first past reading)) (printed call.root n (next_turn call.root call.first past reading)) mid new) (sym long) (handles.files (now call.first past) (heard past) it.stands);
     }
 
 -- a crash at any moment until the item was handled, or met a fault
-turn_spans : {root : Root} {items : List Item} {s : State} {payloads : List (List ℕ)} {tells_out tells_files : Bool} {done : ℕ} {rest more : List Item} {store : LocalStore} {old mid new : View} {result : Result LocalStore TurnFault} (reading : Reading) (it : Serving root items s payloads tells_out tells_files done rest store old mid)
-    → Nexts root items it.readings reading more → NextTurn root s payloads tells_files it.readings reading result mid new → IsTrue tells_out → IsTrue tells_files → Spans old new (Survives root items s old.out)
-turn_spans {root} {items} {s} {payloads} {old = old} {mid = mid} reading it nexts next out files =
-    let past = run root s [] it.readings in
-    let t = turn root (now s past) past reading in
-    spans_then (Survives root items s old.out) (it.time out files) (next.turned files).time (λ o c h. h) (λ o c h. ⊎_elim
-    (λ early. survives_at root items s old.out o c it.readings it.read it.fine (early.0 ∙ it.wrote out) (finds_from early.1 (next.before files)))
-    (λ late. survives_part root items s old.out o c (it.readings ++ reading ∷ []) (one_more root s past reading) (output_of past) t.output nexts.read (run_more root s [] it.readings reading) next.fine refl (subst (λ (l : List ℕ). IsPart t.output l o) (it.wrote out) late.0) (finds_from late.1 (next.behind files)))
+turn_spans : {call : Call} {done : ℕ} {rest more : List Item} {store : LocalStore} {old mid new : View} (reading : Reading) (it : Serving call done rest store old mid)
+    → Nexts call.root call.items it.readings reading more → NextTurn call it.readings reading mid new → IsTrue call.tells_out → Spans old new (Survives call)
+turn_spans {call} {mid = mid} reading it nexts next out =
+    let past = past_of call it.readings in
+    spans_then (Survives call) (it.time out) next.turned.time (λ o c h. h) (λ o c h. ⊎_elim
+    (λ early. survives_at call o c it.readings it.read it.fine (early.0 ∙ it.wrote out) early.1)
+    (λ late. survives_part call o c (it.readings ++ reading ∷ []) (one_more call.root call.first past reading) (output_of call.root past) (next_text call it.readings reading) nexts.read (run_more call.root call.first [] it.readings reading) next.fine refl (subst (λ (l : List ℕ). IsPart (next_text call it.readings reading) l o) (it.wrote out) late.0) late.1)
     h)
 
 -- one item more was handled
-pub served_more : {root : Root} {items : List Item} {s : State} {payloads : List (List ℕ)} {tells_out tells_files : Bool} {done : ℕ} {rest more : List Item} {store next : LocalStore} {old mid new : View} (reading : Reading) (it : Serving root items s payloads tells_out tells_files done rest store old mid)
-    → Nexts root items it.readings reading more → IsSpelledReading reading → done + 1 < 2 ^ 64 → Handles root done reading store (Ok next) tells_out tells_files mid new → Serving root items s payloads tells_out tells_files (done + 1) more next old new
-served_more {root} {items} {s} {payloads} {done = done} {store = store} {next = next} {old = old} {mid = mid} {new = new} reading it nexts spelled few handles =
-    let past = run root s [] it.readings in
-    let grows : run root s [] (it.readings ++ reading ∷ []) ≡ one_more root s past reading = run_more root s [] it.readings reading in
-    let long = past_length root s it.readings done it.count in
-    let turned = next_turn reading it spelled few handles in
+pub served_more : {call : Call} {done : ℕ} {rest more : List Item} {store next : LocalStore} {old mid new : View} (reading : Reading) (it : Serving call done rest store old mid)
+    → Nexts call.root call.items it.readings reading more → done + 1 < 2 ^ 64 → Handles call.root (done + 1) reading store (Ok next) call.tells_out mid new → Serving call (done + 1) more next old new
+served_more {call} {done = done} {next = next} {old = old} {mid = mid} {new = new} reading it nexts few handles =
+    let past = past_of call it.readings in
+    let grows : past_of call (it.readings ++ reading ∷ []) ≡ one_more call.root call.first past reading = run_more call.root call.first [] it.readings reading in
+    let long : length past + 1 ≡ done + 1 = ap (λ n. n + 1) (past_length call it.readings done it.count) in
+    let turned = next_turned reading it few handles in
+    let text = λ (n : ℕ). printed call.root n (next_turn call.root call.first past reading) in
     record {
       readings = it.readings ++ reading ∷ [];
       count = length-append it.readings (reading ∷ []) ∙ ap (λ n. n + 1) it.count;
       read = nexts.read;
       within = omega (arith, nexts.below, it.count);
-      left_over = nexts.left_over ∙ ap (λ n. drop (n + 1) items) it.count;
-      at = handles.state past ∙ ap (λ t. after t (turn root t past reading).commit) it.at ∙ sym (ap (now s) grows);
-      wrote = λ told. handles.out told past long ∙ ap (λ o. o ++ (turn root (state_of store) past reading).output) (it.wrote told) ∙ append_assoc old.out (output_of past) (turn root (state_of store) past reading).output
-          ∙ ap (λ t. old.out ++ (output_of past ++ (turn root t past reading).output)) it.at ∙ ap (λ p. old.out ++ output_of p) (sym grows);
-      kept = λ told. subst (λ (l : List (List ℕ)). IsStored next l new) (ap (payloads_after payloads) (sym grows)) (turned.turned told).done;
-      fine = subst (IsFine s) (sym grows) turned.fine;
+      left_over = nexts.left_over ∙ ap (λ n. drop (n + 1) call.items) it.count;
+      stands = subst (λ (p : Past). StandsFor next (now call.first p) (heard p)) (sym grows) (handles.stands (now call.first past) (heard past) it.stands);
+      wrote = λ told. handles.out told (now call.first past) (heard past) it.stands ∙ ap (λ o. o ++ text (done + 1)) (it.wrote told) ∙ append_assoc call.out (output_of call.root past) (text (done + 1))
+          ∙ ap (λ (n : ℕ). call.out ++ (output_of call.root past ++ text n)) (sym long) ∙ ap (λ (p : Past). call.out ++ output_of call.root p) (sym grows);
+      fine = subst (IsFine call.root call.first) (sym grows) turned.fine;
       starts = it.starts;
       time = turn_spans reading it nexts turned;
     }
 
 -- what a crash leaves of a run that stops within an item
-crashes_within : {H : Type 0} (view : H → View) (first : H) {root : Root} {items : List Item} {s : State} {payloads : List (List ℕ)} {tells_out tells_files : Bool} {done : ℕ} {rest more : List Item} {store : LocalStore} {mid new : View} {result : Result LocalStore TurnFault} (how : Status) (left : List ℕ) (reading : Reading) (it : Serving root items s payloads tells_out tells_files done rest store (view first) mid)
-    → Nexts root items it.readings reading more → NextTurn root s payloads tells_files it.readings reading result mid new
-    → ((c : Files) → FindsHandled root s it.readings c ⊎ FindsNext root items s it.readings c → LeavesAtEnd how root items s it.readings c)
-    → IsTrue tells_out → IsTrue tells_files → Crashes view how root items s it.readings left (view first) new
-crashes_within view first {root} {items} {s} {payloads} how left reading it nexts next leaves out files =
-    let past = run root s [] it.readings in
+crashes_within : {H : Type 0} (view : H → View) (first : H) {call : Call} {done : ℕ} {rest more : List Item} {store : LocalStore} {mid new : View} (how : Status) (left : List ℕ) (reading : Reading) (it : Serving call done rest store (view first) mid)
+    → Nexts call.root call.items it.readings reading more → NextTurn call it.readings reading mid new
+    → ((c : Files) → FindsHandled call it.readings c ⊎ FindsNext call it.readings c → FindsAtEnd how call it.readings c)
+    → IsTrue call.tells_out → Crashes view how call it.readings left (view first) new
+crashes_within view first {call} how left reading it nexts next leaves out =
+    let past = past_of call it.readings in
     inl (record {
       host = first;
       out = refl;
       before = stays_none (view first);
-      on_disk = (it.starts files).on_disk;
-      at_once = (it.starts files).finds;
-      later = turn_spans reading it nexts next out files;
+      on_disk = it.starts.on_disk;
+      at_once = it.starts.finds;
+      later = turn_spans reading it nexts next out;
       at_end = λ c now_left. leaves c (⊎_elim
           (λ early. inl (finds_handled it c early))
-          (λ late. inr (record { reading = reading; read = nexts.read; finds = subst (FindsState c) (next.fine.state ∙ ap (λ (p : Past). after_all s (commits_of p)) (sym (run_more root s [] it.readings reading))) late }))
-          (finds_either (payloads_after payloads past) (now s past) (turn root (now s past) past reading).commit c (next.before files) (next.behind files) ((next.turned files).crash c now_left)));
+          (λ late. inr (record { reading = reading; read = nexts.read; finds = subst (FindsState c) (next.fine.state ∙ ap (λ (p : Past). after_all call.first (commits_of p)) (sym (run_more call.root call.first [] it.readings reading))) late }))
+          (next.turned.crash c now_left));
     })
 
 -- a run that stops within an item
-pub stops_within : {H : Type 0} (view : H → View) (first : H) {root : Root} {items : List Item} {s : State} {payloads : List (List ℕ)} {tells_out tells_files : Bool} {done : ℕ} {rest : List Item} {store : LocalStore} {mid new : View} (budget : ℕ) (why : TurnFault) (left : List ℕ) (reading : Reading) (it : Serving root items s payloads tells_out tells_files done rest store (view first) mid)
-    → Nexts root items it.readings reading (split left) → IsSpelledReading reading → done + 1 < 2 ^ 64 → Handles root done reading store (Err why) tells_out tells_files mid new → done < budget → Ran view root items s payloads tells_out tells_files budget (status_of why) left (view first) new
-stops_within view first {root} {items} {s} {done = done} budget fault.DiskFault left reading it nexts spelled few handles below = record {
+pub stops_within : {H : Type 0} (view : H → View) (first : H) {call : Call} {done : ℕ} {rest : List Item} {store : LocalStore} {mid new : View} (why : TurnFault) (left : List ℕ) (reading : Reading) (it : Serving call done rest store (view first) mid)
+    → Nexts call.root call.items it.readings reading (split left) → done + 1 < 2 ^ 64 → Handles call.root (done + 1) reading store (Err why) call.tells_out mid new → done < call.budget → Ran view call (status_of why) left (view first) new
+stops_within view first {call} {done = done} {new = new} fault.DiskFault left reading it nexts few handles below = record {
   readings = it.readings;
   read = it.read;
-  ends = (omega (arith, nexts.below), omega (arith, below, it.count));
-  taken = inl (took_next nexts);
-  output = λ told. handles.out told (run root s [] it.readings) (past_length root s it.readings done it.count) ∙ it.wrote told;
-  kept = λ told which. ⊎_elim (λ same. cc) (λ same. cc) which;
-  crash = crashes_within view first DiskFault left reading it nexts (next_turn reading it spelled few handles) (λ c h. h);
-}
-stops_within view first {root} {items} {s} {done = done} budget fault.NoMemory left reading it nexts spelled few handles below = record {
-  readings = it.readings;
-  read = it.read;
-  ends = (omega (arith, nexts.below), omega (arith, below, it.count));
-  taken = inr (took_next nexts);
-  output = λ told. handles.out told (run root s [] it.readings) (past_length root s it.readings done it.count) ∙ it.wrote told;
-  kept = λ told which. ⊎_elim (λ same. cc) (λ same. cc) which;
-  crash = crashes_within view first NoMemory left reading it nexts (next_turn reading it spelled few handles) (λ c h. h);
-}
-stops_within view first {root} {items} {s} {done = done} {mid = mid} {new = new} budget fault.SinkFault left reading it nexts spelled few handles below = record {
-  readings = it.readings;
-  read = it.read;
-  ends = (nexts.below, omega (arith, below, it.count));
-  taken = took_next nexts;
-  output = λ told. record {
-    reading = reading;
-    read = nexts.read;
-    part = subst (λ (o : List ℕ). IsPart (turn root (now s (run root s [] it.readings)) (run root s [] it.readings) reading).output o new.out) (it.wrote told)
-        (subst (λ (t : State). IsPart (turn root t (run root s [] it.readings) reading).output mid.out new.out) it.at (handles.out told (run root s [] it.readings) (past_length root s it.readings done it.count)));
+  within = omega (arith, it.within, it.count);
+  ends = record {
+    handled = omega (arith, below, it.count);
+    taken = inl (took_next nexts);
+    written = λ told. handles.out told (now call.first (past_of call it.readings)) (heard (past_of call it.readings)) it.stands ∙ it.wrote told;
   };
-  kept = λ told which. ⊎_elim (λ same. cc) (λ same. cc) which;
-  crash = crashes_within view first SinkFault left reading it nexts (next_turn reading it spelled few handles) (λ c h. h);
+  crash = crashes_within view first DiskFault left reading it nexts (next_turned reading it few handles) (λ c h. h);
 }
+stops_within view first {call} {done = done} {new = new} fault.NoMemory left reading it nexts few handles below = record {
+  readings = it.readings;
+  read = it.read;
+  within = omega (arith, it.within, it.count);
+  ends = record {
+    handled = omega (arith, below, it.count);
+    taken = inr (took_next nexts);
+    written = λ told. handles.out told (now call.first (past_of call it.readings)) (heard (past_of call it.readings)) it.stands ∙ it.wrote told;
+  };
+  crash = crashes_within view first NoMemory left reading it nexts (next_turned reading it few handles) (λ c h. h);
+}
+stops_within view first {call} {done = done} {new = new} fault.SinkFault left reading it nexts few handles below = record {
+  readings = it.readings;
+  read = it.read;
+  within = omega (arith, it.within, it.count);
+  ends = record {
+    handled = omega (arith, below, it.count);
+    taken = took_next nexts;
+    written = record {
+      reading = reading;
+      read = nexts.read;
+      part = λ told.
+          let long : length (past_of call it.readings) + 1 ≡ done + 1 = ap (λ n. n + 1) (past_length call it.readings done it.count) in
+          subst (λ (n : ℕ). IsPart (printed call.root n (next_turn call.root call.first (past_of call it.readings) reading)) (out_after call it.readings) new.out) (sym long)
+          (subst (λ (o : List ℕ). IsPart (printed call.root (done + 1) (next_turn call.root call.first (past_of call it.readings) reading)) o new.out) (it.wrote told) (handles.out told (now call.first (past_of call it.readings)) (heard (past_of call it.readings)) it.stands));
+    };
+  };
+  crash = crashes_within view first SinkFault left reading it nexts (next_turned reading it few handles) (λ c h. h);
+}
+
+pub nothing_kept : (why : TurnFault) (call : Call) (files : Files) → Kept (status_of why) call files
+nothing_kept fault.DiskFault call files = tt
+nothing_kept fault.SinkFault call files = tt
+nothing_kept fault.NoMemory call files = tt
+
+pub is_served : (why : TurnFault) → IsServed (status_of why)
+is_served fault.DiskFault = tt
+is_served fault.SinkFault = tt
+is_served fault.NoMemory = tt
 
 -- ---- counts of faults
 
@@ -337,30 +357,15 @@ causes_within fault.NoMemory source same counts = record {
 pub same_then : {old mid new : View} {next : LocalStore} → SameFaults old mid → TurnCounts (Ok next) mid new → SameFaults old new
 same_then first counts = record { disk = counts.disk.stays (λ is. cc) ∙ first.disk; sink = counts.sink.stays (λ is. cc) ∙ first.sink }
 
--- so many lines
-some_past : (root : Root) (s : State) (reading : Reading) (n : ℕ) → (past : Past) × (length past ≡ n)
-some_past root s reading zero = ([], refl)
-some_past root s reading (suc n) = let p = some_past root s reading n in (record { state = s; reading = reading; turn = turn root s [] reading } ∷ p.0, ap suc p.1)
-
--- the store stands for some payloads still
-pub stored_still : (root : Root) (done : ℕ) (reading : Reading) (store next : LocalStore) (tells_out tells_files : Bool) (mid new : View) → IsTrue tells_files → (payloads : List (List ℕ)) → IsStored store payloads mid → Handles root done reading store (Ok next) tells_out tells_files mid new → (payloads : List (List ℕ)) × IsStored next payloads new
-stored_still root done reading store next tells_out tells_files mid new told payloads is handles =
-    let p = some_past root (state_of store) reading done in
-    (added payloads (turn root (state_of store) p.0 reading).commit, (handles.files told payloads is p.0 (ap (λ n. n + 1) p.1)).done)
-
 -- a store that is open keeps its files
-pub keeps_stored : (store : LocalStore) (v : View) → v.may_leave v.bytes → (payloads : List (List ℕ)) × IsStored store payloads v → Keeps v
-keeps_stored store v reads is = record { finds = λ c left. (state_of store, finds_from (stored_gives c is.1 left) is.1.replays); reads = reads }
+pub keeps_stored : {store : LocalStore} {v : View} → v.may_leave v.bytes → IsStored store v → Keeps v
+keeps_stored {store} reads is = record { finds = λ c left. (state_of store, stored_finds is c left); reads = reads }
 
 -- so does a turn that met a fault
-pub keeps_within : (root : Root) (done : ℕ) (reading : Reading) (store : LocalStore) (why : TurnFault) (tells_out tells_files : Bool) (mid new : View) → IsTrue tells_files → new.may_leave new.bytes → (payloads : List (List ℕ)) × IsStored store payloads mid → IsSpelledReading reading → done + 1 < 2 ^ 64
-    → Handles root done reading store (Err why) tells_out tells_files mid new → Keeps new
-keeps_within root done reading store why tells_out tells_files mid new told reads is spelled few handles =
-    let p = some_past root (state_of store) reading done in
-    let c = (turn root (state_of store) p.0 reading).commit in
-    let honest = store_honest root store p.0 reading (omega (arith, p.1, few)) in
+pub keeps_within : (root : Root) (number : ℕ) (reading : Reading) (store : LocalStore) (why : TurnFault) (tells_out : Bool) (mid new : View) → new.may_leave new.bytes → Handles root number reading store (Err why) tells_out mid new → Keeps new
+keeps_within root number reading store why tells_out mid new reads handles =
+    let turned = handles.files (state_of store) [] (record { state = refl }) in
     record {
-      finds = λ files left. ⊎_elim (λ early. (state_of store, early)) (λ late. (after (state_of store) c, late))
-          (finds_either is.0 (state_of store) c files is.1.replays (leads is.0 (state_of store) c is.1.replays (honest.commit spelled)) ((handles.files told is.0 is.1 p.0 (ap (λ n. n + 1) p.1)).crash files left));
+      finds = λ c left. ⊎_elim (λ early. (state_of store, early)) (λ late. (state_then root (state_of store) [] reading, late)) (turned.crash c left);
       reads = reads;
     }

@@ -1,6 +1,8 @@
+pub mod Causes
 pub mod Crash
 pub mod Faults
 pub mod Grammar
+pub mod Lines
 pub mod Output
 pub mod Reading
 pub mod Reported
@@ -9,7 +11,6 @@ pub mod Shapes
 pub mod Split
 pub mod State
 pub mod Store
-pub mod Taken
 pub mod Trees
 pub mod Turn
 pub mod Turned

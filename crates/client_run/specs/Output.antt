@@ -1,72 +1,102 @@
--- The lines that are written: compact JSON, members in the order of their names, each line with its newline.
-use Rattle.std.specs.Prelude.{ℕ, true, false, List, [], ◌∷◌, ◌++◌, codes, Option, Some, None}
-use Rattle.serde_json.specs.Data.{Data, boolean, number, unsigned, string}
-use Rattle.serde_json.specs.Written.{compact_text}
-use Rattle.document_keys.specs.Names.{Root, name_text}
-use Rattle.value_model.specs.Data.{Entries}
-use Rattle.json_model.specs.Printed.{printed_fields}
-use Rattle.json_model.specs.declared.fault.NamingFault.{NamingFault}
-use Rattle.json_model.specs.declared.fault.NamingFault.TheVariants.{WrongRoot, BadSegment, OddLength, BadPath, ReservedField}
-use Rattle.client_run.specs.Trees.{one, two, three, four, five}
-use Rattle.client_run.specs.declared.refusal.Refusal.{Refusal}
-use Rattle.client_run.specs.declared.refusal.Refusal.TheVariants.{LineTooLong, BadLine, TooDeep, Unsupported, BadName}
+-- Clause *Output* of a run over the files of a store: which items of the source it handled and took, and what it wrote.
+use Rattle.std.specs.Prelude.{◌≡◌, ◌⊎◌, ℕ, ◌+◌, ◌<◌, List, [], ◌∷◌, ◌++◌, length, drop, IsTrue, Bool}
+use Rattle.host_api.specs.Host.{IsPart}
+use Rattle.host_api.specs.Items.{Item, split, IsSuffix}
+use Rattle.document_keys.specs.Names.{Root}
+use Rattle.client_run.specs.Reading.{AreRead}
+use Rattle.client_run.specs.State.{State}
+use Rattle.client_run.specs.Turn.{Past, run, next_turn, printed, output_of}
+use Rattle.client_run.specs.declared.reading.Reading.{Reading}
+use Rattle.client_run.specs.declared.status.Status.{Status}
+use Rattle.client_run.specs.declared.status.Status.TheVariants as ended
 
--- a tree as a line
-unfoldable pub line_of : Data → List ℕ
-line_of d = compact_text d ++ 10 ∷ []
+-- A run as it begins: its database, the items of the source, the state that the files found, how many items it may handle,
+-- and the output, if the host tells it.
+pub record Call : Type 0 where
+  pub root : Root
+  pub items : List Item
+  pub first : State
+  pub budget : ℕ
+  pub tells_out : Bool
+  pub out : List ℕ
 
-abbrev pub count : ℕ → Data
-count n = number (unsigned n)
+-- the run over these bytes of a source
+abbrev pub called : Root → List ℕ → State → ℕ → Bool → List ℕ → Call
+called root bytes first budget tells_out out = record { root = root; items = split bytes; first = first; budget = budget; tells_out = tells_out; out = out }
 
--- `{"ok":{"batch":B,"commit":N}}`
-abbrev pub ok_tree : ℕ → ℕ → Data
-ok_tree batch commit = one (codes "ok") (two (codes "batch") (count batch) (codes "commit") (count commit))
+-- the handled lines, where this is what they are
+abbrev pub past_of : Call → List Reading → Past
+past_of call readings = run call.root call.first [] readings
 
-abbrev pub too_long_tree : ℕ → Data
-too_long_tree line = one (codes "refused") (three (codes "cause") (string (codes "LineTooLong")) (codes "line") (count line) (codes "number") (count 11))
+-- ---- which items were taken, where these bytes are left
 
-abbrev pub bad_line_tree : ℕ → List ℕ → Data
-bad_line_tree line name = one (codes "refused") (four (codes "cause") (string (codes "BadLine")) (codes "line") (count line) (codes "member") (string name) (codes "number") (count 1))
+-- the first n items
+abbrev pub Took : Call → ℕ → List ℕ → Type 0
+Took call n left = split left ≡ drop n call.items
 
-abbrev pub too_deep_tree : ℕ → Data
-too_deep_tree line = one (codes "refused") (three (codes "cause") (string (codes "TooDeep")) (codes "line") (count line) (codes "number") (count 4))
+-- those that were handled
+abbrev pub TookHandled : Call → List Reading → List ℕ → Type 0
+TookHandled call readings left = Took call (length readings) left
 
-abbrev pub unsupported_tree : ℕ → List ℕ → Data
-unsupported_tree line name = one (codes "refused") (four (codes "cause") (string (codes "Unsupported")) (codes "line") (count line) (codes "member") (string name) (codes "number") (count 3))
+-- The same, but the source failed in the next item, and of the bytes behind a front may be gone.
+pub record TookAndFailed (call : Call) (readings : List Reading) (left : List ℕ) : Type 0 where
+  pub rest : List ℕ
+  pub others : TookHandled call readings rest
+  pub suffix : IsSuffix rest left
 
--- how the fault of a name is printed
-abbrev pub naming_text : NamingFault → List ℕ
-naming_text WrongRoot = codes "WrongRoot"
-naming_text BadSegment = codes "BadSegment"
-naming_text OddLength = codes "OddLength"
-naming_text BadPath = codes "BadPath"
-naming_text ReservedField = codes "ReservedField"
+-- the handled ones and the next, which is there
+pub record TookNext (call : Call) (readings : List Reading) (left : List ℕ) : Type 0 where
+  pub below : length readings < length call.items
+  pub others : Took call (length readings + 1) left
 
-abbrev pub bad_name_tree : ℕ → List ℕ → List ℕ → Data
-bad_name_tree line why name = one (codes "refused") (five (codes "cause") (string (codes "BadName")) (codes "fault") (string why) (codes "line") (count line) (codes "name") (string name) (codes "number") (count 2))
+-- nothing was handled, and nothing taken
+pub record TookNothing (call : Call) (readings : List Reading) (left : List ℕ) : Type 0 where
+  pub none : readings ≡ []
+  pub others : Took call 0 left
 
--- what a refusal prints at this line of the run, from 1
-abbrev pub refused_tree : ℕ → Refusal → Data
-refused_tree line LineTooLong = too_long_tree line
-refused_tree line (BadLine member) = bad_line_tree line member
-refused_tree line TooDeep = too_deep_tree line
-refused_tree line (Unsupported member) = unsupported_tree line member
-refused_tree line (BadName bad) = bad_name_tree line (naming_text bad.fault) bad.name
+-- ---- what was written, where the output is this then
 
--- a document that isn't there
-abbrev pub missing_tree : List ℕ → Data
-missing_tree name = one (codes "document") (three (codes "exists") (boolean false) (codes "name") (string name) (codes "state") (string (codes "unknown")))
+-- the output once the handled items' lines were written
+abbrev pub out_after : Call → List Reading → List ℕ
+out_after call readings = call.out ++ output_of call.root (past_of call readings)
 
--- a document without fields, which a pending write names
-abbrev pub empty_tree : List ℕ → Data
-empty_tree name = one (codes "document") (three (codes "exists") (boolean true) (codes "name") (string name) (codes "state") (string (codes "pending")))
+abbrev pub WroteHandled : Call → List Reading → List ℕ → Type 0
+WroteHandled call readings out = IsTrue call.tells_out → out ≡ out_after call readings
 
--- a document with these fields, which a pending write names
-abbrev pub found_tree : List ℕ → Data → Data
-found_tree name fields = one (codes "document") (four (codes "exists") (boolean true) (codes "fields") fields (codes "name") (string name) (codes "state") (string (codes "pending")))
+-- what the next item's turn writes
+abbrev pub next_text : Call → List Reading → Reading → List ℕ
+next_text call readings reading = printed call.root (length (past_of call readings) + 1) (next_turn call.root call.first (past_of call readings) reading)
 
--- `{"document":{..}}`: `fields` stands only where the document exists and has some
-abbrev pub document_tree : Root → List (List ℕ) → Option Entries → Data
-document_tree root key None = missing_tree (name_text root key)
-document_tree root key (Some []) = empty_tree (name_text root key)
-document_tree root key (Some (field ∷ fields)) = found_tree (name_text root key) (printed_fields (field ∷ fields))
+-- a part of the next item's lines besides
+pub record WrotePart (call : Call) (readings : List Reading) (out : List ℕ) : Type 0 where
+  pub reading : Reading
+  pub read : AreRead call.root call.items (readings ++ reading ∷ [])
+  pub part : IsTrue call.tells_out → IsPart (next_text call readings reading) (out_after call readings) out
+
+-- ---- how a run ends
+
+pub record Ends (Handled Taken Written : Type 0) : Type 0 where
+  pub handled : Handled
+  pub taken : Taken
+  pub written : Written
+
+-- all items were handled, before the budget was spent
+pub record HandledAll (call : Call) (readings : List Reading) : Type 0 where
+  pub all : length readings ≡ length call.items
+  pub below : length readings < call.budget
+
+abbrev pub SpentBudget : Call → List Reading → Type 0
+SpentBudget call readings = length readings ≡ call.budget
+
+abbrev pub BelowBudget : Call → List Reading → Type 0
+BelowBudget call readings = length readings < call.budget
+
+-- how many items were handled, which were taken, and what was written
+abbrev pub EndsAs : Status → Call → List Reading → List ℕ → List ℕ → Type 0
+EndsAs ended.Done c rs left out = Ends (HandledAll c rs) (TookHandled c rs left) (WroteHandled c rs out)
+EndsAs ended.Budget c rs left out = Ends (SpentBudget c rs) (TookHandled c rs left) (WroteHandled c rs out)
+EndsAs ended.SourceFault c rs left out = Ends (BelowBudget c rs) (TookAndFailed c rs left) (WroteHandled c rs out)
+EndsAs ended.DiskFault c rs left out = Ends (BelowBudget c rs) (TookNext c rs left ⊎ TookNothing c rs left) (WroteHandled c rs out)
+EndsAs ended.SinkFault c rs left out = Ends (BelowBudget c rs) (TookNext c rs left) (WrotePart c rs out)
+EndsAs ended.NoMemory c rs left out = Ends (BelowBudget c rs) (TookAndFailed c rs left ⊎ TookNext c rs left) (WroteHandled c rs out)
+EndsAs _ c rs left out = ⊥

@@ -1,11 +1,15 @@
 -- What an output reports: the numbers of commits that its whole lines name.
-use Rattle.std.specs.Prelude.{◌≡◌, ℕ, ◌≤◌, ◌<◌, ◌^◌, ◌==◌, List, [], ◌∷◌, ◌++◌, codes, Option, Some, option_and_then, if◌then◌else◌}
+use Rattle.std.specs.Prelude.{◌≡◌, ℕ, ◌≤◌, ◌<◌, ◌^◌, ◌==◌, ◌+◌, List, [], ◌∷◌, ◌++◌, codes, Option, Some, option_and_then, if◌then◌else◌}
 use Rattle.std.specs.List.{All}
 use Rattle.serde_json.specs.Data.{Data}
 use Rattle.serde_json.specs.Find.{get, as_number, as_u64}
 use Rattle.serde_json.specs.Read.{read}
 use Rattle.serde_json.specs.Written.{compact_text}
-use Rattle.client_run.specs.Output.{ok_tree}
+use Rattle.document_keys.specs.Names.{Root}
+use Rattle.client_run.specs.Lines.{ok_tree}
+use Rattle.client_run.specs.State.{State}
+use Rattle.client_run.specs.Turn.{Past, turn, after, printed}
+use Rattle.client_run.specs.declared.reading.Reading.{Reading}
 
 -- the whole lines of a text without their newlines, where `line` is what the first one begins with
 abbrev pub lines_on : List ℕ → List ℕ → List (List ℕ)
@@ -41,6 +45,12 @@ ReportedWithin most text = All (ReportsWithin most) (whole_lines text)
 -- a line reports at most one number
 abbrev pub ALineReportsOnce : Type 0
 ALineReportsOnce = (line : List ℕ) (a b : ℕ) → Reports line a → Reports line b → a ≡ b
+
+-- No whole line that a turn writes reports a number above that of the state after its commit, for numbers that a store
+-- can have.
+abbrev pub ATurnReportsWithin : Type 0
+ATurnReportsWithin = (root : Root) (s : State) (past : Past) (reading : Reading) (number : ℕ) → s.number ≤ 2 ^ 62 → s.next_batch ≤ s.number + 1 → number < 2 ^ 64
+    → ReportedWithin (after s (turn root s past reading).commit).number (printed root number (turn root s past reading))
 
 -- the printed answer of a write reports its commit
 abbrev pub OkReports : Type 0

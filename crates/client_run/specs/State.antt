@@ -30,11 +30,21 @@ abbrev pub Replays : State → List (List ℕ) → State → Type 0
 Replays s [] t = t ≡ s
 Replays s (payload ∷ payloads) t = (commit : Commit) × HasSpelling commit × (payload ≡ spelling commit) × Fits s commit × Replays (committed s commit) payloads t
 
--- The state that two files give: their payloads lead to it. The generation is 1, since no payload is a checkpoint.
-pub record FindsState (files : Files) (s : State) : Type 0 where
-  pub payloads : List (List ℕ)
-  pub gives : Gives files 1 payloads
+-- The payloads of a file of this generation lead to the state. It is the first generation, since no payload is a checkpoint.
+pub record LeadsTo (generation : ℕ) (payloads : List (List ℕ)) (s : State) : Type 0 where
+  pub first : generation ≡ 1
   pub replays : Replays start payloads s
+
+-- Two files find the state: their payloads lead to it.
+pub record FindsState (files : Files) (s : State) : Type 0 where
+  pub generation : ℕ
+  pub payloads : List (List ℕ)
+  pub gives : Gives files generation payloads
+  pub leads : LeadsTo generation payloads s
+
+-- two files find at most one state
+abbrev pub TwoFilesFindOnce : Type 0
+TwoFilesFindOnce = (files : Files) (a b : State) → FindsState files a → FindsState files b → a ≡ b
 
 -- two keys are equal
 abbrev pub same_key : List (List ℕ) → List (List ℕ) → Bool

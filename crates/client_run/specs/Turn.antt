@@ -1,37 +1,48 @@
--- What one line does: at most one commit, and the lines that answer it; and the run of a list of lines.
-use Rattle.std.specs.Prelude.{ℕ, ◌+◌, List, [], ◌∷◌, ◌++◌, length, Option, Some, None}
+-- What one line of input does: why it is refused, at most one commit, and the lines that answer it; and the run of a list of
+-- lines.
+use Rattle.std.specs.Prelude.{ℕ, ◌+◌, List, [], ◌∷◌, ◌++◌, length, fold, Option, Some, None, is_none, if◌then◌else◌}
 use Rattle.document_keys.specs.Names.{Root}
 use Rattle.record_codec.specs.declared.commit.Commit.{Commit}
 use Rattle.record_codec.specs.declared.commit.Commit.TheVariants.{Enqueue}
-use Rattle.record_codec.specs.Spelling.{spelling}
 use Rattle.client_run.specs.declared.event.Event.TheVariants as event
 use Rattle.client_run.specs.declared.reading.Reading.{Reading}
 use Rattle.client_run.specs.declared.reading.Reading.TheVariants.{Line, Refused}
+use Rattle.client_run.specs.declared.refusal.Refusal.{Refusal}
 use Rattle.client_run.specs.State.{State, committed, local_document}
-use Rattle.client_run.specs.Output.{line_of, ok_tree, refused_tree, document_tree}
+use Rattle.client_run.specs.Lines.{Out, wrote, document, text_of, refusal_text}
 
 pub record Turn : Type 0 where
+  pub refusal : Option Refusal
   pub commit : Option Commit
-  pub output : List ℕ
+  pub lines : List Out
 
--- one line of a run: the state before it, what it is, and its turn
+-- a line of a run: the state before it, what it is, and its turn
 pub record Entry : Type 0 where
   pub state : State
   pub reading : Reading
   pub turn : Turn
 
--- the lines so far, the newest first
+-- lines of a run, the newest first
 abbrev pub Past : Type 0
 Past = List Entry
 
--- the turn of one line, from the state and the lines before it; refusals name the line's number, from 1
+-- The turn of one line, from the state before it and the lines that the client has heard.
 unfoldable pub turn : Root → State → Past → Reading → Turn
-turn root s past (Refused refusal) = record { commit = None; output = line_of (refused_tree (length past + 1) refusal) }
+turn root s past (Refused refusal) = record { refusal = Some refusal; commit = None; lines = [] }
 turn root s past (Line (event.Write at write)) = record {
+  refusal = None;
   commit = Some (Enqueue (record { id = s.next_batch; at = at; write = write }));
-  output = line_of (ok_tree s.next_batch (s.number + 1));
+  lines = wrote s.next_batch (s.number + 1) ∷ [];
 }
-turn root s past (Line (event.Get key)) = record { commit = None; output = line_of (document_tree root key (local_document s.batches key)) }
+turn root s past (Line (event.Get key)) = record {
+  refusal = None;
+  commit = None;
+  lines = document key (local_document s.batches key) ∷ [];
+}
+
+-- what a turn writes, where this is the line's number
+abbrev pub printed : Root → ℕ → Turn → List ℕ
+printed root number t = refusal_text number t.refusal ++ text_of root t.lines
 
 -- the state after a turn
 abbrev pub after : State → Option Commit → State
@@ -43,25 +54,42 @@ abbrev pub now : State → Past → State
 now first [] = first
 now first (entry ∷ past) = after entry.state entry.turn.commit
 
+-- a line more, unless it was refused
+abbrev pub and_heard : Entry → Past → Past
+and_heard entry past = if is_none entry.turn.refusal then entry ∷ past else past
+
+-- the lines that a client stands for: it doesn't hear of those that were refused
+abbrev pub heard : Past → Past
+heard [] = []
+heard (entry ∷ past) = and_heard entry (heard past)
+
+-- the turn of the next line of a run
+abbrev pub next_turn : Root → State → Past → Reading → Turn
+next_turn root first past reading = turn root (now first past) (heard past) reading
+
 abbrev pub one_more : Root → State → Past → Reading → Past
-one_more root first past reading = record { state = now first past; reading = reading; turn = turn root (now first past) past reading } ∷ past
+one_more root first past reading = record { state = now first past; reading = reading; turn = next_turn root first past reading } ∷ past
 
 -- the lines one after another
 abbrev pub run : Root → State → Past → List Reading → Past
 run root first past [] = past
 run root first past (reading ∷ readings) = run root first (one_more root first past reading) readings
 
--- what is written, in order
-abbrev pub output_of : Past → List ℕ
-output_of [] = []
-output_of (entry ∷ past) = output_of past ++ entry.turn.output
+-- what is written, in order; lines are numbered from 1
+abbrev pub output_of : Root → Past → List ℕ
+output_of root [] = []
+output_of root (entry ∷ past) = output_of root past ++ printed root (length past + 1) entry.turn
 
--- the payloads with that of a commit
-abbrev pub added : List (List ℕ) → Option Commit → List (List ℕ)
-added payloads None = payloads
-added payloads (Some commit) = payloads ++ spelling commit ∷ []
+-- the commit of a turn, if it makes one
+abbrev pub made : Option Commit → List Commit
+made None = []
+made (Some commit) = commit ∷ []
 
--- these payloads, and then those of the commits, in order
-abbrev pub payloads_after : List (List ℕ) → Past → List (List ℕ)
-payloads_after first [] = first
-payloads_after first (entry ∷ past) = added (payloads_after first past) entry.turn.commit
+-- the commits of the lines so far, in order
+abbrev pub commits_of : Past → List Commit
+commits_of [] = []
+commits_of (entry ∷ past) = commits_of past ++ made entry.turn.commit
+
+-- the state after these commits
+abbrev pub after_all : State → List Commit → State
+after_all s commits = fold committed s commits

@@ -1,18 +1,24 @@
 -- What a call that handles one line does to the output and to the files.
-use Rattle.std.specs.Prelude.{◌≡◌, ℕ, ◌⊎◌, ◌≤◌, List, ◌++◌, Option, Result, Ok, Err, IfOk, IsErrOf}
+use Rattle.std.specs.Prelude.{◌≡◌, ◌⊎◌, ℕ, List, [], ◌∷◌, ◌++◌, map, Option, Some, None, Result, Ok, Err, IsErrOf}
 use Rattle.host_api.specs.Counts.{RisesAt}
 use Rattle.host_api.specs.Host.{Files, View, IsPart, Spans}
-use Rattle.disk_journal.specs.File.{Gives}
+use Rattle.document_keys.specs.Names.{Root}
 use Rattle.value_model.specs.Time.{IsMoment}
 use Rattle.record_codec.specs.Spelling.{IsSpelledWrite}
-use Rattle.record_codec.specs.declared.commit.Commit.{Commit}
-use Rattle.client_run.specs.Store.{IsStored}
-use Rattle.client_run.specs.Turn.{Turn, added}
+use Rattle.client_run.specs.Lines.{Out, wrote, document}
+use Rattle.client_run.specs.State.{State, FindsState, local_document}
+use Rattle.client_run.specs.Store.{state_of}
+use Rattle.client_run.specs.Turn.{Turn, Past, turn, after, and_heard}
+use Rattle.client_run.specs.declared.out.Out.{Out as Handed}
+use Rattle.client_run.specs.declared.out.Out.TheVariants.{Wrote, Document}
+use Rattle.client_run.specs.declared.out.Outcome.{Outcome}
+use Rattle.client_run.specs.declared.out.Outcome.TheVariants.{Done, Refuses}
 use Rattle.client_run.specs.declared.event.Event.{Event}
 use Rattle.client_run.specs.declared.event.Event.TheVariants as event
 use Rattle.client_run.specs.declared.reading.Reading.{Reading}
 use Rattle.client_run.specs.declared.reading.Reading.TheVariants.{Line, Refused}
 use Rattle.client_run.specs.declared.local_store.LocalStore.{LocalStore}
+use Rattle.client_run.specs.declared.handling.Taken.{Taken}
 use Rattle.client_run.specs.declared.committing.StoreFault.{StoreFault}
 use Rattle.client_run.specs.declared.committing.StoreFault.TheVariants as store_fault
 use Rattle.client_run.specs.declared.turn_fault.TurnFault.{TurnFault}
@@ -29,25 +35,47 @@ abbrev pub IsSpelledReading : Reading → Type 0
 IsSpelledReading (Line e) = IsSpelledEvent e
 IsSpelledReading (Refused refusal) = Unit {0}
 
--- the files give the payloads from before a commit, or with it
-abbrev pub GivesEither : List (List ℕ) → Option Commit → Files → Type 0
-GivesEither payloads commit files = Gives files 1 payloads ⊎ Gives files 1 (added payloads commit)
+-- The client stands for this state and for these lines, which it has heard. Each thing that it keeps beside the state is to
+-- be a field here, read off the lines.
+pub record StandsFor (store : LocalStore) (s : State) (past : Past) : Type 0 where
+  pub state : state_of store ≡ s
 
--- During a turn a crash finds the payloads from before it at the output from before it, or those after its commit at the
+-- the state after the turn of a line, and the lines that were heard then
+abbrev pub state_then : Root → State → Past → Reading → State
+state_then root s past reading = after s (turn root s past reading).commit
+
+abbrev pub heard_then : Root → State → Past → Reading → Past
+heard_then root s past reading = and_heard (record { state = s; reading = reading; turn = turn root s past reading }) past
+
+-- a line as the state shows it
+abbrev pub shown : State → Handed → Out
+shown s (Wrote batch commit) = wrote batch commit
+shown s (Document key) = document key (local_document s.batches key)
+
+-- what was handed out is the turn's refusal, or its lines, as this state shows them
+abbrev pub IsOutcome : Outcome → State → Turn → Type 0
+IsOutcome (Done outs) s t = (t.refusal ≡ None) × (t.lines ≡ map (shown s) outs.items)
+IsOutcome (Refuses refusal) s t = (t.refusal ≡ Some refusal) × (t.lines ≡ [])
+
+-- What was handed out for a line: what the client then stands for, and the lines of the turn.
+pub record HandsOut (root : Root) (s : State) (past : Past) (reading : Reading) (taken : Taken) : Type 0 where
+  pub stands : StandsFor taken.store (state_then root s past reading) (heard_then root s past reading)
+  pub outcome : IsOutcome taken.outcome (state_of taken.store) (turn root s past reading)
+
+-- During a turn a crash finds the state from before it at the output from before it, or the state after its commit at the
 -- output with a part of its lines.
-abbrev pub InTurn : List (List ℕ) → Turn → List ℕ → List ℕ → Files → Type 0
-InTurn payloads turn out o files = ((o ≡ out) × Gives files 1 payloads) ⊎ (IsPart turn.output out o × Gives files 1 (added payloads turn.commit))
+abbrev pub InTurn : State → State → List ℕ → List ℕ → List ℕ → Files → Type 0
+InTurn from to piece out o files = ((o ≡ out) × FindsState files from) ⊎ (IsPart piece out o × FindsState files to)
 
-pub record Turned (payloads : List (List ℕ)) (turn : Turn) (result : Result LocalStore TurnFault) (old new : View) : Type 0 where
-  pub done : IfOk result (λ next. IsStored next (added payloads turn.commit) new)
-  pub crash : (c : Files) → new.may_leave c → GivesEither payloads turn.commit c
-  pub time : Spans old new (InTurn payloads turn old.out)
+pub record Turned (from to : State) (piece : List ℕ) (old new : View) : Type 0 where
+  pub crash : (c : Files) → new.may_leave c → FindsState c from ⊎ FindsState c to
+  pub time : Spans old new (InTurn from to piece old.out)
 
 -- The lines of a turn went out whole; at a sink fault a part of them; at any other fault none.
-abbrev pub Wrote : List ℕ → Result LocalStore TurnFault → List ℕ → List ℕ → Type 0
-Wrote piece (Ok next) old new = new ≡ old ++ piece
-Wrote piece (Err fault.SinkFault) old new = IsPart piece old new
-Wrote piece (Err _) old new = new ≡ old
+abbrev pub Writes : List ℕ → Result LocalStore TurnFault → List ℕ → List ℕ → Type 0
+Writes piece (Ok next) old new = new ≡ old ++ piece
+Writes piece (Err fault.SinkFault) old new = IsPart piece old new
+Writes piece (Err _) old new = new ≡ old
 
 -- each count rose just where its fault is told
 pub record TurnCounts (result : Result LocalStore TurnFault) (old new : View) : Type 0 where

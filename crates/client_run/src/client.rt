@@ -6,7 +6,9 @@ ghost use Rattle.client_run.specs.Words.{AsksRun};
 ghost use Rattle.client_run.specs.Crash.{Keeps};
 ghost use Rattle.client_run.specs.State.{State, FindsState};
 ghost use Rattle.client_run.specs.Store.{IsNoStore};
-ghost use Rattle.client_run.specs.Run.{Ran, Causes, Completes, IsForeign, LeavesForeign};
+ghost use Rattle.client_run.specs.Causes.{Causes, Completes, IsForeign, LeavesForeign};
+ghost use Rattle.client_run.specs.Output.{called};
+ghost use Rattle.client_run.specs.Run.{Ran, Kept};
 
 use crate::running::run_within;
 use crate::status::Status;
@@ -33,8 +35,10 @@ pub fn run_client<S: Source, H: Host>(
     ensures usage { result ≡ Status.Usage → (root : Root) → ¬ (AsksRun (map string_bytes words.now) root) }
     ensures no_run { ((root : Root) → ¬ (AsksRun (map string_bytes words.now) root)) → (result ≡ Status.Usage) ⊎ (result ≡ Status.NoMemory) }
     ensures untouched { ((root : Root) → ¬ (AsksRun (map string_bytes words.now) root)) → (source.new ≡ source.old) × (host.new ≡ host.old) }
-    ensures run { IsTrue S.tells → IsTrue H.tells_files → (root : Root) → AsksRun (map string_bytes words.now) root → (s : State) → (finds : FindsState (H.view host.old).bytes s)
-        → Ran H.view root (split (S.left source.old)) s finds.payloads H.tells_out H.tells_files 4294967296 result (S.left source.new) (H.view host.old) (H.view host.new) }
+    ensures run { IsTrue S.tells → IsTrue H.tells_files → (root : Root) → AsksRun (map string_bytes words.now) root → (s : State) → FindsState (H.view host.old).bytes s
+        → Ran H.view (called root (S.left source.old) s 4294967296 H.tells_out (H.view host.old).out) result (S.left source.new) (H.view host.old) (H.view host.new) }
+    ensures kept { IsTrue S.tells → IsTrue H.tells_files → (root : Root) → AsksRun (map string_bytes words.now) root → (s : State) → FindsState (H.view host.old).bytes s
+        → Kept result (called root (S.left source.old) s 4294967296 H.tells_out (H.view host.old).out) (H.view host.new).bytes }
     ensures not_a_store { result ≡ Status.NotAStore → IsForeign H.tells_files (H.view host.old) (H.view host.new) }
     ensures no_store { IsTrue H.tells_files → (root : Root) → AsksRun (map string_bytes words.now) root → IsNoStore (H.view host.old).bytes → LeavesForeign result (H.view host.old) (H.view host.new) }
     ensures never_kept { IsTrue H.tells_files → Keeps (H.view host.old) → result ≢ Status.NotAStore }

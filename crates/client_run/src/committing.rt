@@ -4,7 +4,7 @@ ghost use Rattle.host_api.specs.Counts.{RisesAt};
 ghost use Rattle.host_api.specs.Host.{KeepsOut};
 ghost use Rattle.record_codec.specs.Spelling.{spelling, HasSpelling};
 ghost use Rattle.client_run.specs.State.{Fits, committed};
-ghost use Rattle.client_run.specs.Store.{IsStored, Commits, state_of};
+ghost use Rattle.client_run.specs.Store.{IsStored, Moves, state_of};
 
 use crate::local_store::LocalStore;
 use crate::opening::enqueued;
@@ -12,7 +12,7 @@ use disk_journal::Frame;
 use document_keys::NoMemory;
 use host_api::{Failed, Host};
 use record_codec::{Commit, encode};
-use std::alloc::{AllocError, Global};
+use std::alloc::{AllocError, AllocFailed, Global};
 
 /// Why a commit wasn't made.
 #[derive(Clone, Copy, Debug, PartialEq, Eq)]
@@ -53,6 +53,16 @@ impl From<AllocError> for StoreFault {
     }
 }
 
+impl<T: Drop> From<AllocFailed<T>> for StoreFault {
+    ghost use Rattle.client_run.specs.declared.committing.StoreFault.TheVariants as fault;
+
+    ghost from_gives = { λ _ e. e ≡ fault.NoMemory };
+
+    fn from(_error: AllocFailed<T>) -> StoreFault {
+        StoreFault::NoMemory
+    }
+}
+
 /// The frame of the commit's payload.
 fn frame_of(alloc: Global, commit: &Commit) -> Result<Frame, NoMemory>
     ensures { IfOk result (λ frame. frame ≡ spelling commit.now) }
@@ -77,11 +87,12 @@ impl LocalStore {
         host: &mut H,
         commit: Commit,
     ) -> Result<LocalStore, StoreFault>
-        requires stored { IsTrue H.tells_files → (payloads : List (List ℕ)) × IsStored self payloads (H.view host.old) }
+        requires stored { IsTrue H.tells_files → IsStored self (H.view host.old) }
         requires fits { Fits (state_of self) commit }
         requires has_spelling { HasSpelling commit }
         ensures state { IfOk result (λ store. state_of store ≡ committed (state_of self) commit) }
-        ensures files { IsTrue H.tells_files → (payloads : List (List ℕ)) → IsStored self payloads (H.view host.old) → Commits payloads (spelling commit) result (H.view host.old) (H.view host.new) }
+        ensures stored { IfOk result (λ store. IsTrue H.tells_files → IsStored store (H.view host.new)) }
+        ensures files { IsTrue H.tells_files → Moves (state_of self) (committed (state_of self) commit) (H.view host.old) (H.view host.new) }
         ensures out { KeepsOut (H.view host.old) (H.view host.new) }
         ensures counts { RisesAt (IsErrOf result StoreFault.DiskFault) (H.view host.old).disk_faults (H.view host.new).disk_faults }
     {

@@ -3,9 +3,9 @@
 ghost use Rattle.std.specs.Prelude.{◌≡◌};
 ghost use Rattle.host_api.specs.Items.{Item};
 ghost use Rattle.document_keys.specs.Names.{Root};
-ghost use Rattle.client_run.specs.Crash.{ATurnReportsWithin, TwoFilesFindOnce};
+ghost use Rattle.client_run.specs.State.{TwoFilesFindOnce};
 ghost use Rattle.client_run.specs.Reading.{Reads};
-ghost use Rattle.client_run.specs.Reported.{ALineReportsOnce, OkReports};
+ghost use Rattle.client_run.specs.Reported.{ALineReportsOnce, OkReports, ATurnReportsWithin};
 ghost use Rattle.client_run.specs.Store.{RefusedFilesAreNoStore};
 ghost use Rattle.client_run.specs.declared.reading.Reading.{Reading};
 

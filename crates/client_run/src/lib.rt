@@ -11,6 +11,7 @@ mod local_store;
 mod lookup;
 mod members;
 mod opening;
+mod out;
 mod printing;
 mod reading;
 mod refusal;

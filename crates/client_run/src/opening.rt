@@ -3,8 +3,8 @@ ghost use Rattle.host_api.specs.Host.{KeepsOut};
 ghost use Rattle.host_api.specs.Counts.{RisesAt};
 ghost use Rattle.disk_journal.specs.File.{Gives};
 ghost use Rattle.disk_journal.specs.Steps.{Opens, SettlesFirst};
-ghost use Rattle.client_run.specs.State.{State, start, Replays};
-ghost use Rattle.client_run.specs.Store.{IsStored, Refuses};
+ghost use Rattle.client_run.specs.State.{State, start, Replays, FindsState};
+ghost use Rattle.client_run.specs.Store.{IsStored, Refuses, state_of};
 
 use crate::local_store::LocalStore;
 use disk_journal::{Journal, OpenFault};
@@ -52,7 +52,8 @@ impl LocalStore {
     /// or where the payloads of the counting file aren't the commits of a store, with that file; `NoMemory`. After any
     /// of them the files give what they gave.
     pub fn open<H: Host>(alloc: Global, host: &mut H) -> Result<LocalStore, OpenFault>
-        ensures stored { IfOk result (λ store. IsTrue H.tells_files → (payloads : List (List ℕ)) × Gives (H.view host.old).bytes 1 payloads × IsStored store payloads (H.view host.new)) }
+        ensures found { IfOk result (λ store. IsTrue H.tells_files → FindsState (H.view host.old).bytes (state_of store)) }
+        ensures stored { IfOk result (λ store. IsTrue H.tells_files → IsStored store (H.view host.new)) }
         ensures refused { IfErr result (λ fault. IsTrue H.tells_files → Refuses fault (H.view host.old) (H.view host.new)) }
         ensures files { IsTrue H.tells_files → Opens (H.view host.old) (H.view host.new) }
         ensures settled { IsTrue H.tells_files → SettlesFirst H.view result (H.view host.old) (H.view host.new) }

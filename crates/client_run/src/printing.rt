@@ -1,10 +1,15 @@
-ghost use Rattle.std.specs.Prelude.{◌≡◌, ℕ, ◌++◌, List, [], ◌∷◌, true, false, IfOk, Option, Some, None, codes, option_copied};
+ghost use Rattle.std.specs.Prelude.{◌≡◌, ℕ, ◌++◌, List, [], ◌∷◌, map, true, false, IfOk, Option, Some, None, codes, option_copied};
 ghost use Rattle.std.specs.String.{string_bytes};
 ghost use Rattle.serde_json.specs.View.{view};
 ghost use Rattle.serde_json.specs.Written.{has_float};
 ghost use Rattle.document_keys.specs.Names.{Root, name_text};
-ghost use Rattle.client_run.specs.Output.{line_of, ok_tree, too_long_tree, bad_line_tree, too_deep_tree, unsupported_tree, bad_name_tree, naming_text as naming_text_of, refused_tree, missing_tree, empty_tree, found_tree, document_tree};
+ghost use Rattle.client_run.specs.Store.{state_of};
+ghost use Rattle.client_run.specs.Turn.{Turn, printed};
+ghost use Rattle.client_run.specs.Turned.{shown, IsOutcome};
+ghost use Rattle.client_run.specs.Lines.{line_of, tree_of, text_of, ok_tree, too_long_tree, bad_line_tree, too_deep_tree, unsupported_tree, bad_name_tree, naming_text as naming_text_of, refused_tree, missing_tree, empty_tree, found_tree, document_tree};
 
+use crate::local_store::LocalStore;
+use crate::out::{Out, Outcome};
 use crate::refusal::Refusal;
 use document_keys::{Database, DocumentKey, NoMemory};
 use json_model::{NamingFault, print_fields};
@@ -13,7 +18,7 @@ use std::alloc::{AllocError, Global};
 use value_model::Fields;
 
 /// The tree as a line, with its newline.
-#[tactic(auto, unfolding(crate::specs::Output::line_of))]
+#[tactic(auto, unfolding(crate::specs::Lines::line_of))]
 fn print_line(alloc: Global, json: &Json) -> Result<String, NoMemory>
     requires { has_float (view json.now) ≡ false }
     ensures { IfOk result (λ line. string_bytes line ≡ line_of (view json.now)) }
@@ -30,7 +35,7 @@ fn ok_json(alloc: Global, batch: u64, commit: u64) -> Result<Json, AllocError>
 }
 
 /// The answer of a write.
-pub fn print_ok(alloc: Global, batch: u64, commit: u64) -> Result<String, NoMemory>
+fn print_ok(alloc: Global, batch: u64, commit: u64) -> Result<String, NoMemory>
     ensures { IfOk result (λ line. string_bytes line ≡ line_of (ok_tree batch commit)) }
 {
     let json = ok_json(alloc, batch, commit)?;
@@ -80,7 +85,7 @@ fn bad_name_json(alloc: Global, line: u64, why: &str, name: &str) -> Result<Json
 }
 
 /// The answer of a refused line, which is this line of the run, from 1.
-pub fn print_refusal(alloc: Global, line: u64, refusal: &Refusal) -> Result<String, NoMemory>
+fn print_refusal(alloc: Global, line: u64, refusal: &Refusal) -> Result<String, NoMemory>
     ensures { IfOk result (λ text. string_bytes text ≡ line_of (refused_tree line refusal.now)) }
 {
     let json = match refusal {
@@ -125,7 +130,7 @@ fn document_json(alloc: Global, name: &str, fields: &Fields) -> Result<Json, NoM
 }
 
 /// The answer of a get, for the document as it stands with the pending writes.
-pub fn print_document(
+fn print_document(
     alloc: Global,
     root: &Database,
     key: &DocumentKey,
@@ -140,4 +145,52 @@ pub fn print_document(
     };
     let json = document_json(alloc, name.as_str(), fields)?;
     print_line(alloc, &json)
+}
+
+/// A line, as the store shows it.
+fn print_out(
+    alloc: Global,
+    root: &Database,
+    store: &LocalStore,
+    out: &Out,
+) -> Result<String, NoMemory>
+    ensures { IfOk result (λ line. string_bytes line ≡ line_of (tree_of root.now (shown (state_of store.now) out.now))) }
+{
+    match out {
+        Out::Wrote { batch, commit } => print_ok(alloc, *batch, *commit),
+        Out::Document(key) => print_document(alloc, root, key, store.document(key)),
+    }
+}
+
+/// Lines, one after another.
+fn print_lines(
+    alloc: Global,
+    root: &Database,
+    store: &LocalStore,
+    outs: &[Out],
+) -> Result<String, NoMemory>
+    ensures { IfOk result (λ text. string_bytes text ≡ text_of root.now (map (shown (state_of store.now)) outs.now)) }
+{
+    let mut text = String::new(alloc);
+    for out in outs {
+        let line = print_out(alloc, root, store, out)?;
+        text.push_str(line.as_str())?;
+    }
+    Ok(text)
+}
+
+/// What the line of this number, from 1, came to.
+pub fn print_outcome(
+    alloc: Global,
+    root: &Database,
+    store: &LocalStore,
+    number: u64,
+    outcome: &Outcome,
+) -> Result<String, NoMemory>
+    ensures { IfOk result (λ text. (t : Turn) → IsOutcome outcome.now (state_of store.now) t → string_bytes text ≡ printed root.now number t) }
+{
+    match outcome {
+        Outcome::Done(outs) => print_lines(alloc, root, store, outs.as_slice()),
+        Outcome::Refuses(refusal) => print_refusal(alloc, number, refusal),
+    }
 }

@@ -3,7 +3,9 @@ ghost use Rattle.host_api.specs.Items.{split};
 ghost use Rattle.client_run.specs.Crash.{Keeps};
 ghost use Rattle.client_run.specs.State.{State, FindsState};
 ghost use Rattle.client_run.specs.Store.{IsNoStore};
-ghost use Rattle.client_run.specs.Run.{Ran, Causes, Completes, IsForeign, LeavesForeign};
+ghost use Rattle.client_run.specs.Causes.{Causes, Completes, IsForeign, LeavesForeign};
+ghost use Rattle.client_run.specs.Output.{called};
+ghost use Rattle.client_run.specs.Run.{Ran, Kept};
 
 use crate::local_store::LocalStore;
 use crate::serving::serve;
@@ -29,8 +31,10 @@ pub fn run_within<S: Source, H: Host>(
     budget: u64,
 ) -> Status
     requires budget { 1 ≤ budget }
-    ensures run { IsTrue S.tells → IsTrue H.tells_files → (s : State) → (finds : FindsState (H.view host.old).bytes s)
-        → Ran H.view root (split (S.left source.old)) s finds.payloads H.tells_out H.tells_files budget result (S.left source.new) (H.view host.old) (H.view host.new) }
+    ensures run { IsTrue S.tells → IsTrue H.tells_files → (s : State) → FindsState (H.view host.old).bytes s
+        → Ran H.view (called root (S.left source.old) s budget H.tells_out (H.view host.old).out) result (S.left source.new) (H.view host.old) (H.view host.new) }
+    ensures kept { IsTrue S.tells → IsTrue H.tells_files → (s : State) → FindsState (H.view host.old).bytes s
+        → Kept result (called root (S.left source.old) s budget H.tells_out (H.view host.old).out) (H.view host.new).bytes }
     ensures not_a_store { result ≡ Status.NotAStore → IsForeign H.tells_files (H.view host.old) (H.view host.new) }
     ensures no_store { IsTrue H.tells_files → IsNoStore (H.view host.old).bytes → LeavesForeign result (H.view host.old) (H.view host.new) }
     ensures never_kept { IsTrue H.tells_files → Keeps (H.view host.old) → result ≢ Status.NotAStore }

@@ -1,8 +1,11 @@
-ghost use Rattle.std.specs.Prelude.{◌≡◌, ℕ, ◌≤◌, List, length, IsTrue};
-ghost use Rattle.host_api.specs.Items.{split};
+ghost use Rattle.std.specs.Prelude.{◌≡◌, ℕ, ◌≤◌, [], length, IsTrue};
+ghost use Rattle.client_run.specs.Causes.{Causes, IsServed};
 ghost use Rattle.client_run.specs.Crash.{Keeps};
-ghost use Rattle.client_run.specs.Store.{IsStored, state_of};
-ghost use Rattle.client_run.specs.Run.{Ran, Causes, IsServed};
+ghost use Rattle.client_run.specs.Output.{called};
+ghost use Rattle.client_run.specs.Run.{Ran, Kept};
+ghost use Rattle.client_run.specs.State.{State};
+ghost use Rattle.client_run.specs.Store.{IsStored};
+ghost use Rattle.client_run.specs.Turned.{StandsFor};
 
 use crate::handling::handle;
 use crate::line::read_item;
@@ -21,9 +24,11 @@ pub fn serve<S: Source, H: Host>(
     store: LocalStore,
     budget: u64,
 ) -> Status
-    requires stored { IsTrue H.tells_files → (payloads : List (List ℕ)) × IsStored store payloads (H.view host.old) }
-    ensures run { IsTrue S.tells → (payloads : List (List ℕ)) → (IsTrue H.tells_files → IsStored store payloads (H.view host.old))
-        → Ran H.view root.now (split (S.left source.old)) (state_of store) payloads H.tells_out H.tells_files budget result (S.left source.new) (H.view host.old) (H.view host.new) }
+    requires stored { IsTrue H.tells_files → IsStored store (H.view host.old) }
+    ensures run { IsTrue S.tells → IsTrue H.tells_files → (s : State) → StandsFor store s []
+        → Ran H.view (called root.now (S.left source.old) s budget H.tells_out (H.view host.old).out) result (S.left source.new) (H.view host.old) (H.view host.new) }
+    ensures kept { IsTrue S.tells → IsTrue H.tells_files → (s : State) → StandsFor store s []
+        → Kept result (called root.now (S.left source.old) s budget H.tells_out (H.view host.old).out) (H.view host.new).bytes }
     ensures keeps { IsTrue H.tells_files → Keeps (H.view host.new) }
     ensures serving { IsServed result }
     ensures cause { Causes result (S.faults source.old) (S.faults source.new) (H.view host.old) (H.view host.new) }

@@ -1,19 +1,26 @@
-use Rattle.std.proofs.Common.{rules}
-use Rattle.std.proofs.lemmas.Result.{IfOk-weaker}
-use Rattle.client_run.proofs.Handled.{turned_nothing}
+use Rattle.std.proofs.Common.{subst, ◌∙◌}
+use Rattle.client_run.specs.State.{FindsState}
+use Rattle.client_run.proofs.Committed.{stored_finds}
+use Rattle.client_run.proofs.Handled.{turned_moved, turned_emitted, emits_as, emits_stored}
 use Rattle.client_run.proofs.handling.handle.Goals as goal
 
-pub returns-in_err-output-in-Refused-clause-files : goal.returns-in_err-output-in-Refused-clause-files
-returns-in_err-output-in-Refused-clause-files g c = λ told payloads is past line. turned_nothing _ _ is (search rules)
+pub returns-in_err-store-clause-files : goal.returns-in_err-store-clause-files
+returns-in_err-store-clause-files g c = λ told s past stands. turned_moved _ (c.take.ensures.files told c.args.root.now s past stands)
 
-pub returns-in_err-output-in-Line-Get-clause-files : goal.returns-in_err-output-in-Line-Get-clause-files
-returns-in_err-output-in-Line-Get-clause-files g c = λ told payloads is past line. turned_nothing _ _ is (search rules)
+pub returns-in_err-text-clause-files : goal.returns-in_err-text-clause-files
+returns-in_err-text-clause-files g c = λ told s past stands. turned_moved _ (c.take.ensures.files told c.args.root.now s past stands)
 
-pub returns-in-Line-Write-clause-state : goal.returns-in-Line-Write-clause-state
-returns-in-Line-Write-clause-state g c = rw (c.in-Line-Write.is, c.in-Line-Write.field-0-is) (IfOk-weaker c.handle_write.result _ _ (λ next h past. h c.args.root.now past) c.handle_write.ensures.state)
+pub returns-in_err-emit-clause-files : goal.returns-in_err-emit-clause-files
+returns-in_err-emit-clause-files g c = λ told s past stands.
+    let hands = c.in_ok-store.ensures.turn c.args.root.now s past stands in
+    let emits = emits_as (c.as_bytes.ensures.value ∙ c.as_str.ensures.value ∙ c.in_ok-text.ensures _ hands.outcome) (c.emit.ensures.files told) in
+    turned_emitted c.take.ensures.out.out (c.take.ensures.files told c.args.root.now s past stands) (λ x left. subst (FindsState x) hands.stands.state (stored_finds (c.in_ok-store.ensures.stored told) x left)) emits
 
-pub returns-in-Line-Write-clause-out : goal.returns-in-Line-Write-clause-out
-returns-in-Line-Write-clause-out g c = λ told past line. rw (c.in-Line-Write.is, c.in-Line-Write.field-0-is) (c.handle_write.ensures.out told c.args.root.now past)
+pub returns-clause-files : goal.returns-clause-files
+returns-clause-files g c = λ told s past stands.
+    let hands = c.in_ok-store.ensures.turn c.args.root.now s past stands in
+    let emits = emits_as (c.as_bytes.ensures.value ∙ c.as_str.ensures.value ∙ c.in_ok-text.ensures _ hands.outcome) (c.emit.ensures.files told) in
+    turned_emitted c.take.ensures.out.out (c.take.ensures.files told c.args.root.now s past stands) (λ x left. subst (FindsState x) hands.stands.state (stored_finds (c.in_ok-store.ensures.stored told) x left)) emits
 
-pub returns-in-Line-Write-clause-files : goal.returns-in-Line-Write-clause-files
-returns-in-Line-Write-clause-files g c = λ told payloads is past line. rw (c.in-Line-Write.is, c.in-Line-Write.field-0-is) (c.handle_write.ensures.files told payloads is c.args.root.now past)
+pub returns-clause-stored : goal.returns-clause-stored
+returns-clause-stored g c = λ told. emits_stored (c.in_ok-store.ensures.stored told) (c.emit.ensures.files told)

@@ -1,17 +1,19 @@
-use Rattle.std.proofs.Common.{inr, refl}
-use Rattle.client_run.proofs.Began.{disk_first, memory_first, finds_of, opened_runs, opens_keeps, kept_is_store, causes_from, completed}
+use Rattle.std.proofs.Common.{inr, refl, subst, sym, List, ℕ}
+use Rattle.client_run.specs.Output.{called}
+use Rattle.client_run.specs.Run.{Ran, Kept}
+use Rattle.client_run.proofs.Began.{disk_first, memory_first, ran_from, opened_stands, opens_keeps, kept_is_store, causes_from, completed}
 use Rattle.client_run.proofs.Opened.{refused_is_none, no_store_stays}
 use Rattle.client_run.proofs.running.run_within.Goals as goal
 
 pub returns-in-Err-DiskFault-clause-run : goal.returns-in-Err-DiskFault-clause-run
 returns-in-Err-DiskFault-clause-run g c = λ tells told s finds.
     let settled = rw c.in-Err-DiskFault.field-0-is at c.in-Err-DiskFault.ensures.settled told in
-    disk_first g.H.Host.view _ _ _ _ _ _ _ (g.H.Host.view c.args.host.now) (g.H.Host.view c.open.new.host) c.requires.budget c.in-Err-DiskFault.ensures.out.out finds settled
+    disk_first g.H.Host.view _ _ _ _ _ (g.H.Host.view c.args.host.now) (g.H.Host.view c.open.new.host) c.requires.budget c.in-Err-DiskFault.ensures.out.out finds settled
 
 pub returns-in-Err-NoMemory-clause-run : goal.returns-in-Err-NoMemory-clause-run
 returns-in-Err-NoMemory-clause-run g c = λ tells told s finds.
     let settled = rw c.in-Err-NoMemory.field-0-is at c.in-Err-NoMemory.ensures.settled told in
-    memory_first g.H.Host.view _ _ _ _ _ _ _ (g.H.Host.view c.args.host.now) (g.H.Host.view c.open.new.host) c.requires.budget c.in-Err-NoMemory.ensures.out.out finds (inr settled)
+    memory_first g.H.Host.view _ _ _ _ _ (g.H.Host.view c.args.host.now) (g.H.Host.view c.open.new.host) c.requires.budget c.in-Err-NoMemory.ensures.out.out finds (inr settled)
 
 pub returns-in-Err-NotAStore-clause-run : goal.returns-in-Err-NotAStore-clause-run
 returns-in-Err-NotAStore-clause-run g c = λ tells told s finds.
@@ -28,13 +30,17 @@ returns-in-Err-NotAStore-clause-not_a_store g c = λ is. record {
 
 pub returns-clause-run : goal.returns-clause-run
 returns-clause-run g c = λ tells told s finds.
-    let st = c.in-Ok.ensures.stored told in
-    opened_runs g.H.Host.view _ _ s _ _ _ _ _ c.in-Ok.store _ _ _ finds c.in-Ok.ensures.out.out (record { payloads = st.0; gives = st.1; stored = st.2 }) (c.in-Ok.ensures.settled told) (λ payloads is. c.serve.ensures.run tells payloads is)
+    let ran = c.serve.ensures.run tells told s (opened_stands (c.in-Ok.ensures.found told) finds) in
+    ran_from g.H.Host.view _ _ _ refl c.in-Ok.ensures.out.out finds (c.in-Ok.ensures.settled told)
+    (subst (λ (o : List ℕ). Ran g.H.Host.view (called c.args.root (g.S.Source.left c.args.source.now) s c.args.budget g.H.Host.tells_out o) c.serve.result (g.S.Source.left c.serve.new.source) (g.H.Host.view c.open.new.host) (g.H.Host.view c.serve.new.host)) c.in-Ok.ensures.out.out ran)
+
+pub returns-clause-kept : goal.returns-clause-kept
+returns-clause-kept g c = λ tells told s finds.
+    subst (λ (o : List ℕ). Kept c.serve.result (called c.args.root (g.S.Source.left c.args.source.now) s c.args.budget g.H.Host.tells_out o) (g.H.Host.view c.serve.new.host).bytes) c.in-Ok.ensures.out.out
+    (c.serve.ensures.kept tells told s (opened_stands (c.in-Ok.ensures.found told) finds))
 
 pub returns-clause-no_store : goal.returns-clause-no_store
-returns-clause-no_store g c = λ told none.
-    let st = c.in-Ok.ensures.stored told in
-    absurd (none _ (finds_of c.in-Ok.store (g.H.Host.view c.args.host.now) (g.H.Host.view c.open.new.host) (record { payloads = st.0; gives = st.1; stored = st.2 })))
+returns-clause-no_store g c = λ told none. absurd (none _ (c.in-Ok.ensures.found told))
 
 pub returns-in-Err-DiskFault-clause-keeps : goal.returns-in-Err-DiskFault-clause-keeps
 returns-in-Err-DiskFault-clause-keeps g c = λ told keeps. opens_keeps (c.in-Err-DiskFault.ensures.files told) (g.met.H.Host.may_stay _ told) keeps
@@ -66,10 +72,8 @@ returns-in-Err-NotAStore-clause-completes g c = λ tells told keeps few none.
 
 pub returns-clause-completes : goal.returns-clause-completes
 returns-clause-completes g c = λ tells told keeps few none.
-    let st = c.in-Ok.ensures.stored told in
-    let ran = c.serve.ensures.run tells st.0 (λ files. st.2) in
     let causes = causes_from (c.in-Ok.ensures.counts.stays (λ is. cc)) c.in-Ok.ensures.out.faults c.serve.ensures.cause in
-    completed c.serve.result _ _ c.args.budget ran.ends causes few none
+    completed c.serve.result (c.serve.ensures.run tells told _ (record { state = refl })) causes few none
 
 pub returns-clause-cause : goal.returns-clause-cause
 returns-clause-cause g c = causes_from (c.in-Ok.ensures.counts.stays (λ is. cc)) c.in-Ok.ensures.out.faults c.serve.ensures.cause

@@ -1,80 +1,99 @@
 use Rattle.std.proofs.Common.{inl, inr, arith, refl, ◌∙◌}
-use Rattle.host_api.specs.Items.{split}
 use Rattle.client_run.specs.declared.status.Status.TheVariants.{Done, SourceFault, NoMemory, Budget}
-use Rattle.client_run.proofs.Served.{served_none, next_read, all_done, none_left, took_one, keeps_stored, keeps_within, stops, served_more, stops_within, causes_within, same_then, stored_still}
+use Rattle.client_run.proofs.Committed.{stored_reads}
+use Rattle.client_run.proofs.Served.{served_none, next_read, all_done, none_left, taken_as, took_one, keeps_stored, keeps_within, stops, served_more, stops_within, leaves_all, nothing_kept, is_served, causes_within, same_then}
 use Rattle.client_run.proofs.serving.serve.Goals as goal
 
 pub returns-in-Err-Failed-clause-run : goal.returns-in-Err-Failed-clause-run
-returns-in-Err-Failed-clause-run g c = λ tells payloads is.
-    let it = c.loop-handled.invariant.serving tells payloads is in
-    stops g.H.Host.view c.args.host.now c.args.budget SourceFault _ it (it.within, c.loop-handled-test.true) (record { rest = _; others = it.left_over; suffix = c.in-Err-Failed.ensures.suffix tells }) (λ readings wrote. wrote) (λ readings files finds. finds)
+returns-in-Err-Failed-clause-run g c = λ tells told s stands.
+    let it = c.loop-handled.invariant.serving tells told s stands in
+    stops g.H.Host.view c.args.host.now SourceFault _ it (c.loop-handled.invariant.stored told)
+    (record { handled = omega (arith, it.count, c.loop-handled-test.true); taken = record { rest = _; others = taken_as it it.left_over; suffix = c.in-Err-Failed.ensures.suffix tells }; written = it.wrote }) (λ files finds. finds)
 
 pub returns-in-Err-NoMemory-clause-run : goal.returns-in-Err-NoMemory-clause-run
-returns-in-Err-NoMemory-clause-run g c = λ tells payloads is.
-    let it = c.loop-handled.invariant.serving tells payloads is in
-    stops g.H.Host.view c.args.host.now c.args.budget NoMemory _ it (it.within, c.loop-handled-test.true) (inl (record { rest = _; others = it.left_over; suffix = c.in-Err-NoMemory.ensures.suffix tells })) (λ readings wrote. wrote) (λ readings files finds. inl finds)
+returns-in-Err-NoMemory-clause-run g c = λ tells told s stands.
+    let it = c.loop-handled.invariant.serving tells told s stands in
+    stops g.H.Host.view c.args.host.now NoMemory _ it (c.loop-handled.invariant.stored told)
+    (record { handled = omega (arith, it.count, c.loop-handled-test.true); taken = inl (record { rest = _; others = taken_as it it.left_over; suffix = c.in-Err-NoMemory.ensures.suffix tells }); written = it.wrote }) (λ files finds. inl finds)
 
 pub returns-in-End-clause-run : goal.returns-in-End-clause-run
-returns-in-End-clause-run g c = λ tells payloads is.
-    let it = c.loop-handled.invariant.serving tells payloads is in
-    let ended = all_done it c.in-Ok.line _ _ c.in-End.is (c.in-Ok.ensures.takes tells) in
-    stops g.H.Host.view c.args.host.now c.args.budget Done _ it (ended, c.loop-handled-test.true) (none_left it c.in-Ok.line _ _ c.in-End.is (c.in-Ok.ensures.takes tells)) (λ readings wrote. wrote) (λ readings files finds. finds)
+returns-in-End-clause-run g c = λ tells told s stands.
+    let it = c.loop-handled.invariant.serving tells told s stands in
+    let all = all_done it c.in-Ok.line _ _ c.in-End.is (c.in-Ok.ensures.takes tells) in
+    stops g.H.Host.view c.args.host.now Done _ it (c.loop-handled.invariant.stored told)
+    (record { handled = record { all = it.count ∙ all; below = omega (arith, it.count, c.loop-handled-test.true) }; taken = taken_as it (none_left it c.in-Ok.line _ _ c.in-End.is (c.in-Ok.ensures.takes tells)); written = it.wrote }) (λ files finds. finds)
+
+pub returns-in-End-clause-kept : goal.returns-in-End-clause-kept
+returns-in-End-clause-kept g c = λ tells told s stands.
+    let it = c.loop-handled.invariant.serving tells told s stands in
+    leaves_all it _ (all_done it c.in-Ok.line _ _ c.in-End.is (c.in-Ok.ensures.takes tells)) (stored_reads (c.loop-handled.invariant.stored told))
 
 pub returns-in_default-read_item-clause-run : goal.returns-in_default-read_item-clause-run
-returns-in_default-read_item-clause-run g c = λ tells payloads is.
-    let it = c.loop-handled.invariant.serving tells payloads is in
-    stops g.H.Host.view c.args.host.now c.args.budget NoMemory _ it (it.within, c.loop-handled-test.true) (inr (took_one it c.in-Ok.line _ _ c.in_default.not-End (c.in-Ok.ensures.takes tells))) (λ readings wrote. wrote) (λ readings files finds. inl finds)
+returns-in_default-read_item-clause-run g c = λ tells told s stands.
+    let it = c.loop-handled.invariant.serving tells told s stands in
+    stops g.H.Host.view c.args.host.now NoMemory _ it (c.loop-handled.invariant.stored told)
+    (record { handled = omega (arith, it.count, c.loop-handled-test.true); taken = inr (took_one it c.in-Ok.line _ _ c.in_default.not-End (c.in-Ok.ensures.takes tells)); written = it.wrote }) (λ files finds. inl finds)
 
 pub returns-in-Err-clause-run : goal.returns-in-Err-clause-run
-returns-in-Err-clause-run g c = λ tells payloads is.
-    let it = c.loop-handled.invariant.serving tells payloads is in
+returns-in-Err-clause-run g c = λ tells told s stands.
+    let it = c.loop-handled.invariant.serving tells told s stands in
     let n = next_read it c.in-Ok.line _ c.as_slice.result.now _ c.in-Ok-read_item.reading c.in_default.not-End c.as_slice.ensures.value (c.in-Ok.ensures.takes tells) c.in-Ok-read_item.ensures.is in
-    rw c.status.ensures (stops_within g.H.Host.view c.args.host.now c.args.budget c.in-Err.fault _ c.in-Ok-read_item.reading it n c.in-Ok-read_item.ensures.spelled (omega (arith, c.loop-handled-test.true, c.ranges.budget)) (record { state = tt; out = c.in-Err.ensures.out; files = c.in-Err.ensures.files }) c.loop-handled-test.true)
+    rw c.status.ensures (stops_within g.H.Host.view c.args.host.now c.in-Err.fault _ c.in-Ok-read_item.reading it n (omega (arith, c.loop-handled-test.true, c.ranges.budget)) (record { stands = tt; out = c.in-Err.ensures.out; files = c.in-Err.ensures.files told }) c.loop-handled-test.true)
+
+pub returns-in-Err-clause-kept : goal.returns-in-Err-clause-kept
+returns-in-Err-clause-kept g c = rw c.status.ensures (λ tells told s stands. nothing_kept c.in-Err.fault _ _)
+
+pub returns-in-Err-clause-serving : goal.returns-in-Err-clause-serving
+returns-in-Err-clause-serving g c = rw c.status.ensures (is_served c.in-Err.fault)
 
 pub returns-in-Err-clause-cause : goal.returns-in-Err-clause-cause
 returns-in-Err-clause-cause g c = rw c.status.ensures (causes_within c.in-Err.fault (c.in-Ok.ensures.cause.stays (λ is. cc) ∙ c.loop-handled.invariant.source) c.loop-handled.invariant.counts c.in-Err.ensures.counts)
 
 pub loop-handled-preserved : goal.loop-handled-preserved
 loop-handled-preserved g c = record {
-  stored = λ told.
-      let before = c.loop-handled.invariant.stored told in
-      stored_still c.args.root.now c.loop-handled.handled c.in-Ok-read_item.reading c.loop-handled.store c.in-Ok-handle.next g.H.Host.tells_out g.H.Host.tells_files _ _ told before.0 before.1 (record { state = c.in-Ok-handle.ensures.state; out = c.in-Ok-handle.ensures.out; files = c.in-Ok-handle.ensures.files });
-  serving = λ tells payloads is.
-      let it = c.loop-handled.invariant.serving tells payloads is in
+  stored = c.in-Ok-handle.ensures.stored;
+  serving = λ tells told s stands.
+      let it = c.loop-handled.invariant.serving tells told s stands in
       let n = next_read it c.in-Ok.line _ c.as_slice.result.now _ c.in-Ok-read_item.reading c.in_default.not-End c.as_slice.ensures.value (c.in-Ok.ensures.takes tells) c.in-Ok-read_item.ensures.is in
-      served_more c.in-Ok-read_item.reading it n c.in-Ok-read_item.ensures.spelled (omega (arith, c.loop-handled-test.true, c.ranges.budget)) (record { state = c.in-Ok-handle.ensures.state; out = c.in-Ok-handle.ensures.out; files = c.in-Ok-handle.ensures.files });
+      served_more c.in-Ok-read_item.reading it n (omega (arith, c.loop-handled-test.true, c.ranges.budget)) (record { stands = c.in-Ok-handle.ensures.stands; out = c.in-Ok-handle.ensures.out; files = c.in-Ok-handle.ensures.files told });
   counts = same_then c.loop-handled.invariant.counts c.in-Ok-handle.ensures.counts;
   source = c.in-Ok.ensures.cause.stays (λ is. cc) ∙ c.loop-handled.invariant.source;
 }
 
 pub returns-clause-run : goal.returns-clause-run
-returns-clause-run g c = λ tells payloads is.
-    let it = c.loop-handled.invariant.serving tells payloads is in
-    stops g.H.Host.view c.args.host.now c.args.budget Budget _ it (it.within, omega (arith, c.loop-handled-test.false, c.loop-handled.auto.handled-end)) it.left_over (λ readings wrote. wrote) (λ readings files finds. finds)
+returns-clause-run g c = λ tells told s stands.
+    let it = c.loop-handled.invariant.serving tells told s stands in
+    stops g.H.Host.view c.args.host.now Budget _ it (c.loop-handled.invariant.stored told)
+    (record { handled = omega (arith, it.count, c.loop-handled-test.false, c.loop-handled.auto.handled-end); taken = taken_as it it.left_over; written = it.wrote }) (λ files finds. finds)
+
+pub returns-clause-kept : goal.returns-clause-kept
+returns-clause-kept g c = λ tells told s stands.
+    let it = c.loop-handled.invariant.serving tells told s stands in
+    leaves_all it _ (omega (arith, c.loop-handled-test.false, c.loop-handled.auto.handled-end)) (stored_reads (c.loop-handled.invariant.stored told))
 
 pub returns-in-Err-clause-keeps : goal.returns-in-Err-clause-keeps
 returns-in-Err-clause-keeps g c = λ told.
-    keeps_within c.args.root.now c.loop-handled.handled c.in-Ok-read_item.reading c.loop-handled.store c.in-Err.fault g.H.Host.tells_out g.H.Host.tells_files _ _ told (g.met.H.Host.may_stay _ told) (c.loop-handled.invariant.stored told) c.in-Ok-read_item.ensures.spelled (omega (arith, c.loop-handled-test.true, c.ranges.budget)) (record { state = tt; out = c.in-Err.ensures.out; files = c.in-Err.ensures.files })
+    keeps_within c.args.root.now _ c.in-Ok-read_item.reading c.loop-handled.store c.in-Err.fault g.H.Host.tells_out _ _ (g.met.H.Host.may_stay _ told) (record { stands = tt; out = c.in-Err.ensures.out; files = c.in-Err.ensures.files told })
 
 pub returns-in-Err-Failed-clause-keeps : goal.returns-in-Err-Failed-clause-keeps
-returns-in-Err-Failed-clause-keeps g c = λ told. keeps_stored c.loop-handled.store _ (g.met.H.Host.may_stay _ told) (c.loop-handled.invariant.stored told)
+returns-in-Err-Failed-clause-keeps g c = λ told. keeps_stored (g.met.H.Host.may_stay _ told) (c.loop-handled.invariant.stored told)
 
 pub returns-in-Err-NoMemory-clause-keeps : goal.returns-in-Err-NoMemory-clause-keeps
-returns-in-Err-NoMemory-clause-keeps g c = λ told. keeps_stored c.loop-handled.store _ (g.met.H.Host.may_stay _ told) (c.loop-handled.invariant.stored told)
+returns-in-Err-NoMemory-clause-keeps g c = λ told. keeps_stored (g.met.H.Host.may_stay _ told) (c.loop-handled.invariant.stored told)
 
 pub returns-in-End-clause-keeps : goal.returns-in-End-clause-keeps
-returns-in-End-clause-keeps g c = λ told. keeps_stored c.loop-handled.store _ (g.met.H.Host.may_stay _ told) (c.loop-handled.invariant.stored told)
+returns-in-End-clause-keeps g c = λ told. keeps_stored (g.met.H.Host.may_stay _ told) (c.loop-handled.invariant.stored told)
 
 pub returns-in_default-read_item-clause-keeps : goal.returns-in_default-read_item-clause-keeps
-returns-in_default-read_item-clause-keeps g c = λ told. keeps_stored c.loop-handled.store _ (g.met.H.Host.may_stay _ told) (c.loop-handled.invariant.stored told)
+returns-in_default-read_item-clause-keeps g c = λ told. keeps_stored (g.met.H.Host.may_stay _ told) (c.loop-handled.invariant.stored told)
 
 pub returns-clause-keeps : goal.returns-clause-keeps
-returns-clause-keeps g c = λ told. keeps_stored c.loop-handled.store _ (g.met.H.Host.may_stay _ told) (c.loop-handled.invariant.stored told)
+returns-clause-keeps g c = λ told. keeps_stored (g.met.H.Host.may_stay _ told) (c.loop-handled.invariant.stored told)
 
 pub loop-handled-init : goal.loop-handled-init
 loop-handled-init g c = record {
   stored = c.requires.stored;
-  serving = λ tells payloads is. served_none c.args.root.now (split (g.S.Source.left c.args.source.now)) payloads g.H.Host.tells_out g.H.Host.tells_files c.args.store (g.H.Host.view c.args.host.now) is;
+  serving = λ tells told s stands. served_none _ c.args.store (g.H.Host.view c.args.host.now) refl (c.requires.stored told) stands;
   counts = record { disk = refl; sink = refl };
   source = refl;
 }
