@@ -1,7 +1,8 @@
 -- All that a run asks of the turn of a line: it writes whole lines, which report no number above that after its commit, and
 -- its commit fits and has a spelling.
-use Rattle.std.proofs.Common.{◌≡◌, ℕ, ◌+◌, ◌<◌, ◌≤◌, ◌^◌, List, [], ◌∷◌, ◌++◌, codes, Option, Some, None, IfSome, refl, sym, ap, subst, ◌∙◌, arith}
+use Rattle.std.proofs.Common.{◌≡◌, ℕ, ◌+◌, ◌<◌, ◌≤◌, ◌^◌, List, [], ◌∷◌, ◌++◌, codes, Bool, true, false, nat_lt, if◌then◌else◌, Option, Some, None, IfSome, refl, sym, ap, subst, ◌∙◌, arith}
 use Rattle.std.specs.List.{All}
+use Rattle.std.proofs.lemmas.Bool.{ltb-true}
 use Rattle.std.proofs.lemmas.List.Elements.{All-nil, All-cons, All-append}
 use Rattle.json.specs.Tree.{HasNumbers, ItemsHaveNumbers, MembersHaveNumbers}
 use Rattle.json.proofs.Printed.Decimals.{IsNumber-decimal}
@@ -12,18 +13,21 @@ use Rattle.document_keys.specs.Names.{Root}
 use Rattle.value_model.specs.Data as kind
 use Rattle.value_model.specs.Data.{Data, Items, Members, Entries, members_of}
 use Rattle.json_model.specs.Printed.{printed_value, printed_items, printed_members, values_tree, fields_tree}
+use Rattle.value_model.specs.declared.timestamp.Timestamp.{Timestamp}
+use Rattle.mutations.specs.declared.plain.PlainUpdate.{PlainUpdate as Write}
+use Rattle.record_codec.specs.declared.commit.Commit.TheVariants.{Enqueue}
 use Rattle.record_codec.specs.Spelling.{HasSpelling}
 use Rattle.client_run.specs.Trees.{one}
-use Rattle.client_run.specs.Lines.{line_of, ok_tree, refused_tree, document_tree}
-use Rattle.client_run.specs.Reported.{Reports, ReportsWithin, ReportedWithin, lines_on, whole_lines}
-use Rattle.client_run.specs.State.{State, Fits, local_document}
-use Rattle.client_run.specs.Turn.{Turn, Past, turn, after, printed}
+use Rattle.client_run.specs.Lines.{wrote, line_of, ok_tree, refused_tree, document_tree}
+use Rattle.client_run.specs.Reported.{IsReporting, Reports, ReportsWithin, ReportedWithin, lines_on, whole_lines}
+use Rattle.client_run.specs.State.{State, Fits, most_commits, local_document}
+use Rattle.client_run.specs.Turn.{Turn, Past, refused, commits, enqueued, turn, after, printed}
 use Rattle.client_run.specs.Turned.{IsSpelledReading}
 use Rattle.client_run.specs.declared.event.Event.TheVariants as event
 use Rattle.client_run.specs.declared.reading.Reading.{Reading}
 use Rattle.client_run.specs.declared.reading.Reading.TheVariants.{Line, Refused}
 use Rattle.client_run.specs.declared.refusal.Refusal.{Refusal}
-use Rattle.client_run.specs.declared.refusal.Refusal.TheVariants.{LineTooLong, BadLine, TooDeep, Unsupported, BadName}
+use Rattle.client_run.specs.declared.refusal.Refusal.TheVariants.{LineTooLong, BadLine, TooDeep, Unsupported, BadName, IdsSpent}
 use Rattle.client_run.proofs.Breaks.{open_on, lines_append, open_append, one_line, nothing_open}
 use Rattle.client_run.proofs.Parsed.{no_report, ok_within}
 
@@ -61,16 +65,23 @@ line_within most d within = record {
   within = subst (λ (ls : List (List ℕ)). All (ReportsWithin most) ls) (sym (one_line d)) (All-cons (ReportsWithin most) (compact_text d) [] within (All-nil (ReportsWithin most)));
 }
 
--- an object with one member that isn't `ok`
-quiet_within : (most : ℕ) (name : List ℕ) (d : json.Data) → HasNumbers (outline d) → ((e : json.Data) → get (codes "ok") (one name e) ≡ None) → IsWithin most (line_of (one name d))
+-- an object with one member that reports nothing
+quiet_within : (most : ℕ) (name : List ℕ) (d : json.Data) → HasNumbers (outline d) → ((reporting : List ℕ) → IsReporting reporting → (e : json.Data) → get reporting (one name e) ≡ None) → IsWithin most (line_of (one name d))
 quiet_within most name d numbers other = line_within most (one name d) (λ n reports. absurd (no_report name d numbers other n reports))
 
+refused_quiet : (reporting : List ℕ) → IsReporting reporting → (e : json.Data) → get reporting (one (codes "refused") e) ≡ None
+refused_quiet reporting IsReporting.in_ok e = refl
+refused_quiet reporting IsReporting.in_result e = refl
+refused_quiet reporting IsReporting.in_rejected e = refl
+refused_quiet reporting IsReporting.in_snapshot e = refl
+
 refused_within : (most line : ℕ) (refusal : Refusal) → line < 2 ^ 64 → IsWithin most (line_of (refused_tree line refusal))
-refused_within most line LineTooLong small = quiet_within most (codes "refused") _ (tt, (IsNumber-decimal line small, (IsNumber-decimal 11 (omega arith), tt))) (λ e. refl)
-refused_within most line (BadLine name) small = quiet_within most (codes "refused") _ (tt, (IsNumber-decimal line small, (tt, (IsNumber-decimal 1 (omega arith), tt)))) (λ e. refl)
-refused_within most line TooDeep small = quiet_within most (codes "refused") _ (tt, (IsNumber-decimal line small, (IsNumber-decimal 4 (omega arith), tt))) (λ e. refl)
-refused_within most line (Unsupported name) small = quiet_within most (codes "refused") _ (tt, (IsNumber-decimal line small, (tt, (IsNumber-decimal 3 (omega arith), tt)))) (λ e. refl)
-refused_within most line (BadName bad) small = quiet_within most (codes "refused") _ (tt, (tt, (IsNumber-decimal line small, (tt, (IsNumber-decimal 2 (omega arith), tt))))) (λ e. refl)
+refused_within most line LineTooLong small = quiet_within most (codes "refused") _ (tt, (IsNumber-decimal line small, (IsNumber-decimal 11 (omega arith), tt))) refused_quiet
+refused_within most line (BadLine name) small = quiet_within most (codes "refused") _ (tt, (IsNumber-decimal line small, (tt, (IsNumber-decimal 1 (omega arith), tt)))) refused_quiet
+refused_within most line TooDeep small = quiet_within most (codes "refused") _ (tt, (IsNumber-decimal line small, (IsNumber-decimal 4 (omega arith), tt))) refused_quiet
+refused_within most line IdsSpent small = quiet_within most (codes "refused") _ (tt, (IsNumber-decimal line small, (IsNumber-decimal 12 (omega arith), tt))) refused_quiet
+refused_within most line (Unsupported name) small = quiet_within most (codes "refused") _ (tt, (IsNumber-decimal line small, (tt, (IsNumber-decimal 3 (omega arith), tt)))) refused_quiet
+refused_within most line (BadName bad) small = quiet_within most (codes "refused") _ (tt, (tt, (IsNumber-decimal line small, (tt, (IsNumber-decimal 2 (omega arith), tt))))) refused_quiet
 
 -- ---- a document
 
@@ -97,24 +108,43 @@ mutual
   members_numbers kind.no_members = tt
   members_numbers (kind.member name d ms) = (value_numbers d, members_numbers ms)
 
+document_quiet : (reporting : List ℕ) → IsReporting reporting → (e : json.Data) → get reporting (one (codes "document") e) ≡ None
+document_quiet reporting IsReporting.in_ok e = refl
+document_quiet reporting IsReporting.in_result e = refl
+document_quiet reporting IsReporting.in_rejected e = refl
+document_quiet reporting IsReporting.in_snapshot e = refl
+
 document_within : (most : ℕ) (root : Root) (key : List (List ℕ)) (document : Option Entries) → IsWithin most (line_of (document_tree root key document))
-document_within most root key None = quiet_within most (codes "document") _ (tt, (tt, (tt, tt))) (λ e. refl)
-document_within most root key (Some []) = quiet_within most (codes "document") _ (tt, (tt, (tt, tt))) (λ e. refl)
-document_within most root key (Some (field ∷ fields)) = quiet_within most (codes "document") _ (tt, (members_numbers (members_of (field ∷ fields)), (tt, (tt, tt)))) (λ e. refl)
+document_within most root key None = quiet_within most (codes "document") _ (tt, (tt, (tt, tt))) document_quiet
+document_within most root key (Some []) = quiet_within most (codes "document") _ (tt, (tt, (tt, tt))) document_quiet
+document_within most root key (Some (field ∷ fields)) = quiet_within most (codes "document") _ (tt, (members_numbers (members_of (field ∷ fields)), (tt, (tt, tt)))) document_quiet
 
 -- ---- each turn
 
-pub turn_honest : (root : Root) (number : ℕ) (s : State) (past : Past) (reading : Reading) → s.number ≤ 2 ^ 62 → s.next_batch ≤ s.number + 1 → number < 2 ^ 64 → IsHonest root number s reading (turn root s past reading)
-unfolding turn
-turn_honest root number s past (Refused refusal) few next long = record {
+refused_honest : (root : Root) (number : ℕ) (s : State) (reading : Reading) (refusal : Refusal) → number < 2 ^ 64 → IsHonest root number s reading (refused refusal)
+refused_honest root number s reading refusal long = record {
   output = within_one s.number (line_of (refused_tree number refusal)) (refused_within s.number number refusal long);
   commit = λ spelled. tt;
 }
-turn_honest root number s past (Line (event.Write at write)) few next long = record {
-  output = within_one (s.number + 1) (line_of (ok_tree s.next_batch (s.number + 1))) (line_within (s.number + 1) (ok_tree s.next_batch (s.number + 1)) (ok_within s.next_batch (s.number + 1) (omega (arith, few, next)) (omega (arith, few))));
-  commit = λ spelled. ((refl, omega (arith, few)), record { id = omega (arith, few, next); at = spelled.0; write = spelled.1 });
-}
-turn_honest root number s past (Line (event.Get key)) few next long = record {
+
+enqueued_honest : (root : Root) (number : ℕ) (s : State) (at : Timestamp) (write : Write) → s.next_batch ≤ s.number + 1 → number < 2 ^ 64 → IsHonest root number s (Line (event.Write at write)) (enqueued s at write)
+enqueued_honest root number s at write next long = by_number (nat_lt s.number most_commits) refl
+  where
+    by_number : (left : Bool) → nat_lt s.number most_commits ≡ left
+        → IsHonest root number s (Line (event.Write at write)) (if left then commits (Enqueue (record { id = s.next_batch; at = at; write = write })) (wrote s.next_batch (s.number + 1) ∷ []) else refused IdsSpent)
+    by_number true is =
+        let few : s.number < most_commits = ltb-true s.number most_commits is in
+        record {
+          output = within_one (s.number + 1) (line_of (ok_tree s.next_batch (s.number + 1))) (line_within (s.number + 1) (ok_tree s.next_batch (s.number + 1)) (ok_within s.next_batch (s.number + 1) (omega (arith, few, next)) (omega (arith, few))));
+          commit = λ spelled. ((refl, few), record { id = omega (arith, few, next); at = spelled.0; write = spelled.1 });
+        }
+    by_number false is = refused_honest root number s (Line (event.Write at write)) IdsSpent long
+
+pub turn_honest : (root : Root) (number : ℕ) (s : State) (past : Past) (reading : Reading) → s.next_batch ≤ s.number + 1 → number < 2 ^ 64 → IsHonest root number s reading (turn root s past reading)
+unfolding turn
+turn_honest root number s past (Refused refusal) next long = refused_honest root number s (Refused refusal) refusal long
+turn_honest root number s past (Line (event.Write at write)) next long = enqueued_honest root number s at write next long
+turn_honest root number s past (Line (event.Get key)) next long = record {
   output = within_one s.number (line_of (document_tree root key (local_document s.batches key))) (document_within s.number root key (local_document s.batches key));
   commit = λ spelled. tt;
 }

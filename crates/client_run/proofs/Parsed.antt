@@ -17,7 +17,7 @@ use Rattle.serde_json.proofs.Numbers.{number_of-decimal}
 use Rattle.serde_json.proofs.Texts.{print-outline}
 use Rattle.client_run.specs.Trees.{one}
 use Rattle.client_run.specs.Lines.{ok_tree}
-use Rattle.client_run.specs.Reported.{Reports, reported_in, commit_in, ALineReportsOnce}
+use Rattle.client_run.specs.Reported.{IsReporting, Reports, reported_in, commit_in, ALineReportsOnce}
 
 -- the tokens of a text that was printed
 printed_tokens : (d : Data) → HasNumbers (outline d) → tokens (compact_text d) ≡ json_tokens (outline d)
@@ -53,20 +53,20 @@ printed_read d e numbers shallow is =
 -- ---- reports
 
 pub a_line_reports_once : ALineReportsOnce
-a_line_reports_once line a b first second =
+a_line_reports_once line a b first second same =
     let trees : first.tree ≡ second.tree = Some_inj _ _ (sym first.is_json ∙ second.is_json) in
-    Some_inj a b (sym first.is ∙ ap reported_in trees ∙ second.is)
+    Some_inj a b (sym first.is ∙ ap (λ (t : Data). reported_in first.name t) trees ∙ ap (λ (n : List ℕ). reported_in n second.tree) same ∙ second.is)
 
--- an object with one member, where that isn't `ok`
-without_ok : (name : List ℕ) → ((d : Data) → get (codes "ok") (one name d) ≡ None) → (o : Option Data) (e : Data) (n : ℕ) → option_map object (option_and_then (λ d. Some (member name d no_members)) o) ≡ Some e → reported_in e ≡ Some n → ⊥
-without_ok name other None e n is reports = not_found e is
-without_ok name other (Some d) e n is reports =
+-- an object with one member, where that reports nothing
+without : (name reporting : List ℕ) → ((d : Data) → get reporting (one name d) ≡ None) → (o : Option Data) (e : Data) (n : ℕ) → option_map object (option_and_then (λ d. Some (member name d no_members)) o) ≡ Some e → reported_in reporting e ≡ Some n → ⊥
+without name reporting other None e n is reports = not_found e is
+without name reporting other (Some d) e n is reports =
     let tree : one name d ≡ e = Some_inj _ _ is in
-    let none : option_and_then commit_in (get (codes "ok") e) ≡ None = ap (λ t. option_and_then commit_in (get (codes "ok") t)) (sym tree) ∙ ap (option_and_then commit_in) (other d) in
+    let none : reported_in reporting e ≡ None = ap (reported_in reporting) (sym tree) ∙ ap (option_and_then commit_in) (other d) in
     not_found n (sym none ∙ reports)
 
-pub no_report : (name : List ℕ) (d : Data) → HasNumbers (outline d) → ((e : Data) → get (codes "ok") (one name e) ≡ None) → (n : ℕ) → Reports (compact_text (one name d)) n → ⊥
-no_report name d numbers other n it = without_ok name other (of_json (outline d)) it.tree n (read_printed (one name d) it.tree (numbers, tt) it.is_json) it.is
+pub no_report : (name : List ℕ) (d : Data) → HasNumbers (outline d) → ((reporting : List ℕ) → IsReporting reporting → (e : Data) → get reporting (one name e) ≡ None) → (n : ℕ) → Reports (compact_text (one name d)) n → ⊥
+no_report name d numbers other n it = without name it.name (other it.name it.reporting) (of_json (outline d)) it.tree n (read_printed (one name d) it.tree (numbers, tt) it.is_json) it.is
 
 -- the line `ok`
 ok_numbers : (batch n : ℕ) → batch < 2 ^ 64 → n < 2 ^ 64 → HasNumbers (outline (ok_tree batch n))
@@ -75,15 +75,22 @@ ok_numbers batch n small few = ((IsNumber-decimal batch small, (IsNumber-decimal
 ok_outline : (batch n : ℕ) → batch < 2 ^ 64 → n < 2 ^ 64 → of_json (outline (ok_tree batch n)) ≡ Some (ok_tree batch n)
 ok_outline batch n small few = rw (number_of-decimal batch small, number_of-decimal n few)
 
+ok_alone : (batch n reported : ℕ) (name : List ℕ) → IsReporting name → reported_in name (ok_tree batch n) ≡ Some reported → reported ≤ n
+ok_alone batch n reported name IsReporting.in_ok is = let same : n ≡ reported = Some_inj n reported is in omega (arith, same)
+ok_alone batch n reported name IsReporting.in_result is = absurd (not_found reported is)
+ok_alone batch n reported name IsReporting.in_rejected is = absurd (not_found reported is)
+ok_alone batch n reported name IsReporting.in_snapshot is = absurd (not_found reported is)
+
 pub ok_within : (batch n : ℕ) → batch < 2 ^ 64 → n < 2 ^ 64 → (reported : ℕ) → Reports (compact_text (ok_tree batch n)) reported → reported ≤ n
 ok_within batch n small few reported it =
     let tree : ok_tree batch n ≡ it.tree = Some_inj _ _ (sym (ok_outline batch n small few) ∙ read_printed (ok_tree batch n) it.tree (ok_numbers batch n small few) it.is_json) in
-    let same : n ≡ reported = Some_inj n reported (ap reported_in tree ∙ it.is) in
-    omega (arith, same)
+    ok_alone batch n reported it.name it.reporting (ap (reported_in it.name) tree ∙ it.is)
 
 pub ok_reports : (batch n : ℕ) → batch < 2 ^ 64 → n < 2 ^ 64 → Reports (compact_text (ok_tree batch n)) n
 ok_reports batch n small few = record {
   tree = ok_tree batch n;
   is_json = printed_read (ok_tree batch n) (ok_tree batch n) (ok_numbers batch n small few) (omega arith) (ok_outline batch n small few);
+  name = codes "ok";
+  reporting = IsReporting.in_ok;
   is = refl;
 }

@@ -205,7 +205,7 @@ next_turned {call} {done = done} {store = store} {mid = mid} {new = new} reading
     let long : length past + 1 ≡ done + 1 = ap (λ n. n + 1) (past_length call it.readings done it.count) in
     let number : (now call.first past).number ≡ store.number = ap (λ (t : State). t.number) (sym it.stands.state) in
     let next : (now call.first past).next_batch ≡ store.next_batch = ap (λ (t : State). t.next_batch) (sym it.stands.state) in
-    let honest = turn_honest call.root (length past + 1) (now call.first past) (heard past) reading (omega (arith, number, store.counted, store.within)) (omega (arith, number, next, store.next)) (omega (arith, long, few)) in
+    let honest = turn_honest call.root (length past + 1) (now call.first past) (heard past) reading (omega (arith, number, next, store.next)) (omega (arith, long, few)) in
     record {
       fine = fine_more call.root call.first past reading honest it.fine;
       turned = subst (λ (n : ℕ). Turned (now call.first past) (now call.first (one_more call.root call.first past reading)) (printed call.root n (next_turn call.root call.first past reading)) mid new) (sym long) (handles.files (now call.first past) (heard past) it.stands);

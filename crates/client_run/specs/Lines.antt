@@ -10,7 +10,7 @@ use Rattle.json_model.specs.declared.fault.NamingFault.{NamingFault}
 use Rattle.json_model.specs.declared.fault.NamingFault.TheVariants.{WrongRoot, BadSegment, OddLength, BadPath, ReservedField}
 use Rattle.client_run.specs.Trees.{one, two, three, four, five}
 use Rattle.client_run.specs.declared.refusal.Refusal.{Refusal}
-use Rattle.client_run.specs.declared.refusal.Refusal.TheVariants.{LineTooLong, BadLine, TooDeep, Unsupported, BadName}
+use Rattle.client_run.specs.declared.refusal.Refusal.TheVariants.{LineTooLong, BadLine, TooDeep, Unsupported, BadName, IdsSpent}
 
 -- a tree as a line
 unfoldable pub line_of : Data → List ℕ
@@ -35,6 +35,9 @@ too_deep_tree line = one (codes "refused") (three (codes "cause") (string (codes
 abbrev pub unsupported_tree : ℕ → List ℕ → Data
 unsupported_tree line name = one (codes "refused") (four (codes "cause") (string (codes "Unsupported")) (codes "line") (count line) (codes "member") (string name) (codes "number") (count 3))
 
+abbrev pub ids_spent_tree : ℕ → Data
+ids_spent_tree line = one (codes "refused") (three (codes "cause") (string (codes "IdsSpent")) (codes "line") (count line) (codes "number") (count 12))
+
 -- how the fault of a name is printed
 abbrev pub naming_text : NamingFault → List ℕ
 naming_text WrongRoot = codes "WrongRoot"
@@ -51,6 +54,7 @@ abbrev pub refused_tree : ℕ → Refusal → Data
 refused_tree line LineTooLong = too_long_tree line
 refused_tree line (BadLine member) = bad_line_tree line member
 refused_tree line TooDeep = too_deep_tree line
+refused_tree line IdsSpent = ids_spent_tree line
 refused_tree line (Unsupported member) = unsupported_tree line member
 refused_tree line (BadName bad) = bad_name_tree line (naming_text bad.fault) bad.name
 

@@ -18,12 +18,25 @@ pub record State : Type 0 where
 abbrev pub start : State
 start = record { number = 0; batches = []; next_batch = 1 }
 
--- a batch joins the pending ones under the next id
-abbrev pub Fits : State → Commit → Type 0
-Fits s (Enqueue batch) = (batch.id ≡ s.next_batch) × (s.number < 9223372036854775807)
+-- the greatest number that a commit may have
+abbrev pub most_commits : ℕ
+most_commits = 9223372036854775807
 
+-- a batch has the next id
+abbrev pub Suits : State → Commit → Type 0
+Suits s (Enqueue batch) = batch.id ≡ s.next_batch
+
+-- the commit suits the state, and a number is left for it
+abbrev pub Fits : State → Commit → Type 0
+Fits s commit = Suits s commit × (s.number < most_commits)
+
+-- what a commit does to the state: a batch joins the pending ones
+abbrev pub effect : State → Commit → State
+effect s (Enqueue batch) = record s { batches = s.batches ++ batch ∷ []; next_batch = s.next_batch + 1 }
+
+-- and each counts
 abbrev pub committed : State → Commit → State
-committed s (Enqueue batch) = record { number = s.number + 1; batches = s.batches ++ batch ∷ []; next_batch = s.next_batch + 1 }
+committed s commit = record (effect s commit) { number = s.number + 1 }
 
 -- The payloads, one after another, spell commits that fit, and lead from one state to the other.
 abbrev pub Replays : State → List (List ℕ) → State → Type 0

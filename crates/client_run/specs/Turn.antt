@@ -1,14 +1,17 @@
 -- What one line of input does: why it is refused, at most one commit, and the lines that answer it; and the run of a list of
 -- lines.
-use Rattle.std.specs.Prelude.{ℕ, ◌+◌, List, [], ◌∷◌, ◌++◌, length, fold, Option, Some, None, is_none, if◌then◌else◌}
+use Rattle.std.specs.Prelude.{ℕ, ◌+◌, List, [], ◌∷◌, ◌++◌, length, fold, Option, Some, None, is_none, nat_lt, if◌then◌else◌}
 use Rattle.document_keys.specs.Names.{Root}
+use Rattle.value_model.specs.declared.timestamp.Timestamp.{Timestamp}
+use Rattle.mutations.specs.declared.plain.PlainUpdate.{PlainUpdate as Write}
 use Rattle.record_codec.specs.declared.commit.Commit.{Commit}
 use Rattle.record_codec.specs.declared.commit.Commit.TheVariants.{Enqueue}
 use Rattle.client_run.specs.declared.event.Event.TheVariants as event
 use Rattle.client_run.specs.declared.reading.Reading.{Reading}
 use Rattle.client_run.specs.declared.reading.Reading.TheVariants.{Line, Refused}
 use Rattle.client_run.specs.declared.refusal.Refusal.{Refusal}
-use Rattle.client_run.specs.State.{State, committed, local_document}
+use Rattle.client_run.specs.declared.refusal.Refusal.TheVariants.{IdsSpent}
+use Rattle.client_run.specs.State.{State, committed, most_commits, local_document}
 use Rattle.client_run.specs.Lines.{Out, wrote, document, text_of, refusal_text}
 
 pub record Turn : Type 0 where
@@ -26,19 +29,29 @@ pub record Entry : Type 0 where
 abbrev pub Past : Type 0
 Past = List Entry
 
+-- a refused line does nothing
+abbrev pub refused : Refusal → Turn
+refused refusal = record { refusal = Some refusal; commit = None; lines = [] }
+
+abbrev pub answered : List Out → Turn
+answered lines = record { refusal = None; commit = None; lines = lines }
+
+-- the line makes this commit
+abbrev pub commits : Commit → List Out → Turn
+commits commit lines = record { refusal = None; commit = Some commit; lines = lines }
+
+-- a write is the next batch, where a number is left for its commit
+abbrev pub enqueued : State → Timestamp → Write → Turn
+enqueued s at write =
+    if nat_lt s.number most_commits
+    then commits (Enqueue (record { id = s.next_batch; at = at; write = write })) (wrote s.next_batch (s.number + 1) ∷ [])
+    else refused IdsSpent
+
 -- The turn of one line, from the state before it and the lines that the client has heard.
 unfoldable pub turn : Root → State → Past → Reading → Turn
-turn root s past (Refused refusal) = record { refusal = Some refusal; commit = None; lines = [] }
-turn root s past (Line (event.Write at write)) = record {
-  refusal = None;
-  commit = Some (Enqueue (record { id = s.next_batch; at = at; write = write }));
-  lines = wrote s.next_batch (s.number + 1) ∷ [];
-}
-turn root s past (Line (event.Get key)) = record {
-  refusal = None;
-  commit = None;
-  lines = document key (local_document s.batches key) ∷ [];
-}
+turn root s past (Refused refusal) = refused refusal
+turn root s past (Line (event.Write at write)) = enqueued s at write
+turn root s past (Line (event.Get key)) = answered (document key (local_document s.batches key) ∷ [])
 
 -- what a turn writes, where this is the line's number
 abbrev pub printed : Root → ℕ → Turn → List ℕ

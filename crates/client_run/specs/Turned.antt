@@ -18,9 +18,9 @@ use Rattle.client_run.specs.declared.event.Event.TheVariants as event
 use Rattle.client_run.specs.declared.reading.Reading.{Reading}
 use Rattle.client_run.specs.declared.reading.Reading.TheVariants.{Line, Refused}
 use Rattle.client_run.specs.declared.local_store.LocalStore.{LocalStore}
-use Rattle.client_run.specs.declared.handling.Taken.{Taken}
-use Rattle.client_run.specs.declared.committing.StoreFault.{StoreFault}
-use Rattle.client_run.specs.declared.committing.StoreFault.TheVariants as store_fault
+use Rattle.client_run.specs.declared.taken.Taken.{Taken}
+use Rattle.client_run.specs.declared.local_store.StoreFault.{StoreFault}
+use Rattle.client_run.specs.declared.local_store.StoreFault.TheVariants as store_fault
 use Rattle.client_run.specs.declared.turn_fault.TurnFault.{TurnFault}
 use Rattle.client_run.specs.declared.turn_fault.TurnFault.TheVariants as fault
 use Rattle.client_run.specs.declared.status.Status.{Status}

@@ -10,7 +10,7 @@ ghost use Rattle.client_run.specs.Causes.{Causes, Completes, IsForeign, LeavesFo
 ghost use Rattle.client_run.specs.Output.{called};
 ghost use Rattle.client_run.specs.Run.{Ran, Kept};
 
-use crate::running::run_within;
+use crate::run::run_within;
 use crate::status::Status;
 use crate::words::asked_database;
 use host_api::{Host, Source};

@@ -1,7 +1,7 @@
 ghost use Rattle.std.specs.Prelude.{◌≡◌};
 ghost use Rattle.client_run.specs.Turned.{turn_fault_of, status_of};
 
-use crate::committing::StoreFault;
+use crate::local_store::StoreFault;
 use crate::status::Status;
 use document_keys::NoMemory;
 use host_api::Failed;

@@ -11,12 +11,12 @@ ghost use Rattle.client_run.specs.Turned.{IsSpelledReading, StandsFor, HandsOut,
 ghost use Rattle.client_run.specs.declared.event.Event.TheVariants as event;
 ghost use Rattle.client_run.specs.declared.reading.Reading.TheVariants as reading_of;
 
-use crate::committing::StoreFault;
 use crate::event::Event;
-use crate::local_store::LocalStore;
+use crate::lines::print_outcome;
+use crate::local_store::{LocalStore, MOST_COMMITS, StoreFault};
 use crate::out::{Out, Outcome};
-use crate::printing::print_outcome;
 use crate::reading::Reading;
+use crate::refusal::Refusal;
 use crate::turn_fault::TurnFault;
 use document_keys::{Database, DocumentKey};
 use host_api::Host;
@@ -66,6 +66,10 @@ fn take_write<H: Host>(
     ensures out { KeepsOut (H.view host.old) (H.view host.new) }
     ensures counts { RisesAt (IsErrOf result StoreFault.DiskFault) (H.view host.old).disk_faults (H.view host.new).disk_faults }
 {
+    if store.number >= MOST_COMMITS {
+        let outcome = Outcome::Refuses(Refusal::IdsSpent);
+        return Ok(Taken { store, outcome });
+    }
     let id = store.next_batch;
     let mut outs = Vec::new(alloc);
     outs.push(Out::Wrote {

@@ -5,7 +5,7 @@ use Rattle.client_run.specs.State.{State}
 use Rattle.client_run.specs.Store.{IsStored}
 use Rattle.client_run.specs.Turned.{StandsFor}
 use Rattle.client_run.proofs.Served.{Serving, SameFaults}
-use Rattle.client_run.proofs.serving.serve.Given as goal
+use Rattle.client_run.proofs.run.serve.Given as goal
 
 abbrev pub invariant-loop-handled : goal.invariant-loop-handled
 invariant-loop-handled g l = record {

@@ -1,6 +1,6 @@
 use Rattle.std.proofs.Common.{◌≡◌, ◌+◌, vec_len, map, take}
 use Rattle.client_run.specs.State.{start, Replays}
-use Rattle.client_run.proofs.opening.replay.Given as goal
+use Rattle.client_run.proofs.local_store.replay.Given as goal
 
 abbrev pub invariant-loop-payload : goal.invariant-loop-payload
 invariant-loop-payload l = record {

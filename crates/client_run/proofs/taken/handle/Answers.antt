@@ -2,7 +2,7 @@ use Rattle.std.proofs.Common.{subst, ◌∙◌}
 use Rattle.client_run.specs.State.{FindsState}
 use Rattle.client_run.proofs.Committed.{stored_finds}
 use Rattle.client_run.proofs.Handled.{turned_moved, turned_emitted, emits_as, emits_stored}
-use Rattle.client_run.proofs.handling.handle.Goals as goal
+use Rattle.client_run.proofs.taken.handle.Goals as goal
 
 pub returns-in_err-store-clause-files : goal.returns-in_err-store-clause-files
 returns-in_err-store-clause-files g c = λ told s past stands. turned_moved _ (c.take.ensures.files told c.args.root.now s past stands)

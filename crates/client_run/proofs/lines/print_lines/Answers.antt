@@ -7,7 +7,7 @@ use Rattle.client_run.specs.State.{State}
 use Rattle.client_run.specs.Store.{state_of}
 use Rattle.client_run.specs.Turned.{shown}
 use Rattle.client_run.specs.declared.out.Out.{Out as Handed}
-use Rattle.client_run.proofs.printing.print_lines.Goals as goal
+use Rattle.client_run.proofs.lines.print_lines.Goals as goal
 
 -- one line more
 text_more : (root : Root) (s : State) (outs : List Handed) (i : ℕ) (out : Handed) → i < length outs → out ≡ get_or outs i out

@@ -2,7 +2,7 @@ use Rattle.std.proofs.Common.{refl}
 use Rattle.client_run.specs.Turn.{turn}
 use Rattle.client_run.proofs.Committed.{nothing_moves}
 use Rattle.client_run.proofs.Handled.{moves_as}
-use Rattle.client_run.proofs.handling.take.Goals as goal
+use Rattle.client_run.proofs.taken.take.Goals as goal
 
 pub returns-in-Refused-clause-files : goal.returns-in-Refused-clause-files
 returns-in-Refused-clause-files g c = λ told root s past stands. moves_as stands.state refl (nothing_moves _ (c.requires.stored told))

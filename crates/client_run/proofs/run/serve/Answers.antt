@@ -2,7 +2,7 @@ use Rattle.std.proofs.Common.{inl, inr, arith, refl, ◌∙◌}
 use Rattle.client_run.specs.declared.status.Status.TheVariants.{Done, SourceFault, NoMemory, Budget}
 use Rattle.client_run.proofs.Committed.{stored_reads}
 use Rattle.client_run.proofs.Served.{served_none, next_read, all_done, none_left, taken_as, took_one, keeps_stored, keeps_within, stops, served_more, stops_within, leaves_all, nothing_kept, is_served, causes_within, same_then}
-use Rattle.client_run.proofs.serving.serve.Goals as goal
+use Rattle.client_run.proofs.run.serve.Goals as goal
 
 pub returns-in-Err-Failed-clause-run : goal.returns-in-Err-Failed-clause-run
 returns-in-Err-Failed-clause-run g c = λ tells told s stands.

@@ -6,7 +6,7 @@ ghost use Rattle.document_keys.specs.Names.{Root, name_text};
 ghost use Rattle.client_run.specs.Store.{state_of};
 ghost use Rattle.client_run.specs.Turn.{Turn, printed};
 ghost use Rattle.client_run.specs.Turned.{shown, IsOutcome};
-ghost use Rattle.client_run.specs.Lines.{line_of, tree_of, text_of, ok_tree, too_long_tree, bad_line_tree, too_deep_tree, unsupported_tree, bad_name_tree, naming_text as naming_text_of, refused_tree, missing_tree, empty_tree, found_tree, document_tree};
+ghost use Rattle.client_run.specs.Lines.{line_of, tree_of, text_of, ok_tree, too_long_tree, bad_line_tree, too_deep_tree, ids_spent_tree, unsupported_tree, bad_name_tree, naming_text as naming_text_of, refused_tree, missing_tree, empty_tree, found_tree, document_tree};
 
 use crate::local_store::LocalStore;
 use crate::out::{Out, Outcome};
@@ -66,6 +66,12 @@ fn unsupported_json(alloc: Global, line: u64, name: &str) -> Result<Json, AllocE
     json!(in alloc; {"refused": {"cause": "Unsupported", "line": line, "member": name, "number": 3u64}})
 }
 
+fn ids_spent_json(alloc: Global, line: u64) -> Result<Json, AllocError>
+    ensures { IfOk result (λ json. view json ≡ ids_spent_tree line) }
+{
+    json!(in alloc; {"refused": {"cause": "IdsSpent", "line": line, "number": 12u64}})
+}
+
 fn naming_text(fault: NamingFault) -> &'static str
     ensures { result.now ≡ naming_text_of fault }
 {
@@ -92,6 +98,7 @@ fn print_refusal(alloc: Global, line: u64, refusal: &Refusal) -> Result<String, 
         Refusal::LineTooLong => too_long_json(alloc, line)?,
         Refusal::BadLine(member) => bad_line_json(alloc, line, member.as_str())?,
         Refusal::TooDeep => too_deep_json(alloc, line)?,
+        Refusal::IdsSpent => ids_spent_json(alloc, line)?,
         Refusal::Unsupported(member) => unsupported_json(alloc, line, member.as_str())?,
         Refusal::BadName(bad) => {
             bad_name_json(alloc, line, naming_text(bad.fault), bad.name.as_str())?

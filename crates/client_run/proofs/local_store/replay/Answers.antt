@@ -1,6 +1,6 @@
 use Rattle.std.proofs.Common.{◌+◌, ◌∙◌, sym, arith}
 use Rattle.client_run.proofs.Replayed.{stuck, other_id, leads_on, spelled_as}
-use Rattle.client_run.proofs.opening.replay.Goals as goal
+use Rattle.client_run.proofs.local_store.replay.Goals as goal
 
 pub returns-in_default : goal.returns-in_default
 returns-in_default c =
