@@ -18,8 +18,7 @@ use Rattle.client_run.specs.declared.reading.Reading.{Reading}
 use Rattle.client_run.specs.declared.status.Status.{Status}
 use Rattle.client_run.specs.declared.status.Status.TheVariants.{Done, Usage, SourceFault, DiskFault, SinkFault, NoMemory, NotAStore, Budget}
 use Rattle.client_run.proofs.Replayed.{find_once}
-use Rattle.client_run.proofs.Served.{rises_as}
-use Rattle.client_run.proofs.Surviving.{fine_none, survives_at}
+use Rattle.client_run.proofs.Served.{OnlyNow, rises_as, survives_first, synced_from}
 
 -- ---- what an opening leaves
 
@@ -39,26 +38,21 @@ same_finds {old} {c} {s} finds same = ⊎_elim
           leads = subst (λ (g : ℕ). LeadsTo g gives.1 s) (sym one.0) (subst (λ (ps : List (List ℕ)). LeadsTo finds.generation ps s) (sym one.1) finds.leads);
         }
 
--- at a moment with nothing handled
-survives_first : (call : Call) (o : List ℕ) (c : Files) → o ≡ call.out → FindsState c call.first → Survives call o c
-survives_first call o c same finds = survives_at call o c [] tt (fine_none call.root call.first) (same ∙ sym (append-nil call.out)) finds
+-- the files find the state from the two syncs on
+settled_finds : {H : Type 0} (view : H → View) {s : State} {old new : View} → FindsState old.bytes s → (settled : Settled view old new) → (c : Files) → (view settled.host).may_leave c → FindsState c s
+settled_finds view finds settled c left = same_finds finds (inl (λ file. settled.on_disk file c left ∙ ap (λ (f : Files). f file) settled.stays.bytes))
 
--- the files find the state from the opening on
-settled_crashes : {H : Type 0} (view : H → View) (how : Status) (call : Call) (left : List ℕ) {old new : View} → call.out ≡ old.out → FindsState old.bytes call.first → ((c : Files) → FindsState c call.first → FindsAtEnd how call [] c) → Settled view old new → Crashes view how call [] left old new
-settled_crashes view how call left {old} {new} out finds leaves settled = inl (record {
-  host = settled.host;
-  out = settled.out;
-  before = settled.stays;
-  on_disk = settled.on_disk;
-  at_once = λ c now. same_finds finds (inl (λ file. settled.on_disk file c now ∙ ap (λ (f : Files). f file) settled.stays.bytes));
-  later = spans_weaker (Survives call) settled.time (λ o c h. survives_first call o c (h.0 ∙ sym out) (same_finds finds h.1));
-  at_end = λ c now. leaves c (same_finds finds (settled.crash c now));
-})
+settled_spans : {H : Type 0} (view : H → View) (call : Call) {old new : View} → call.out ≡ old.out → FindsState old.bytes call.first → (settled : Settled view old new) → Spans (view settled.host) new (Survives call)
+settled_spans view call out finds settled = spans_weaker (Survives call) settled.time (λ o c h. survives_first call o c (h.0 ∙ sym out) (same_finds finds h.1))
+
+settled_crashes : {H : Type 0} (view : H → View) → ((h : H) → OnlyNow (view h)) → (how : Status) (call : Call) (left : List ℕ) {old new : View} → call.out ≡ old.out → FindsState old.bytes call.first → ((c : Files) → FindsState c call.first → FindsAtEnd how call [] c) → Settled view old new → Crashes how call [] left old new
+settled_crashes view only_now how call left {old} {new} out finds leaves settled =
+    inl (synced_from how call [] (only_now settled.host) out settled.out settled.stays (settled_finds view finds settled) (settled_spans view call out finds settled) (λ c left. leaves c (same_finds finds (settled.crash c left))))
 
 -- the disk failed before the first line
-pub disk_first : {H : Type 0} (view : H → View) (root : Root) (left : List ℕ) (s : State) (budget : ℕ) (tells_out : Bool) (old new : View) → 1 ≤ budget → new.out ≡ old.out → FindsState old.bytes s → Stays old new ⊎ Settled view old new
-    → Ran view (called root left s budget tells_out old.out) DiskFault left old new
-disk_first view root left s budget tells_out old new some same finds how =
+pub disk_first : {H : Type 0} (view : H → View) → ((h : H) → OnlyNow (view h)) → (root : Root) (left : List ℕ) (s : State) (budget : ℕ) (tells_out : Bool) (old new : View) → 1 ≤ budget → new.out ≡ old.out → FindsState old.bytes s → Stays old new ⊎ Settled view old new
+    → Ran (called root left s budget tells_out old.out) DiskFault left old new
+disk_first view only_now root left s budget tells_out old new some same finds how =
     let call = called root left s budget tells_out old.out in
     let nothing : TookNothing call [] left = record { none = refl; others = refl } in
     record {
@@ -66,20 +60,20 @@ disk_first view root left s budget tells_out old new some same finds how =
       read = tt;
       within = omega arith;
       ends = record { handled = omega (arith, some); taken = inr nothing; written = λ told. same ∙ sym (append-nil old.out) };
-      crash = λ out. ⊎_elim (λ stays. inr (record { stopped = inl refl; nothing = nothing; before = stays })) (settled_crashes view DiskFault call left refl finds (λ c h. inl h)) how;
+      crash = λ out. ⊎_elim (λ stays. inr (record { stopped = inl refl; nothing = nothing; before = stays })) (settled_crashes view only_now DiskFault call left refl finds (λ c h. inl h)) how;
     }
 
 -- there was no memory before the first line
-pub memory_first : {H : Type 0} (view : H → View) (root : Root) (left : List ℕ) (s : State) (budget : ℕ) (tells_out : Bool) (old new : View) → 1 ≤ budget → new.out ≡ old.out → FindsState old.bytes s → Stays old new ⊎ Settled view old new
-    → Ran view (called root left s budget tells_out old.out) NoMemory left old new
-memory_first view root left s budget tells_out old new some same finds how =
+pub memory_first : {H : Type 0} (view : H → View) → ((h : H) → OnlyNow (view h)) → (root : Root) (left : List ℕ) (s : State) (budget : ℕ) (tells_out : Bool) (old new : View) → 1 ≤ budget → new.out ≡ old.out → FindsState old.bytes s → Stays old new ⊎ Settled view old new
+    → Ran (called root left s budget tells_out old.out) NoMemory left old new
+memory_first view only_now root left s budget tells_out old new some same finds how =
     let call = called root left s budget tells_out old.out in
     record {
       readings = [];
       read = tt;
       within = omega arith;
       ends = record { handled = omega (arith, some); taken = inl (record { rest = left; others = refl; suffix = ([], refl) }); written = λ told. same ∙ sym (append-nil old.out) };
-      crash = λ out. ⊎_elim (λ stays. inr (record { stopped = inr refl; nothing = record { none = refl; others = refl }; before = stays })) (settled_crashes view NoMemory call left refl finds (λ c h. inl h)) how;
+      crash = λ out. ⊎_elim (λ stays. inr (record { stopped = inr refl; nothing = record { none = refl; others = refl }; before = stays })) (settled_crashes view only_now NoMemory call left refl finds (λ c h. inl h)) how;
     }
 
 -- ---- an opening, and then a run
@@ -92,41 +86,31 @@ none_leaves how call readings c stopped none finds =
     (λ is. subst (λ (h : Status). FindsAtEnd h call readings c) (sym is) (inl handled))
     stopped
 
-crashes_from : {H : Type 0} (view : H → View) (how : Status) (call : Call) (readings : List Reading) (left : List ℕ) {old mid new : View} → call.out ≡ old.out → mid.out ≡ old.out → FindsState old.bytes call.first → Settled view old mid → Crashes view how call readings left mid new → Crashes view how call readings left old new
-crashes_from view how call readings left {old} {mid} {new} out same finds settled crashes = inl (record {
-  host = settled.host;
-  out = settled.out;
-  before = settled.stays;
-  on_disk = settled.on_disk;
-  at_once = λ c now. same_finds finds (inl (λ file. settled.on_disk file c now ∙ ap (λ (f : Files). f file) settled.stays.bytes));
-  later = spans_then (Survives call) opening after_it (λ o c h. h) (λ o c h. h);
-  at_end = at_end crashes;
-})
+crashes_from : {H : Type 0} (view : H → View) → ((h : H) → OnlyNow (view h)) → (how : Status) (call : Call) (readings : List Reading) (left : List ℕ) {old mid new : View} → call.out ≡ old.out → mid.out ≡ old.out → FindsState old.bytes call.first → Settled view old mid → Crashes how call readings left mid new → Crashes how call readings left old new
+crashes_from view only_now how call readings left {old} {mid} {new} out same finds settled crashes =
+    inl (synced_from how call readings (only_now settled.host) out settled.out settled.stays (settled_finds view finds settled) (spans_then (Survives call) (settled_spans view call out finds settled) after_it (λ o c h. h) (λ o c h. h)) (at_end crashes))
   where
-    opening : Spans (view settled.host) mid (Survives call)
-    opening = spans_weaker (Survives call) settled.time (λ o c h. survives_first call o c (h.0 ∙ sym out) (same_finds finds h.1))
-
     still : (o : List ℕ) (c : Files) → (o ≡ mid.out) × mid.may_leave c → Survives call o c
     still o c h = survives_first call o c (h.0 ∙ same ∙ sym out) (same_finds finds (settled.crash c h.1))
 
     after_it : Spans mid new (Survives call)
     after_it = ⊎_elim
-        (λ synced. spans_then (Survives call) synced.before.time synced.later still (λ o c h. h))
+        (λ synced. spans_weaker (Survives call) synced.before (λ o c h. ⊎_elim (λ early. still o c early) (λ late. synced.later o c late) h))
         (λ unsynced. spans_weaker (Survives call) unsynced.before.time still)
         crashes
 
-    at_end : Crashes view how call readings left mid new → (c : Files) → new.may_leave c → FindsAtEnd how call readings c
+    at_end : Crashes how call readings left mid new → (c : Files) → new.may_leave c → FindsAtEnd how call readings c
     at_end (inl synced) c now = synced.at_end c now
     at_end (inr unsynced) c now = none_leaves how call readings c unsynced.stopped unsynced.nothing.none (same_finds finds (settled.crash c (unsynced.before.crash c now)))
 
 -- an opening wrote nothing
-pub ran_from : {H : Type 0} (view : H → View) (how : Status) (call : Call) (left : List ℕ) {old mid new : View} → call.out ≡ old.out → mid.out ≡ old.out → FindsState old.bytes call.first → Settled view old mid → Ran view call how left mid new → Ran view call how left old new
-ran_from view how call left out same finds settled it = record {
+pub ran_from : {H : Type 0} (view : H → View) → ((h : H) → OnlyNow (view h)) → (how : Status) (call : Call) (left : List ℕ) {old mid new : View} → call.out ≡ old.out → mid.out ≡ old.out → FindsState old.bytes call.first → Settled view old mid → Ran call how left mid new → Ran call how left old new
+ran_from view only_now how call left out same finds settled it = record {
   readings = it.readings;
   read = it.read;
   within = it.within;
   ends = it.ends;
-  crash = λ told. crashes_from view how call it.readings left out same finds settled (it.crash told);
+  crash = λ told. crashes_from view only_now how call it.readings left out same finds settled (it.crash told);
 }
 
 -- a store that was opened over files that find a state stands for it
@@ -154,7 +138,7 @@ causes_from disk sink causes = record {
 }
 
 -- a run in which no count rose came to its end
-pub completed : {H : Type 0} {view : H → View} (how : Status) {call : Call} {left : List ℕ} {mid old new : View} {before after_it : ℕ} → Ran view call how left mid new → Causes how before after_it old new → length call.items < call.budget → NoFaults before after_it old new → (how ≡ Done) ⊎ (how ≡ NoMemory)
+pub completed : (how : Status) {call : Call} {left : List ℕ} {mid old new : View} {before after_it : ℕ} → Ran call how left mid new → Causes how before after_it old new → length call.items < call.budget → NoFaults before after_it old new → (how ≡ Done) ⊎ (how ≡ NoMemory)
 completed Done ran causes few none = inl refl
 completed NoMemory ran causes few none = inr refl
 completed Usage ran causes few none = absurd ran.ends

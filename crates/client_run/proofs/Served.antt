@@ -7,12 +7,11 @@ use Rattle.host_api.specs.Counts.{RisesAt}
 use Rattle.host_api.specs.Items.{Item, Next, item_of, split}
 use Rattle.host_api.specs.declared.source.Line.{Line}
 use Rattle.host_api.specs.declared.source.Line.TheVariants.{Text, TooLong, End}
-use Rattle.host_api.specs.declared.host.FileId.{FileId}
-use Rattle.host_api.specs.Host.{Files, View, IsPart, IsOnDisk, Stays, Spans}
-use Rattle.host_api.proofs.Spans.{spans_none, spans_then}
+use Rattle.host_api.specs.Host.{Files, View, IsPart, Stays, Spans}
+use Rattle.host_api.proofs.Spans.{spans_none, spans_then, spans_since}
 use Rattle.document_keys.specs.Names.{Root}
 use Rattle.client_run.specs.Causes.{Causes, IsServed}
-use Rattle.client_run.specs.Crash.{Keeps, FindsHandled, FindsNext, FindsAtEnd, Survives, Crashes}
+use Rattle.client_run.specs.Crash.{Keeps, IsAsBefore, Synced, FindsHandled, FindsNext, FindsAtEnd, Survives, Crashes}
 use Rattle.client_run.specs.Output.{Call, past_of, out_after, next_text, TookNext, EndsAs}
 use Rattle.client_run.specs.Reading.{Reads, AreRead}
 use Rattle.client_run.specs.Run.{Ran, LeavesAll, Kept}
@@ -38,13 +37,12 @@ run_length : (root : Root) (first : State) (past : Past) (xs : List Reading) →
 run_length root first past [] = omega arith
 run_length root first past (y ∷ ys) = omega (arith, run_length root first (one_more root first past y) ys)
 
--- both files are on the disk, and find the state
+-- a crash finds the state
 pub record Starts (s : State) (v : View) : Type 0 where
-  pub on_disk : (file : FileId) → IsOnDisk file v
   pub finds : (c : Files) → v.may_leave c → FindsState c s
 
 stored_starts : {store : LocalStore} {s : State} {past : Past} {v : View} → IsStored store v → StandsFor store s past → Starts s v
-stored_starts is stands = record { on_disk = is.open_with.on_disk; finds = λ c left. subst (FindsState c) stands.state (stored_finds is c left) }
+stored_starts is stands = record { finds = λ c left. subst (FindsState c) stands.state (stored_finds is c left) }
 
 pub record Serving (call : Call) (done : ℕ) (rest : List Item) (store : LocalStore) (old v : View) : Type 0 where
   pub readings : List Reading
@@ -156,23 +154,39 @@ stays_none v = record { bytes = refl; crash = λ c left. left; time = spans_none
 finds_handled : {call : Call} {done : ℕ} {rest : List Item} {store : LocalStore} {old v : View} (it : Serving call done rest store old v) (c : Files) → FindsState c (now call.first (past_of call it.readings)) → FindsHandled call it.readings c
 finds_handled it c finds = subst (FindsState c) it.fine.state finds
 
+-- since now, only what may come now has come
+abbrev pub OnlyNow : View → Type 0
+OnlyNow v = (o : List ℕ) (c : Files) → v.left_since v.moment o c → (o ≡ v.out) × v.may_leave c
+
+-- at a moment with nothing handled
+pub survives_first : (call : Call) (o : List ℕ) (c : Files) → o ≡ call.out → FindsState c call.first → Survives call o c
+survives_first call o c same finds = survives_at call o c [] tt (fine_none call.root call.first) (same ∙ sym (append-nil call.out)) finds
+
+-- from the moment on at which a crash found the state, with the output as it stood at the start
+pub synced_from : (how : Status) (call : Call) (readings : List Reading) {old mid new : View} → OnlyNow mid → call.out ≡ old.out → mid.out ≡ old.out → Stays old mid → ((c : Files) → mid.may_leave c → FindsState c call.first)
+    → Spans mid new (Survives call) → ((c : Files) → new.may_leave c → FindsAtEnd how call readings c) → Synced how call readings old new
+synced_from how call readings {old} {mid} {new} only_now out same stays finds spans at_end = record {
+  time = mid.moment;
+  from = stays.time.later;
+  to = spans.later;
+  before = spans_then (λ o c. IsAsBefore old o c ⊎ new.left_since mid.moment o c) stays.time (spans_since mid.moment (omega arith) spans) (λ o c h. inl h) (λ o c h. inr h);
+  later = λ o c left. ⊎_elim
+      (λ was. let now_left = only_now o c was in survives_first call o c (now_left.0 ∙ same ∙ sym out) (finds c now_left.1))
+      (λ h. h.0)
+      (spans.only mid.moment mid.moment o c (omega arith) (omega arith) left);
+  at_end = at_end;
+}
+
 -- a run that stops between two items
-pub stops : {H : Type 0} (view : H → View) (first : H) {call : Call} {done : ℕ} {rest : List Item} {store : LocalStore} {new : View} (how : Status) (left : List ℕ) (it : Serving call done rest store (view first) new) → IsStored store new
-    → EndsAs how call it.readings left new.out → ((c : Files) → FindsHandled call it.readings c → FindsAtEnd how call it.readings c) → Ran view call how left (view first) new
-stops view first {call} how left it is ends leaves = record {
+pub stops : {call : Call} {done : ℕ} {rest : List Item} {store : LocalStore} {old new : View} (how : Status) (left : List ℕ) (it : Serving call done rest store old new) → OnlyNow old → call.out ≡ old.out → IsStored store new
+    → EndsAs how call it.readings left new.out → ((c : Files) → FindsHandled call it.readings c → FindsAtEnd how call it.readings c) → Ran call how left old new
+stops {call} {old = old} how left it only_now same is ends leaves = record {
   readings = it.readings;
   read = it.read;
   within = omega (arith, it.within, it.count);
   ends = ends;
-  crash = λ out. inl (record {
-    host = first;
-    out = refl;
-    before = stays_none (view first);
-    on_disk = it.starts.on_disk;
-    at_once = it.starts.finds;
-    later = it.time out;
-    at_end = λ c left. leaves c (finds_handled it c (subst (FindsState c) it.stands.state (stored_finds is c left)));
-  });
+  crash = λ out. inl (synced_from how call it.readings only_now same refl (stays_none old) it.starts.finds (it.time out)
+      (λ c left. leaves c (finds_handled it c (subst (FindsState c) it.stands.state (stored_finds is c left)))));
 }
 
 -- the files read as every handled item left them
@@ -245,29 +259,21 @@ served_more {call} {done = done} {next = next} {old = old} {mid = mid} {new = ne
     }
 
 -- what a crash leaves of a run that stops within an item
-crashes_within : {H : Type 0} (view : H → View) (first : H) {call : Call} {done : ℕ} {rest more : List Item} {store : LocalStore} {mid new : View} (how : Status) (left : List ℕ) (reading : Reading) (it : Serving call done rest store (view first) mid)
+crashes_within : {call : Call} {done : ℕ} {rest more : List Item} {store : LocalStore} {old mid new : View} (how : Status) (left : List ℕ) (reading : Reading) (it : Serving call done rest store old mid) → OnlyNow old → call.out ≡ old.out
     → Nexts call.root call.items it.readings reading more → NextTurn call it.readings reading mid new
     → ((c : Files) → FindsHandled call it.readings c ⊎ FindsNext call it.readings c → FindsAtEnd how call it.readings c)
-    → IsTrue call.tells_out → Crashes view how call it.readings left (view first) new
-crashes_within view first {call} how left reading it nexts next leaves out =
-    let past = past_of call it.readings in
-    inl (record {
-      host = first;
-      out = refl;
-      before = stays_none (view first);
-      on_disk = it.starts.on_disk;
-      at_once = it.starts.finds;
-      later = turn_spans reading it nexts next out;
-      at_end = λ c now_left. leaves c (⊎_elim
-          (λ early. inl (finds_handled it c early))
-          (λ late. inr (record { reading = reading; read = nexts.read; finds = subst (FindsState c) (next.fine.state ∙ ap (λ (p : Past). after_all call.first (commits_of p)) (sym (run_more call.root call.first [] it.readings reading))) late }))
-          (next.turned.crash c now_left));
-    })
+    → IsTrue call.tells_out → Crashes how call it.readings left old new
+crashes_within {call} {old = old} how left reading it only_now same nexts next leaves out =
+    inl (synced_from how call it.readings only_now same refl (stays_none old) it.starts.finds (turn_spans reading it nexts next out)
+    (λ c now_left. leaves c (⊎_elim
+        (λ early. inl (finds_handled it c early))
+        (λ late. inr (record { reading = reading; read = nexts.read; finds = subst (FindsState c) (next.fine.state ∙ ap (λ (p : Past). after_all call.first (commits_of p)) (sym (run_more call.root call.first [] it.readings reading))) late }))
+        (next.turned.crash c now_left))))
 
 -- a run that stops within an item
-pub stops_within : {H : Type 0} (view : H → View) (first : H) {call : Call} {done : ℕ} {rest : List Item} {store : LocalStore} {mid new : View} (why : TurnFault) (left : List ℕ) (reading : Reading) (it : Serving call done rest store (view first) mid)
-    → Nexts call.root call.items it.readings reading (split left) → done + 1 < 2 ^ 64 → Handles call.root (done + 1) reading store (Err why) call.tells_out mid new → done < call.budget → Ran view call (status_of why) left (view first) new
-stops_within view first {call} {done = done} {new = new} fault.DiskFault left reading it nexts few handles below = record {
+pub stops_within : {call : Call} {done : ℕ} {rest : List Item} {store : LocalStore} {old mid new : View} (why : TurnFault) (left : List ℕ) (reading : Reading) (it : Serving call done rest store old mid) → OnlyNow old → call.out ≡ old.out
+    → Nexts call.root call.items it.readings reading (split left) → done + 1 < 2 ^ 64 → Handles call.root (done + 1) reading store (Err why) call.tells_out mid new → done < call.budget → Ran call (status_of why) left old new
+stops_within {call} {done = done} {new = new} fault.DiskFault left reading it only_now same nexts few handles below = record {
   readings = it.readings;
   read = it.read;
   within = omega (arith, it.within, it.count);
@@ -276,9 +282,9 @@ stops_within view first {call} {done = done} {new = new} fault.DiskFault left re
     taken = inl (took_next nexts);
     written = λ told. handles.out told (now call.first (past_of call it.readings)) (heard (past_of call it.readings)) it.stands ∙ it.wrote told;
   };
-  crash = crashes_within view first DiskFault left reading it nexts (next_turned reading it few handles) (λ c h. h);
+  crash = crashes_within DiskFault left reading it only_now same nexts (next_turned reading it few handles) (λ c h. h);
 }
-stops_within view first {call} {done = done} {new = new} fault.NoMemory left reading it nexts few handles below = record {
+stops_within {call} {done = done} {new = new} fault.NoMemory left reading it only_now same nexts few handles below = record {
   readings = it.readings;
   read = it.read;
   within = omega (arith, it.within, it.count);
@@ -287,9 +293,9 @@ stops_within view first {call} {done = done} {new = new} fault.NoMemory left rea
     taken = inr (took_next nexts);
     written = λ told. handles.out told (now call.first (past_of call it.readings)) (heard (past_of call it.readings)) it.stands ∙ it.wrote told;
   };
-  crash = crashes_within view first NoMemory left reading it nexts (next_turned reading it few handles) (λ c h. h);
+  crash = crashes_within NoMemory left reading it only_now same nexts (next_turned reading it few handles) (λ c h. h);
 }
-stops_within view first {call} {done = done} {new = new} fault.SinkFault left reading it nexts few handles below = record {
+stops_within {call} {done = done} {new = new} fault.SinkFault left reading it only_now same nexts few handles below = record {
   readings = it.readings;
   read = it.read;
   within = omega (arith, it.within, it.count);
@@ -305,7 +311,7 @@ stops_within view first {call} {done = done} {new = new} fault.SinkFault left re
           (subst (λ (o : List ℕ). IsPart (printed call.root (done + 1) (next_turn call.root call.first (past_of call it.readings) reading)) o new.out) (it.wrote told) (handles.out told (now call.first (past_of call it.readings)) (heard (past_of call it.readings)) it.stands));
     };
   };
-  crash = crashes_within view first SinkFault left reading it nexts (next_turned reading it few handles) (λ c h. h);
+  crash = crashes_within SinkFault left reading it only_now same nexts (next_turned reading it few handles) (λ c h. h);
 }
 
 pub nothing_kept : (why : TurnFault) (call : Call) (files : Files) → Kept (status_of why) call files

@@ -1,7 +1,6 @@
 -- Clause *Crash* of a run over the files of a store: what a crash leaves at each moment.
-use Rattle.std.specs.Prelude.{◌≡◌, ◌⊎◌, ℕ, ◌+◌, List, [], ◌∷◌, ◌++◌, length}
-use Rattle.host_api.specs.declared.host.FileId.{FileId}
-use Rattle.host_api.specs.Host.{Files, View, Spans, Stays, IsOnDisk}
+use Rattle.std.specs.Prelude.{◌≡◌, ◌⊎◌, ℕ, ◌+◌, ◌≤◌, List, [], ◌∷◌, ◌++◌, length}
+use Rattle.host_api.specs.Host.{Files, View, Spans, Stays}
 use Rattle.client_run.specs.Output.{Call, past_of, TookNothing}
 use Rattle.client_run.specs.Reading.{AreRead}
 use Rattle.client_run.specs.Reported.{ReportedWithin}
@@ -53,15 +52,18 @@ FindsAtEnd ended.SinkFault call readings files = FindsHandled call readings file
 FindsAtEnd ended.NoMemory call readings files = FindsHandled call readings files ⊎ FindsNext call readings files
 FindsAtEnd _ call readings files = FindsHandled call readings files
 
--- The host as the two opening syncs left it. Up to then nothing changed, and a crash left a pair that it could leave at
--- the start. At each moment from then on a crash leaves what `Survives` says.
-pub record Synced {H : Type 0} (view : H → View) (status : Status) (call : Call) (readings : List Reading) (old new : View) : Type 0 where
-  pub host : H
-  pub out : (view host).out ≡ old.out
-  pub before : Stays old (view host)
-  pub on_disk : (file : FileId) → IsOnDisk file (view host)
-  pub at_once : (c : Files) → (view host).may_leave c → FindsState c call.first
-  pub later : Spans (view host) new (Survives call)
+-- a pair that a crash could leave at the start, with the output as it stood then
+abbrev pub IsAsBefore : View → List ℕ → Files → Type 0
+IsAsBefore old out files = (out ≡ old.out) × old.may_leave files
+
+-- The two opening syncs were done at this time, from the start to the end. Up to it a crash left a pair that it could leave
+-- at the start; at each moment from it on it leaves what `Survives` says.
+pub record Synced (status : Status) (call : Call) (readings : List Reading) (old new : View) : Type 0 where
+  pub time : ℕ
+  pub from : old.moment ≤ time
+  pub to : time ≤ new.moment
+  pub before : Spans old new (λ o c. IsAsBefore old o c ⊎ new.left_since time o c)
+  pub later : (o : List ℕ) (c : Files) → new.left_since time o c → Survives call o c
   pub at_end : (c : Files) → new.may_leave c → FindsAtEnd status call readings c
 
 -- An opening sync failed, or there was no memory before it: nothing was handled or taken, and a crash leaves a pair that it
@@ -72,5 +74,5 @@ pub record Unsynced (status : Status) (call : Call) (readings : List Reading) (l
   pub before : Stays old new
 
 -- what a crash may leave at each moment of a run
-abbrev pub Crashes : {H : Type 0} → (H → View) → Status → Call → List Reading → List ℕ → View → View → Type 0
-Crashes view status call readings left old new = Synced view status call readings old new ⊎ Unsynced status call readings left old new
+abbrev pub Crashes : Status → Call → List Reading → List ℕ → View → View → Type 0
+Crashes status call rs left old new = Synced status call rs old new ⊎ Unsynced status call rs left old new

@@ -10,12 +10,12 @@ use Rattle.client_run.specs.declared.status.Status.{Status}
 use Rattle.client_run.specs.declared.status.Status.TheVariants as ended
 
 -- Some items were handled, one after another; the readings are what they are.
-pub record Ran {H : Type 0} (view : H → View) (call : Call) (status : Status) (left : List ℕ) (old new : View) : Type 0 where
+pub record Ran (call : Call) (status : Status) (left : List ℕ) (old new : View) : Type 0 where
   pub readings : List Reading
   pub read : AreRead call.root call.items readings
   pub within : length readings ≤ length call.items
   pub ends : EndsAs status call readings left new.out
-  pub crash : IsTrue call.tells_out → Crashes view status call readings left old new
+  pub crash : IsTrue call.tells_out → Crashes status call readings left old new
 
 -- So many items were handled, and the files find the state after their commits.
 pub record LeavesAll (count : ℕ) (call : Call) (files : Files) : Type 0 where

@@ -36,7 +36,7 @@ pub fn run_client<S: Source, H: Host>(
     ensures no_run { ((root : Root) → ¬ (AsksRun (map string_bytes words.now) root)) → (result ≡ Status.Usage) ⊎ (result ≡ Status.NoMemory) }
     ensures untouched { ((root : Root) → ¬ (AsksRun (map string_bytes words.now) root)) → (source.new ≡ source.old) × (host.new ≡ host.old) }
     ensures run { IsTrue S.tells → IsTrue H.tells_files → (root : Root) → AsksRun (map string_bytes words.now) root → (s : State) → FindsState (H.view host.old).bytes s
-        → Ran H.view (called root (S.left source.old) s 4294967296 H.tells_out (H.view host.old).out) result (S.left source.new) (H.view host.old) (H.view host.new) }
+        → Ran (called root (S.left source.old) s 4294967296 H.tells_out (H.view host.old).out) result (S.left source.new) (H.view host.old) (H.view host.new) }
     ensures kept { IsTrue S.tells → IsTrue H.tells_files → (root : Root) → AsksRun (map string_bytes words.now) root → (s : State) → FindsState (H.view host.old).bytes s
         → Kept result (called root (S.left source.old) s 4294967296 H.tells_out (H.view host.old).out) (H.view host.new).bytes }
     ensures not_a_store { result ≡ Status.NotAStore → IsForeign H.tells_files (H.view host.old) (H.view host.new) }

@@ -49,9 +49,9 @@ pub spans_grow : {added : List Step} {old new : Past} (s d s2 d2 : ℕ) (P : Lis
     → ((c : Files) → MayLeave new new.calls c → P (output_at new.calls new) c) → Spans (view_of old s d) (view_of new s2 d2) P
 spans_grow {added} {old} {new} s d s2 d2 P grows after_call = record {
   later = grows.later;
-  only = λ t o c le left. ⊎_elim
+  only = λ t u o c le most left. ⊎_elim
       (λ past. inl (earlier t o c left past))
-      (λ since. inr (now o c left.0 (omega (arith, since, left.2, grows.most)) left.3 left.4))
+      (λ since. inr (now o c left.0 (omega (arith, since, left.2, grows.most)) left.3 left.4, (left.0, omega (arith, since, most), left.2, left.3, left.4)))
       (cases_lt left.0 (old.calls + 1));
   keeps = λ t o c le left. (left.0, left.1, omega (arith, left.2, grows.later), left.3 ∙ sym (output_before grows left.0 left.2), λ file. subst (λ (x : Disk). IsImage x (c file)) (sym (disk_before grows file left.0 left.2)) (left.4 file));
 }

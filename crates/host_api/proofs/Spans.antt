@@ -1,22 +1,33 @@
 -- Time that goes on over several calls.
-use Rattle.std.proofs.Common.{◌≡◌, ℕ, List, inl, inr, ⊎_elim, sym, ◌∙◌, subst, arith}
+use Rattle.std.proofs.Common.{◌≡◌, ℕ, ◌≤◌, List, inl, inr, ⊎_elim, sym, ◌∙◌, subst, arith}
 use Rattle.host_api.specs.Host.{Files, View, OnFile, Follows, Spans, Stays, IsOnDisk, Steps}
 use Rattle.host_api.specs.declared.host.FileId.{FileId}
 
 -- before the first call
 pub spans_none : (a : View) (P : List ℕ → Files → Type 0) → Spans a a P
-spans_none a P = record { later = omega arith; only = λ t o x le left. inl left; keeps = λ t o x le left. left }
+spans_none a P = record { later = omega arith; only = λ t u o x le most left. inl left; keeps = λ t o x le left. left }
 
 -- two runs are one, of which each leaves what has R
 pub spans_then : {a b c : View} {P Q : List ℕ → Files → Type 0} (R : List ℕ → Files → Type 0) → Spans a b P → Spans b c Q → ((o : List ℕ) (x : Files) → P o x → R o x) → ((o : List ℕ) (x : Files) → Q o x → R o x) → Spans a c R
 spans_then R first second p q = record {
   later = omega (arith, first.later, second.later);
-  only = λ t o x le left. ⊎_elim (λ was. ⊎_elim (λ w. inl w) (λ h. inr (p o x h)) (first.only t o x le was)) (λ h. inr (q o x h)) (second.only t o x (omega (arith, le, first.later)) left);
+  only = λ t u o x le most left. ⊎_elim
+      (λ was. ⊎_elim (λ w. inl w) (λ h. inr (p o x h.0, second.keeps u o x (omega (arith, most, first.later)) h.1)) (first.only t u o x le most was))
+      (λ h. inr (q o x h.0, h.1))
+      (second.only t u o x (omega (arith, le, first.later)) (omega (arith, most, first.later)) left);
   keeps = λ t o x le left. second.keeps t o x (omega (arith, le, first.later)) (first.keeps t o x le left);
 }
 
 pub spans_weaker : {a b : View} {P : List ℕ → Files → Type 0} (R : List ℕ → Files → Type 0) → Spans a b P → ((o : List ℕ) (x : Files) → P o x → R o x) → Spans a b R
-spans_weaker R it p = record { later = it.later; only = λ t o x le left. ⊎_elim (λ was. inl was) (λ h. inr (p o x h)) (it.only t o x le left); keeps = it.keeps }
+spans_weaker R it p = record { later = it.later; only = λ t u o x le most left. ⊎_elim (λ was. inl was) (λ h. inr (p o x h.0, h.1)) (it.only t u o x le most left); keeps = it.keeps }
+
+-- what was left meanwhile counts as left since that moment
+pub spans_since : {a b : View} {P : List ℕ → Files → Type 0} (u : ℕ) → u ≤ a.moment → Spans a b P → Spans a b (λ o x. b.left_since u o x)
+spans_since u most it = record {
+  later = it.later;
+  only = λ t v o x le upto left. ⊎_elim (λ was. inl was) (λ h. ⊎_elim (λ was. inl was) (λ k. inr (h.1, k.1)) (it.only t v o x le upto left)) (it.only t u o x le most left);
+  keeps = it.keeps;
+}
 
 -- a step of one file, and a call that changes nothing of the files
 pub steps_stay : {file : FileId} {step : List ℕ → List ℕ → Type 0} {old mid new : View} → mid.out ≡ old.out → Steps file step old mid → Stays mid new → Steps file step old new

@@ -53,10 +53,12 @@ over old at piece = take at old ++ piece ++ drop (at + length piece) old
 abbrev pub Follows : FileId → (List ℕ → List ℕ → Type 0) → View → Files → Type 0
 Follows file step old c = (d : Files) × old.may_leave d × OnFile file step d c
 
--- Time goes on from old to new. What a crash may have left meanwhile, and the output at that moment, have P.
+-- Time goes on from old to new. What a crash may have left meanwhile, and the output at that moment, have P, and count as
+-- left since each moment up to old.
 pub record Spans (old new : View) (P : List ℕ → Files → Type 0) : Type 0 where
   pub later : old.moment ≤ new.moment
-  pub only : (t : ℕ) (o : List ℕ) (c : Files) → t ≤ old.moment → new.left_since t o c → old.left_since t o c ⊎ P o c
+  pub only : (t u : ℕ) (o : List ℕ) (c : Files) → t ≤ old.moment → u ≤ old.moment → new.left_since t o c
+      → old.left_since t o c ⊎ (P o c × new.left_since u o c)
   pub keeps : (t : ℕ) (o : List ℕ) (c : Files) → t ≤ old.moment → old.left_since t o c → new.left_since t o c
 
 -- nothing of the files changes

@@ -7,20 +7,20 @@ use Rattle.client_run.proofs.run.serve.Goals as goal
 pub returns-in-Err-Failed-clause-run : goal.returns-in-Err-Failed-clause-run
 returns-in-Err-Failed-clause-run g c = λ tells told s stands.
     let it = c.loop-handled.invariant.serving tells told s stands in
-    stops g.H.Host.view c.args.host.now SourceFault _ it (c.loop-handled.invariant.stored told)
+    stops SourceFault _ it (λ o x left. g.met.H.Host.only_now c.args.host.now o x told left) refl (c.loop-handled.invariant.stored told)
     (record { handled = omega (arith, it.count, c.loop-handled-test.true); taken = record { rest = _; others = taken_as it it.left_over; suffix = c.in-Err-Failed.ensures.suffix tells }; written = it.wrote }) (λ files finds. finds)
 
 pub returns-in-Err-NoMemory-clause-run : goal.returns-in-Err-NoMemory-clause-run
 returns-in-Err-NoMemory-clause-run g c = λ tells told s stands.
     let it = c.loop-handled.invariant.serving tells told s stands in
-    stops g.H.Host.view c.args.host.now NoMemory _ it (c.loop-handled.invariant.stored told)
+    stops NoMemory _ it (λ o x left. g.met.H.Host.only_now c.args.host.now o x told left) refl (c.loop-handled.invariant.stored told)
     (record { handled = omega (arith, it.count, c.loop-handled-test.true); taken = inl (record { rest = _; others = taken_as it it.left_over; suffix = c.in-Err-NoMemory.ensures.suffix tells }); written = it.wrote }) (λ files finds. inl finds)
 
 pub returns-in-End-clause-run : goal.returns-in-End-clause-run
 returns-in-End-clause-run g c = λ tells told s stands.
     let it = c.loop-handled.invariant.serving tells told s stands in
     let all = all_done it c.in-Ok.line _ _ c.in-End.is (c.in-Ok.ensures.takes tells) in
-    stops g.H.Host.view c.args.host.now Done _ it (c.loop-handled.invariant.stored told)
+    stops Done _ it (λ o x left. g.met.H.Host.only_now c.args.host.now o x told left) refl (c.loop-handled.invariant.stored told)
     (record { handled = record { all = it.count ∙ all; below = omega (arith, it.count, c.loop-handled-test.true) }; taken = taken_as it (none_left it c.in-Ok.line _ _ c.in-End.is (c.in-Ok.ensures.takes tells)); written = it.wrote }) (λ files finds. finds)
 
 pub returns-in-End-clause-kept : goal.returns-in-End-clause-kept
@@ -31,14 +31,14 @@ returns-in-End-clause-kept g c = λ tells told s stands.
 pub returns-in_default-read_item-clause-run : goal.returns-in_default-read_item-clause-run
 returns-in_default-read_item-clause-run g c = λ tells told s stands.
     let it = c.loop-handled.invariant.serving tells told s stands in
-    stops g.H.Host.view c.args.host.now NoMemory _ it (c.loop-handled.invariant.stored told)
+    stops NoMemory _ it (λ o x left. g.met.H.Host.only_now c.args.host.now o x told left) refl (c.loop-handled.invariant.stored told)
     (record { handled = omega (arith, it.count, c.loop-handled-test.true); taken = inr (took_one it c.in-Ok.line _ _ c.in_default.not-End (c.in-Ok.ensures.takes tells)); written = it.wrote }) (λ files finds. inl finds)
 
 pub returns-in-Err-clause-run : goal.returns-in-Err-clause-run
 returns-in-Err-clause-run g c = λ tells told s stands.
     let it = c.loop-handled.invariant.serving tells told s stands in
     let n = next_read it c.in-Ok.line _ c.as_slice.result.now _ c.in-Ok-read_item.reading c.in_default.not-End c.as_slice.ensures.value (c.in-Ok.ensures.takes tells) c.in-Ok-read_item.ensures.is in
-    rw c.status.ensures (stops_within g.H.Host.view c.args.host.now c.in-Err.fault _ c.in-Ok-read_item.reading it n (omega (arith, c.loop-handled-test.true, c.ranges.budget)) (record { stands = tt; out = c.in-Err.ensures.out; files = c.in-Err.ensures.files told }) c.loop-handled-test.true)
+    rw c.status.ensures (stops_within c.in-Err.fault _ c.in-Ok-read_item.reading it (λ o x left. g.met.H.Host.only_now c.args.host.now o x told left) refl n (omega (arith, c.loop-handled-test.true, c.ranges.budget)) (record { stands = tt; out = c.in-Err.ensures.out; files = c.in-Err.ensures.files told }) c.loop-handled-test.true)
 
 pub returns-in-Err-clause-kept : goal.returns-in-Err-clause-kept
 returns-in-Err-clause-kept g c = rw c.status.ensures (λ tells told s stands. nothing_kept c.in-Err.fault _ _)
@@ -63,7 +63,7 @@ loop-handled-preserved g c = record {
 pub returns-clause-run : goal.returns-clause-run
 returns-clause-run g c = λ tells told s stands.
     let it = c.loop-handled.invariant.serving tells told s stands in
-    stops g.H.Host.view c.args.host.now Budget _ it (c.loop-handled.invariant.stored told)
+    stops Budget _ it (λ o x left. g.met.H.Host.only_now c.args.host.now o x told left) refl (c.loop-handled.invariant.stored told)
     (record { handled = omega (arith, it.count, c.loop-handled-test.false, c.loop-handled.auto.handled-end); taken = taken_as it it.left_over; written = it.wrote }) (λ files finds. finds)
 
 pub returns-clause-kept : goal.returns-clause-kept

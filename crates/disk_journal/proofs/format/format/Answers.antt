@@ -3,6 +3,12 @@ use Rattle.disk_journal.proofs.Appending.{seen_as}
 use Rattle.disk_journal.proofs.Formats.{after_close, after_rest, after_open, rest_lands, is_open}
 use Rattle.disk_journal.proofs.format.format.Goals as goal
 
+pub returns-in_err-put_down-clause-files : goal.returns-in_err-put_down-clause-files
+returns-in_err-put_down-clause-files g c told = record {
+  done = search rules;
+  steps = after_rest c.close_gate.ensures.out.out (after_close (c.close_gate.ensures.files told)) (c.in_ok-close_gate.ensures.files told).done (c.put_down.ensures.files told);
+}
+
 pub returns-in_err-put_down-2-clause-files : goal.returns-in_err-put_down-2-clause-files
 returns-in_err-put_down-2-clause-files g c told =
     let closed = (c.in_ok-close_gate.ensures.files told).done in
