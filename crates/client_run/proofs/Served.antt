@@ -266,9 +266,9 @@ crashes_within : {call : Call} {done : ℕ} {rest more : List Item} {store : Loc
 crashes_within {call} {old = old} how left reading it only_now same nexts next leaves out =
     inl (synced_from how call it.readings only_now same refl (stays_none old) it.starts.finds (turn_spans reading it nexts next out)
     (λ c now_left. leaves c (⊎_elim
-        (λ early. inl (finds_handled it c early))
-        (λ late. inr (record { reading = reading; read = nexts.read; finds = subst (FindsState c) (next.fine.state ∙ ap (λ (p : Past). after_all call.first (commits_of p)) (sym (run_more call.root call.first [] it.readings reading))) late }))
-        (next.turned.crash c now_left))))
+    (λ early. inl (finds_handled it c early))
+    (λ late. inr (record { reading = reading; read = nexts.read; finds = subst (FindsState c) (next.fine.state ∙ ap (λ (p : Past). after_all call.first (commits_of p)) (sym (run_more call.root call.first [] it.readings reading))) late }))
+    (next.turned.crash c now_left))))
 
 -- a run that stops within an item
 pub stops_within : {call : Call} {done : ℕ} {rest : List Item} {store : LocalStore} {old mid new : View} (why : TurnFault) (left : List ℕ) (reading : Reading) (it : Serving call done rest store old mid) → OnlyNow old → call.out ≡ old.out

@@ -47,10 +47,10 @@ pub record FindsNext (call : Call) (readings : List Reading) (files : Files) : T
 
 -- What a crash finds at the end: every commit of the handled items, and besides them at most that of an item that met a fault.
 abbrev pub FindsAtEnd : Status → Call → List Reading → Files → Type 0
-FindsAtEnd ended.DiskFault call readings files = FindsHandled call readings files ⊎ FindsNext call readings files
-FindsAtEnd ended.SinkFault call readings files = FindsHandled call readings files ⊎ FindsNext call readings files
-FindsAtEnd ended.NoMemory call readings files = FindsHandled call readings files ⊎ FindsNext call readings files
-FindsAtEnd _ call readings files = FindsHandled call readings files
+FindsAtEnd ended.DiskFault call rs files = FindsHandled call rs files ⊎ FindsNext call rs files
+FindsAtEnd ended.SinkFault call rs files = FindsHandled call rs files ⊎ FindsNext call rs files
+FindsAtEnd ended.NoMemory call rs files = FindsHandled call rs files ⊎ FindsNext call rs files
+FindsAtEnd _ call rs files = FindsHandled call rs files
 
 -- a pair that a crash could leave at the start, with the output as it stood then
 abbrev pub IsAsBefore : View → List ℕ → Files → Type 0
@@ -58,19 +58,19 @@ IsAsBefore old out files = (out ≡ old.out) × old.may_leave files
 
 -- The two opening syncs were done at this time, from the start to the end. Up to it a crash left a pair that it could leave
 -- at the start; at each moment from it on it leaves what `Survives` says.
-pub record Synced (status : Status) (call : Call) (readings : List Reading) (old new : View) : Type 0 where
+pub record Synced (status : Status) (call : Call) (rs : List Reading) (old new : View) : Type 0 where
   pub time : ℕ
   pub from : old.moment ≤ time
   pub to : time ≤ new.moment
   pub before : Spans old new (λ o c. IsAsBefore old o c ⊎ new.left_since time o c)
   pub later : (o : List ℕ) (c : Files) → new.left_since time o c → Survives call o c
-  pub at_end : (c : Files) → new.may_leave c → FindsAtEnd status call readings c
+  pub at_end : (c : Files) → new.may_leave c → FindsAtEnd status call rs c
 
 -- An opening sync failed, or there was no memory before it: nothing was handled or taken, and a crash leaves a pair that it
 -- could leave at the start.
-pub record Unsynced (status : Status) (call : Call) (readings : List Reading) (left : List ℕ) (old new : View) : Type 0 where
+pub record Unsynced (status : Status) (call : Call) (rs : List Reading) (left : List ℕ) (old new : View) : Type 0 where
   pub stopped : (status ≡ ended.DiskFault) ⊎ (status ≡ ended.NoMemory)
-  pub nothing : TookNothing call readings left
+  pub nothing : TookNothing call rs left
   pub before : Stays old new
 
 -- what a crash may leave at each moment of a run

@@ -24,19 +24,29 @@ abbrev pub ok_tree : ℕ → ℕ → Data
 ok_tree batch commit = one (codes "ok") (two (codes "batch") (count batch) (codes "commit") (count commit))
 
 abbrev pub too_long_tree : ℕ → Data
-too_long_tree line = one (codes "refused") (three (codes "cause") (string (codes "LineTooLong")) (codes "line") (count line) (codes "number") (count 11))
+too_long_tree line =
+    one (codes "refused")
+    (three (codes "cause") (string (codes "LineTooLong")) (codes "line") (count line) (codes "number") (count 11))
 
 abbrev pub bad_line_tree : ℕ → List ℕ → Data
-bad_line_tree line name = one (codes "refused") (four (codes "cause") (string (codes "BadLine")) (codes "line") (count line) (codes "member") (string name) (codes "number") (count 1))
+bad_line_tree line name =
+    one (codes "refused")
+    (four (codes "cause") (string (codes "BadLine")) (codes "line") (count line) (codes "member") (string name) (codes "number") (count 1))
 
 abbrev pub too_deep_tree : ℕ → Data
-too_deep_tree line = one (codes "refused") (three (codes "cause") (string (codes "TooDeep")) (codes "line") (count line) (codes "number") (count 4))
+too_deep_tree line =
+    one (codes "refused")
+    (three (codes "cause") (string (codes "TooDeep")) (codes "line") (count line) (codes "number") (count 4))
 
 abbrev pub unsupported_tree : ℕ → List ℕ → Data
-unsupported_tree line name = one (codes "refused") (four (codes "cause") (string (codes "Unsupported")) (codes "line") (count line) (codes "member") (string name) (codes "number") (count 3))
+unsupported_tree line name =
+    one (codes "refused")
+    (four (codes "cause") (string (codes "Unsupported")) (codes "line") (count line) (codes "member") (string name) (codes "number") (count 3))
 
 abbrev pub ids_spent_tree : ℕ → Data
-ids_spent_tree line = one (codes "refused") (three (codes "cause") (string (codes "IdsSpent")) (codes "line") (count line) (codes "number") (count 12))
+ids_spent_tree line =
+    one (codes "refused")
+    (three (codes "cause") (string (codes "IdsSpent")) (codes "line") (count line) (codes "number") (count 12))
 
 -- how the fault of a name is printed
 abbrev pub naming_text : NamingFault → List ℕ
@@ -47,7 +57,9 @@ naming_text BadPath = codes "BadPath"
 naming_text ReservedField = codes "ReservedField"
 
 abbrev pub bad_name_tree : ℕ → List ℕ → List ℕ → Data
-bad_name_tree line why name = one (codes "refused") (five (codes "cause") (string (codes "BadName")) (codes "fault") (string why) (codes "line") (count line) (codes "name") (string name) (codes "number") (count 2))
+bad_name_tree line why name =
+    one (codes "refused")
+    (five (codes "cause") (string (codes "BadName")) (codes "fault") (string why) (codes "line") (count line) (codes "name") (string name) (codes "number") (count 2))
 
 -- what a refusal prints at this line of the run, from 1
 abbrev pub refused_tree : ℕ → Refusal → Data
@@ -60,15 +72,21 @@ refused_tree line (BadName bad) = bad_name_tree line (naming_text bad.fault) bad
 
 -- a document that isn't there
 abbrev pub missing_tree : List ℕ → Data
-missing_tree name = one (codes "document") (three (codes "exists") (boolean false) (codes "name") (string name) (codes "state") (string (codes "unknown")))
+missing_tree name =
+    one (codes "document")
+    (three (codes "exists") (boolean false) (codes "name") (string name) (codes "state") (string (codes "unknown")))
 
 -- a document without fields, which a pending write names
 abbrev pub empty_tree : List ℕ → Data
-empty_tree name = one (codes "document") (three (codes "exists") (boolean true) (codes "name") (string name) (codes "state") (string (codes "pending")))
+empty_tree name =
+    one (codes "document")
+    (three (codes "exists") (boolean true) (codes "name") (string name) (codes "state") (string (codes "pending")))
 
 -- a document with these fields, which a pending write names
 abbrev pub found_tree : List ℕ → Data → Data
-found_tree name fields = one (codes "document") (four (codes "exists") (boolean true) (codes "fields") fields (codes "name") (string name) (codes "state") (string (codes "pending")))
+found_tree name fields =
+    one (codes "document")
+    (four (codes "exists") (boolean true) (codes "fields") fields (codes "name") (string name) (codes "state") (string (codes "pending")))
 
 -- `{"document":{..}}`: `fields` stands only where the document exists and has some
 abbrev pub document_tree : Root → List (List ℕ) → Option Entries → Data

@@ -22,7 +22,14 @@ pub record Call : Type 0 where
 
 -- the run over these bytes of a source
 abbrev pub called : Root → List ℕ → State → ℕ → Bool → List ℕ → Call
-called root bytes first budget tells_out out = record { root = root; items = split bytes; first = first; budget = budget; tells_out = tells_out; out = out }
+called root bytes first budget tells_out out = record {
+  root = root;
+  items = split bytes;
+  first = first;
+  budget = budget;
+  tells_out = tells_out;
+  out = out;
+}
 
 -- the handled lines, where this is what they are
 abbrev pub past_of : Call → List Reading → Past
@@ -65,7 +72,9 @@ WroteHandled call readings out = IsTrue call.tells_out → out ≡ out_after cal
 
 -- what the next item's turn writes
 abbrev pub next_text : Call → List Reading → Reading → List ℕ
-next_text call readings reading = printed call.root (length (past_of call readings) + 1) (next_turn call.root call.first (past_of call readings) reading)
+next_text call readings reading =
+    let past = past_of call readings in
+    printed call.root (length past + 1) (next_turn call.root call.first past reading)
 
 -- a part of the next item's lines besides
 pub record WrotePart (call : Call) (readings : List Reading) (out : List ℕ) : Type 0 where
@@ -96,7 +105,9 @@ abbrev pub EndsAs : Status → Call → List Reading → List ℕ → List ℕ �
 EndsAs ended.Done c rs left out = Ends (HandledAll c rs) (TookHandled c rs left) (WroteHandled c rs out)
 EndsAs ended.Budget c rs left out = Ends (SpentBudget c rs) (TookHandled c rs left) (WroteHandled c rs out)
 EndsAs ended.SourceFault c rs left out = Ends (BelowBudget c rs) (TookAndFailed c rs left) (WroteHandled c rs out)
-EndsAs ended.DiskFault c rs left out = Ends (BelowBudget c rs) (TookNext c rs left ⊎ TookNothing c rs left) (WroteHandled c rs out)
+EndsAs ended.DiskFault c rs left out =
+    Ends (BelowBudget c rs) (TookNext c rs left ⊎ TookNothing c rs left) (WroteHandled c rs out)
 EndsAs ended.SinkFault c rs left out = Ends (BelowBudget c rs) (TookNext c rs left) (WrotePart c rs out)
-EndsAs ended.NoMemory c rs left out = Ends (BelowBudget c rs) (TookAndFailed c rs left ⊎ TookNext c rs left) (WroteHandled c rs out)
+EndsAs ended.NoMemory c rs left out =
+    Ends (BelowBudget c rs) (TookAndFailed c rs left ⊎ TookNext c rs left) (WroteHandled c rs out)
 EndsAs _ c rs left out = ⊥

@@ -53,7 +53,8 @@ ReportedWithin most text = All (ReportsWithin most) (whole_lines text)
 
 -- a line reports at most one number in one member
 abbrev pub ALineReportsOnce : Type 0
-ALineReportsOnce = (line : List ℕ) (a b : ℕ) (first : Reports line a) (second : Reports line b) → first.name ≡ second.name → a ≡ b
+ALineReportsOnce = (line : List ℕ) (a b : ℕ) (first : Reports line a) (second : Reports line b)
+    → first.name ≡ second.name → a ≡ b
 
 -- No whole line that a turn writes reports a number above that of the state after its commit, for numbers that a store
 -- can have.

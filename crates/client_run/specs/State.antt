@@ -32,7 +32,10 @@ Fits s commit = Suits s commit × (s.number < most_commits)
 
 -- what a commit does to the state: a batch joins the pending ones
 abbrev pub effect : State → Commit → State
-effect s (Enqueue batch) = record s { batches = s.batches ++ batch ∷ []; next_batch = s.next_batch + 1 }
+effect s (Enqueue batch) = record s {
+  batches = s.batches ++ batch ∷ [];
+  next_batch = s.next_batch + 1;
+}
 
 -- and each counts
 abbrev pub committed : State → Commit → State
@@ -41,7 +44,8 @@ committed s commit = record (effect s commit) { number = s.number + 1 }
 -- The payloads, one after another, spell commits that fit, and lead from one state to the other.
 abbrev pub Replays : State → List (List ℕ) → State → Type 0
 Replays s [] t = t ≡ s
-Replays s (payload ∷ payloads) t = (commit : Commit) × HasSpelling commit × (payload ≡ spelling commit) × Fits s commit × Replays (committed s commit) payloads t
+Replays s (payload ∷ payloads) t =
+    (commit : Commit) × HasSpelling commit × (payload ≡ spelling commit) × Fits s commit × Replays (committed s commit) payloads t
 
 -- The payloads of a file of this generation lead to the state. It is the first generation, since no payload is a checkpoint.
 pub record LeadsTo (generation : ℕ) (payloads : List (List ℕ)) (s : State) : Type 0 where

@@ -81,7 +81,11 @@ abbrev pub next_turn : Root → State → Past → Reading → Turn
 next_turn root first past reading = turn root (now first past) (heard past) reading
 
 abbrev pub one_more : Root → State → Past → Reading → Past
-one_more root first past reading = record { state = now first past; reading = reading; turn = next_turn root first past reading } ∷ past
+one_more root first past reading = record {
+  state = now first past;
+  reading = reading;
+  turn = next_turn root first past reading;
+} ∷ past
 
 -- the lines one after another
 abbrev pub run : Root → State → Past → List Reading → Past

@@ -24,3 +24,7 @@ pub record AsksRun (words : List (List ℕ)) (root : Root) : Type 0 where
   pub are : words ≡ codes "run" ∷ folder ∷ rest
   pub is_folder : IsFolder folder
   pub names : NamesRoot rest root
+
+-- the words ask for no run
+abbrev pub AsksNothing : List (List ℕ) → Type 0
+AsksNothing words = (root : Root) → ¬ AsksRun words root

@@ -127,7 +127,8 @@ fn found_json(alloc: Global, name: &str, fields: Json) -> Result<Json, AllocErro
 
 fn document_json(alloc: Global, name: &str, fields: &Fields) -> Result<Json, NoMemory>
     ensures digits { IfOk result (λ json. has_float (view json) ≡ false) }
-    ensures tree { IfOk result (λ json. (root : Root) (key : List (List ℕ)) → name.now ≡ name_text root key → view json ≡ document_tree root key (Some fields.now)) }
+    ensures tree { IfOk result (λ json. (root : Root) (key : List (List ℕ)) → name.now ≡ name_text root key
+        → view json ≡ document_tree root key (Some fields.now)) }
 {
     if fields.len() == 0 {
         return Ok(empty_json(alloc, name)?);
@@ -143,7 +144,8 @@ fn print_document(
     key: &DocumentKey,
     document: Option<&Fields>,
 ) -> Result<String, NoMemory>
-    ensures { IfOk result (λ line. string_bytes line ≡ line_of (document_tree root.now key.now (option_copied document.entry))) }
+    ensures { IfOk result (λ line.
+        string_bytes line ≡ line_of (document_tree root.now key.now (option_copied document.entry))) }
 {
     let name = key.print(alloc, root)?;
     let Some(fields) = document else {
@@ -194,7 +196,8 @@ pub fn print_outcome(
     number: u64,
     outcome: &Outcome,
 ) -> Result<String, NoMemory>
-    ensures { IfOk result (λ text. (t : Turn) → IsOutcome outcome.now (state_of store.now) t → string_bytes text ≡ printed root.now number t) }
+    ensures { IfOk result (λ text. (t : Turn) → IsOutcome outcome.now (state_of store.now) t
+        → string_bytes text ≡ printed root.now number t) }
 {
     match outcome {
         Outcome::Done(outs) => print_lines(alloc, root, store, outs.as_slice()),

@@ -103,7 +103,8 @@ fn replay(alloc: Global, payloads: &[Vec<u8>]) -> Result<Option<Vec<Batch>>, NoM
     requires { length payloads.now ≤ 2 ^ 62 }
     ensures { IfOk result (λ found. MatchOption found
         ((s : State) → Replays start (map (λ p. p.items) payloads.now) s → ⊥)
-        (λ batches. Replays start (map (λ p. p.items) payloads.now) (record { number = length payloads.now; batches = batches.items; next_batch = length payloads.now + 1 }))) }
+        (λ batches. Replays start (map (λ p. p.items) payloads.now)
+        (record { number = length payloads.now; batches = batches.items; next_batch = length payloads.now + 1 }))) }
 {
     let mut batches = Vec::new(alloc);
     for payload in payloads {
@@ -135,7 +136,8 @@ impl LocalStore {
         ensures files { IsTrue H.tells_files → Opens (H.view host.old) (H.view host.new) }
         ensures settled { IsTrue H.tells_files → SettlesFirst H.view result (H.view host.old) (H.view host.new) }
         ensures out { KeepsOut (H.view host.old) (H.view host.new) }
-        ensures counts { RisesAt (IsErrOf result OpenFault.DiskFault) (H.view host.old).disk_faults (H.view host.new).disk_faults }
+        ensures counts { RisesAt (IsErrOf result OpenFault.DiskFault)
+            (H.view host.old).disk_faults (H.view host.new).disk_faults }
     {
         let (journal, file, payloads) = Journal::open(alloc, host)?;
         if journal.generation() != 1 {
@@ -171,9 +173,11 @@ impl LocalStore {
         requires has_spelling { HasSpelling commit }
         ensures state { IfOk result (λ store. state_of store ≡ committed (state_of self) commit) }
         ensures stored { IfOk result (λ store. IsTrue H.tells_files → IsStored store (H.view host.new)) }
-        ensures files { IsTrue H.tells_files → Moves (state_of self) (committed (state_of self) commit) (H.view host.old) (H.view host.new) }
+        ensures files { IsTrue H.tells_files → Moves (state_of self) (committed (state_of self) commit)
+            (H.view host.old) (H.view host.new) }
         ensures out { KeepsOut (H.view host.old) (H.view host.new) }
-        ensures counts { RisesAt (IsErrOf result StoreFault.DiskFault) (H.view host.old).disk_faults (H.view host.new).disk_faults }
+        ensures counts { RisesAt (IsErrOf result StoreFault.DiskFault)
+            (H.view host.old).disk_faults (H.view host.new).disk_faults }
     {
         let frame = frame_of(alloc, &commit)?;
         let LocalStore {

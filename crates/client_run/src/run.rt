@@ -28,9 +28,11 @@ fn serve<S: Source, H: Host>(
 ) -> Status
     requires stored { IsTrue H.tells_files → IsStored store (H.view host.old) }
     ensures run { IsTrue S.tells → IsTrue H.tells_files → (s : State) → StandsFor store s []
-        → Ran (called root.now (S.left source.old) s budget H.tells_out (H.view host.old).out) result (S.left source.new) (H.view host.old) (H.view host.new) }
+        → Ran (called root.now (S.left source.old) s budget H.tells_out (H.view host.old).out)
+        result (S.left source.new) (H.view host.old) (H.view host.new) }
     ensures kept { IsTrue S.tells → IsTrue H.tells_files → (s : State) → StandsFor store s []
-        → Kept result (called root.now (S.left source.old) s budget H.tells_out (H.view host.old).out) (H.view host.new).bytes }
+        → Kept result (called root.now (S.left source.old) s budget H.tells_out (H.view host.old).out)
+        (H.view host.new).bytes }
     ensures keeps { IsTrue H.tells_files → Keeps (H.view host.new) }
     ensures serving { IsServed result }
     ensures cause { Causes result (S.faults source.old) (S.faults source.new) (H.view host.old) (H.view host.new) }
@@ -74,14 +76,20 @@ pub fn run_within<S: Source, H: Host>(
 ) -> Status
     requires budget { 1 ≤ budget }
     ensures run { IsTrue S.tells → IsTrue H.tells_files → (s : State) → FindsState (H.view host.old).bytes s
-        → Ran (called root (S.left source.old) s budget H.tells_out (H.view host.old).out) result (S.left source.new) (H.view host.old) (H.view host.new) }
+        → Ran (called root (S.left source.old) s budget H.tells_out (H.view host.old).out)
+        result (S.left source.new) (H.view host.old) (H.view host.new) }
     ensures kept { IsTrue S.tells → IsTrue H.tells_files → (s : State) → FindsState (H.view host.old).bytes s
-        → Kept result (called root (S.left source.old) s budget H.tells_out (H.view host.old).out) (H.view host.new).bytes }
+        → Kept result (called root (S.left source.old) s budget H.tells_out (H.view host.old).out)
+        (H.view host.new).bytes }
     ensures not_a_store { result ≡ Status.NotAStore → IsForeign H.tells_files (H.view host.old) (H.view host.new) }
-    ensures no_store { IsTrue H.tells_files → IsNoStore (H.view host.old).bytes → LeavesForeign result (H.view host.old) (H.view host.new) }
+    ensures no_store { IsTrue H.tells_files → IsNoStore (H.view host.old).bytes
+        → LeavesForeign result (H.view host.old) (H.view host.new) }
+    ensures untaken { IsTrue H.tells_files → IsNoStore (H.view host.old).bytes → source.new ≡ source.old }
     ensures never_kept { IsTrue H.tells_files → Keeps (H.view host.old) → result ≢ Status.NotAStore }
     ensures keeps { IsTrue H.tells_files → Keeps (H.view host.old) → Keeps (H.view host.new) }
-    ensures completes { IsTrue S.tells → IsTrue H.tells_files → Completes (split (S.left source.old)) budget result (S.faults source.old) (S.faults source.new) (H.view host.old) (H.view host.new) }
+    ensures completes { IsTrue S.tells → IsTrue H.tells_files
+        → Completes (split (S.left source.old)) budget result (S.faults source.old) (S.faults source.new)
+        (H.view host.old) (H.view host.new) }
     ensures words { result ≢ Status.Usage }
     ensures cause { Causes result (S.faults source.old) (S.faults source.new) (H.view host.old) (H.view host.new) }
 {

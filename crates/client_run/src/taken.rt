@@ -35,7 +35,8 @@ pub struct Taken {
 /// The turn of a get.
 #[tactic(auto, unfolding(crate::specs::Turn::turn))]
 fn take_get(alloc: Global, store: LocalStore, key: DocumentKey) -> Result<Taken, StoreFault>
-    ensures turn { IfOk result (λ taken. (root : Root) (s : State) (past : Past) → StandsFor store s past → HandsOut root s past (reading_of.Line (event.Get key)) taken) }
+    ensures turn { IfOk result (λ taken. (root : Root) (s : State) (past : Past) → StandsFor store s past
+        → HandsOut root s past (reading_of.Line (event.Get key)) taken) }
     ensures same { IfOk result (λ taken. taken.store ≡ store) }
     ensures memory { IsErrOf result StoreFault.DiskFault → ⊥ }
 {
@@ -59,12 +60,14 @@ fn take_write<H: Host>(
     requires stored { IsTrue H.tells_files → IsStored store (H.view host.old) }
     requires moment { IsMoment at }
     requires spelled { IsSpelledWrite write }
-    ensures turn { IfOk result (λ taken. (root : Root) (s : State) (past : Past) → StandsFor store s past → HandsOut root s past (reading_of.Line (event.Write at write)) taken) }
+    ensures turn { IfOk result (λ taken. (root : Root) (s : State) (past : Past) → StandsFor store s past
+        → HandsOut root s past (reading_of.Line (event.Write at write)) taken) }
     ensures stored { IfOk result (λ taken. IsTrue H.tells_files → IsStored taken.store (H.view host.new)) }
     ensures files { IsTrue H.tells_files → (root : Root) (s : State) (past : Past) → StandsFor store s past
         → Moves s (state_then root s past (reading_of.Line (event.Write at write))) (H.view host.old) (H.view host.new) }
     ensures out { KeepsOut (H.view host.old) (H.view host.new) }
-    ensures counts { RisesAt (IsErrOf result StoreFault.DiskFault) (H.view host.old).disk_faults (H.view host.new).disk_faults }
+    ensures counts { RisesAt (IsErrOf result StoreFault.DiskFault)
+        (H.view host.old).disk_faults (H.view host.new).disk_faults }
 {
     if store.number >= MOST_COMMITS {
         let outcome = Outcome::Refuses(Refusal::IdsSpent);
@@ -93,12 +96,14 @@ fn take<H: Host>(
 ) -> Result<Taken, StoreFault>
     requires stored { IsTrue H.tells_files → IsStored store (H.view host.old) }
     requires spelled { IsSpelledReading reading }
-    ensures turn { IfOk result (λ taken. (root : Root) (s : State) (past : Past) → StandsFor store s past → HandsOut root s past reading taken) }
+    ensures turn { IfOk result (λ taken. (root : Root) (s : State) (past : Past) → StandsFor store s past
+        → HandsOut root s past reading taken) }
     ensures stored { IfOk result (λ taken. IsTrue H.tells_files → IsStored taken.store (H.view host.new)) }
     ensures files { IsTrue H.tells_files → (root : Root) (s : State) (past : Past) → StandsFor store s past
         → Moves s (state_then root s past reading) (H.view host.old) (H.view host.new) }
     ensures out { KeepsOut (H.view host.old) (H.view host.new) }
-    ensures counts { RisesAt (IsErrOf result StoreFault.DiskFault) (H.view host.old).disk_faults (H.view host.new).disk_faults }
+    ensures counts { RisesAt (IsErrOf result StoreFault.DiskFault)
+        (H.view host.old).disk_faults (H.view host.new).disk_faults }
 {
     match reading {
         Reading::Refused(refusal) => Ok(Taken {
@@ -122,12 +127,15 @@ pub fn handle<H: Host>(
 ) -> Result<LocalStore, TurnFault>
     requires stored { IsTrue H.tells_files → IsStored store (H.view host.old) }
     requires spelled { IsSpelledReading reading }
-    ensures stands { IfOk result (λ next. (s : State) (past : Past) → StandsFor store s past → StandsFor next (state_then root.now s past reading) (heard_then root.now s past reading)) }
+    ensures stands { IfOk result (λ next. (s : State) (past : Past) → StandsFor store s past
+        → StandsFor next (state_then root.now s past reading) (heard_then root.now s past reading)) }
     ensures stored { IfOk result (λ next. IsTrue H.tells_files → IsStored next (H.view host.new)) }
     ensures out { IsTrue H.tells_out → (s : State) (past : Past) → StandsFor store s past
-        → Writes (printed root.now number (turn root.now s past reading)) result (H.view host.old).out (H.view host.new).out }
+        → Writes (printed root.now number (turn root.now s past reading)) result
+        (H.view host.old).out (H.view host.new).out }
     ensures files { IsTrue H.tells_files → (s : State) (past : Past) → StandsFor store s past
-        → Turned s (state_then root.now s past reading) (printed root.now number (turn root.now s past reading)) (H.view host.old) (H.view host.new) }
+        → Turned s (state_then root.now s past reading) (printed root.now number (turn root.now s past reading))
+        (H.view host.old) (H.view host.new) }
     ensures counts { TurnCounts result (H.view host.old) (H.view host.new) }
 {
     let Taken { store, outcome } = take(alloc, host, store, reading)?;

@@ -42,6 +42,9 @@ returns-clause-kept g c = λ tells told s finds.
 pub returns-clause-no_store : goal.returns-clause-no_store
 returns-clause-no_store g c = λ told none. absurd (none _ (c.in-Ok.ensures.found told))
 
+pub returns-clause-untaken : goal.returns-clause-untaken
+returns-clause-untaken g c = λ told none. absurd (none _ (c.in-Ok.ensures.found told))
+
 pub returns-in-Err-DiskFault-clause-keeps : goal.returns-in-Err-DiskFault-clause-keeps
 returns-in-Err-DiskFault-clause-keeps g c = λ told keeps. opens_keeps (c.in-Err-DiskFault.ensures.files told) (g.met.H.Host.may_stay _ told) keeps
 
