@@ -25,7 +25,7 @@ use std::alloc::Global;
 /// `Usage` exactly where the words aren't such, or else `NoMemory`: DIR isn't empty and doesn't begin with `-`, and DATABASE is
 /// `projects/{project}/databases/{database}` with two segments; nothing is read or written then. `NotAStore` exactly where the
 /// files, being read, aren't those of a store: nothing is changed then. `SourceFault`, `DiskFault` and `SinkFault` only where
-/// that count rose; `Budget` exactly where 4,294,967,296 lines were handled; or `NoMemory`.
+/// that count rose, and no other rose then; `Budget` exactly where 4,294,967,296 lines were handled; or `NoMemory`.
 pub fn run_client<S: Source, H: Host>(
     alloc: Global,
     words: &[String],

@@ -64,9 +64,10 @@ fn serve<S: Source, H: Host>(
 /// commits of the run, among which is every one that a whole `ok` line names; and files of a store stay such.
 ///
 /// # Errors
-/// `NotAStore` exactly where the files, being read, aren't those of a store: nothing is changed then, and nothing is
-/// written. `SourceFault`, `DiskFault` and `SinkFault` only where that count rose; `Budget` exactly where as many lines
-/// were handled as the budget allows; `Done` exactly at the end of the source before that; or `NoMemory`.
+/// `NotAStore` exactly where the files, being read, aren't those of a store. Over such files nothing is changed, written or
+/// taken, whatever the answer. `SourceFault`, `DiskFault` and `SinkFault` only where that count rose, and no other rose then;
+/// `Budget` exactly where as many lines were handled as the budget allows; `Done` exactly at the end of the source before
+/// that; or `NoMemory`.
 pub fn run_within<S: Source, H: Host>(
     alloc: Global,
     root: Database,
