@@ -7,6 +7,7 @@ ghost use Rattle.document_keys.specs.Order.{Ranks};
 
 use crate::faults::{FieldFault, NoMemory};
 use crate::segment::{has_name_length, is_reserved};
+use crate::sequence::Replicate;
 use crate::spelling::{print_name, read_names};
 use crate::text::Text;
 use std::alloc::Global;
@@ -136,6 +137,13 @@ impl FieldPath {
         self.names.as_slice().cmp(other.names.as_slice())
     }
 
+    /// Whether it is `__name__`, which stands for the document's own name.
+    pub fn is_document_name(&self) -> bool
+        ensures { IsTrue result ↔ (self.now ≡ codes "__name__" ∷ []) }
+    {
+        is_document_name(self.names.as_slice())
+    }
+
     /// The number of names.
     pub fn len(&self) -> u64
         ensures count { result ≡ length self.now }
@@ -164,5 +172,11 @@ impl FieldPath {
             names.push(name.copy(alloc)?)?;
         }
         Ok(FieldPath { names })
+    }
+}
+
+impl Replicate for FieldPath {
+    fn replicate(&self, alloc: Global) -> Result<FieldPath, NoMemory> {
+        self.copy(alloc)
     }
 }

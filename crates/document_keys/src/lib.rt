@@ -1,4 +1,9 @@
-//! Names of databases, documents, collections and fields, and ordered sets of document keys.
+//! Names: what documents are called, and how those names are written (`projects/{p}/databases/{d}/documents/{path}`).
+//!
+//! A `Database` is the root of names. A `DocumentKey` and a `CollectionPath` are lists of `Segment`s, read under a root and
+//! printed under it; a `FieldPath` is a list of field names. A `KeySet` holds keys in their order. `Text` and `Sequence`
+//! are a text and a list of its own, which contracts see as plain lists. Readers name the first fault of a text
+//! (`NameFault`, `FieldFault`). The order of all of them is by the first part that differs, a front first.
 #![tactic(auto)]
 
 mod collection;
@@ -10,6 +15,7 @@ mod key_set;
 mod laws;
 mod path;
 mod segment;
+mod sequence;
 mod spelling;
 mod text;
 
@@ -21,4 +27,5 @@ pub use key::DocumentKey;
 pub use key_set::KeySet;
 pub use laws::{field_paths_read_back, key_faults_exclude, names_one_path, paths_are_ordered};
 pub use segment::Segment;
+pub use sequence::{Replicate, Sequence};
 pub use text::Text;

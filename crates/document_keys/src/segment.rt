@@ -2,6 +2,7 @@ ghost use Rattle.std.specs.Prelude.{◌≡◌, ◌≢◌, ◌↔◌, IsTrue, IfO
 ghost use Rattle.document_keys.specs.Names.{IsReserved, HasNameLength, IsPart, IsSegment};
 
 use crate::faults::{NameFault, NoMemory};
+use crate::sequence::Replicate;
 use crate::text::Text;
 use std::alloc::Global;
 use std::cmp::Ordering;
@@ -149,5 +150,11 @@ impl Ord for Segment {
 
     fn cmp(&self, other: &Segment) -> Ordering {
         self.text.cmp(&other.text)
+    }
+}
+
+impl Replicate for Segment {
+    fn replicate(&self, alloc: Global) -> Result<Segment, NoMemory> {
+        self.copy(alloc)
     }
 }

@@ -2,6 +2,7 @@ ghost use Rattle.std.specs.Prelude.{◌≡◌, IfOk};
 ghost use Rattle.std.specs.String.{string_bytes};
 
 use crate::faults::NoMemory;
+use crate::sequence::Replicate;
 use std::alloc::Global;
 use std::cmp::Ordering;
 use std::marker::Model;
@@ -115,5 +116,11 @@ impl Ord for Text {
 
     fn cmp(&self, other: &Text) -> Ordering {
         self.as_str().cmp(other.as_str())
+    }
+}
+
+impl Replicate for Text {
+    fn replicate(&self, alloc: Global) -> Result<Text, NoMemory> {
+        self.copy(alloc)
     }
 }

@@ -62,7 +62,7 @@ bytes_apart x l other = refl
 pub not_bytes : (k l : Kind) (x : List ℕ) → k ≡ Bytes x → ((y : List ℕ) → l ≢ Bytes y) → GoesByRank k l
 not_bytes k l x is other = subst (λ z. GoesByRank z l) (sym is) (bytes_apart x l other)
 
-reference_apart : (x : RefName) (l : Kind) → ((y : RefName) → l ≢ Reference y) → GoesByRank (Reference x) l
+pub reference_apart : (x : RefName) (l : Kind) → ((y : RefName) → l ≢ Reference y) → GoesByRank (Reference x) l
 reference_apart x (Reference y) other = absurd (other y refl)
 reference_apart x l other = refl
 

@@ -6,6 +6,7 @@ pub mod Days
 pub mod Depths
 pub mod Exact
 pub mod Fractions
+pub mod Inner
 pub mod Instants
 pub mod Lawful
 pub mod Loops

@@ -1,11 +1,14 @@
+pub mod Arrays
 pub mod Codes
 pub mod Data
 pub mod Documents
 pub mod Falls
 pub mod Fields
 pub mod Laws
+pub mod Lent
 pub mod Named
 pub mod Order
+pub mod Paths
 pub mod Storable
 pub mod Time
 pub mod View

@@ -1,6 +1,12 @@
-//! Values, fields, and the times that documents and writes carry.
+//! Values of documents: ten kinds in the order of Firestore, what holds them, and what stores and streams say of them.
+//!
+//! A `Value` is a struct round the enum `Kind`; contracts see it as plain data (`specs/Data.antt`). `Fields` are a finite map
+//! from names to values, and `Fields::at` looks along a path. `Timestamp` is a moment, `RefName` the name of a document.
+//! `Value::compare` is the one order of values. A `Document` is fields with an update time, an `Entry` what is known of
+//! a key; `Documents` is the trait of stores that lend documents. The messages of a watch stream stand here as types.
 #![tactic(auto)]
 
+mod at;
 mod bytes;
 mod document;
 mod documents;
@@ -27,7 +33,7 @@ pub use message::{
     TargetChange,
 };
 pub use printing::times_read_back;
-pub use reference::RefName;
+pub use reference::{NameRef, RefName};
 pub use target_ids::TargetIds;
 pub use timestamp::Timestamp;
 pub use value::{Kind, Value};

@@ -6,12 +6,13 @@ ghost use Rattle.value_model.specs.Order.{rank, RanksValues};
 ghost use Rattle.value_model.specs.Named.{fields_data};
 
 use crate::fields::Field;
+use crate::reference::NameRef;
 use crate::value::{Kind, Value};
 use std::cmp::Ordering;
 
 impl Value {
-    /// The place of the value's kind among the kinds.
-    fn rank(&self) -> u8
+    /// The place of the value's kind among the kinds, from 0 for null to 9 for a map.
+    pub fn rank(&self) -> u8
         ensures { result ≡ rank self.now }
     {
         match &self.kind {
@@ -48,6 +49,20 @@ impl Value {
             (Kind::Array(a), Kind::Array(b)) => compare_values(a.as_slice(), b.as_slice()),
             (Kind::Map(a), Kind::Map(b)) => compare_fields(a.as_slice(), b.as_slice()),
             _ => self.rank().cmp(&other.rank()),
+        }
+    }
+}
+
+impl NameRef<'_> {
+    ghost use Rattle.value_model.specs.Lent.{lent_name};
+
+    /// The order of the name, as a value, and another value.
+    pub fn compare_value(&self, other: &Value) -> Ordering
+        ensures { RanksValues result (Data.reference (lent_name self.now)) other.now }
+    {
+        match &other.kind {
+            Kind::Reference(name) => self.compare(name),
+            _ => 7u8.cmp(&other.rank()),
         }
     }
 }

@@ -32,10 +32,36 @@ impl RefName {
             key,
         })
     }
+
     /// The order of names: the first of the project, the database and the key's segments that differs decides by its
     /// bytes, and a front comes first.
     pub fn compare(&self, other: &RefName) -> Ordering
         ensures { Ranks result (whole_path self.now) (whole_path other.now) }
+    {
+        let name = NameRef {
+            project: &self.project,
+            database: &self.database,
+            key: &self.key,
+        };
+        name.compare(other)
+    }
+}
+
+/// The name of a document whose parts are lent.
+#[derive(Clone, Copy)]
+pub struct NameRef<'a> {
+    pub project: &'a Segment,
+    pub database: &'a Segment,
+    pub key: &'a DocumentKey,
+}
+
+impl NameRef<'_> {
+    ghost use Rattle.value_model.specs.Order.{whole_path};
+    ghost use Rattle.value_model.specs.Lent.{lent_name};
+
+    /// The order of names, as of [`RefName::compare`].
+    pub fn compare(&self, other: &RefName) -> Ordering
+        ensures { Ranks result (whole_path (lent_name self.now)) (whole_path other.now) }
     {
         let project = self.project.cmp(&other.project);
         if project.is_ne() {

@@ -5,7 +5,7 @@ use crate::bytes::Bytes;
 use crate::fields::Fields;
 use crate::reference::RefName;
 use crate::timestamp::Timestamp;
-use document_keys::{NoMemory, Text};
+use document_keys::{NoMemory, Replicate, Text};
 use std::alloc::Global;
 use std::marker::Model;
 
@@ -55,12 +55,24 @@ impl Model for Value {
 }
 
 impl Value {
+    ghost use Rattle.value_model.specs.Arrays.{items_in};
+
     /// The array of these values, which it takes over.
     pub fn array(values: Vec<Value>) -> Value
         ensures { result ≡ Data.array_of values.items }
     {
         Value {
             kind: Kind::Array(values),
+        }
+    }
+
+    /// The items of an array, lent; another value has none.
+    pub fn items(&self) -> &[Value]
+        ensures { result.now ≡ items_in self.now }
+    {
+        match &self.kind {
+            Kind::Array(values) => values.as_slice(),
+            _ => &[],
         }
     }
 
@@ -107,4 +119,10 @@ fn copy_values(alloc: Global, values: &Vec<Value>) -> Result<Vec<Value>, NoMemor
         copies.push(value.copy(alloc)?)?;
     }
     Ok(copies)
+}
+
+impl Replicate for Value {
+    fn replicate(&self, alloc: Global) -> Result<Value, NoMemory> {
+        self.copy(alloc)
+    }
 }

@@ -1,0 +1,6 @@
+pub mod Codes
+pub mod Falls
+pub mod Filters
+pub mod Found
+pub mod Holding
+pub mod View
