@@ -3,8 +3,8 @@ use Rattle.std.specs.Prelude.{◌≡◌, ◌≢◌, ◌⊎◌, ℕ, List, [], �
 use Rattle.std.specs.Cmp.Lexicographic.{pointwise}
 use Rattle.std.specs.List.{Contains}
 use Rattle.document_keys.specs.Names.{Root}
-use Rattle.value_model.specs.Data.{Data, null, reference, array, Entries} 
-use Rattle.value_model.specs.Data as data_of
+use Rattle.value_model.specs.Arrays.{items_in}
+use Rattle.value_model.specs.Data.{Data, null, reference, Entries}
 use Rattle.value_model.specs.Order.{Before, rank}
 use Rattle.value_model.specs.Paths.{value_at}
 use Rattle.queries.specs.declared.filter.Junction.TheVariants.{And, Or}
@@ -26,10 +26,11 @@ reference_to root key = reference (record { project = root.project; database = r
 abbrev pub standing : Root → List (List ℕ) → Entries → List (List ℕ) → Option Data
 standing root key fields path = if pointwise (pointwise nat_eq) path name_path then Some (reference_to root key) else value_at fields path
 
--- the items of an array; another value has none
-abbrev pub items_in : Data → List Data
-items_in (array ds) = data_of.list_of ds
-items_in _ = []
+-- a value is neither null nor one of these, and null is none of them
+pub record IsOutside (v : Data) (values : List Data) : Type 0 where
+  pub there : v ≢ null
+  pub other : Contains values v → ⊥
+  pub no_null : Contains values null → ⊥
 
 -- how a value stands to an operand
 abbrev pub Compares : Operator → Data → Data → Type 0
@@ -44,8 +45,8 @@ Compares operator.GreaterThanOrEqual v operand = (rank v ≡ rank operand) × (B
 Compares operator.NotEqual v operand = (v ≢ null) × (v ≢ operand)
 -- it is one of the operands
 Compares operator.IsIn v operand = Contains (items_in operand) v
--- it is neither null nor one of the operands, and null is none of them
-Compares operator.IsNotIn v operand = (v ≢ null) × (Contains (items_in operand) v → ⊥) × (Contains (items_in operand) null → ⊥)
+-- it is outside of the operands
+Compares operator.IsNotIn v operand = IsOutside v (items_in operand)
 -- it is an array that has the operand, or one of the operands
 Compares operator.ArrayContains v operand = Contains (items_in v) operand
 Compares operator.ArrayContainsAny v operand = (d : Data) × Contains (items_in v) d × Contains (items_in operand) d

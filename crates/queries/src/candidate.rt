@@ -1,14 +1,13 @@
 //! A document that may be in an answer.
 
-ghost use Rattle.std.specs.Prelude.{◌≡◌, ◌↔◌, option_map, IsTrue};
-ghost use Rattle.value_model.specs.Data as Data;
+ghost use Rattle.std.specs.Prelude.{◌≡◌, option_map};
 ghost use Rattle.value_model.specs.Order.{RanksValues, rank};
-ghost use Rattle.queries.specs.Holding.{name_path, items_in};
+ghost use Rattle.value_model.specs.Arrays.{items_in};
 ghost use Rattle.queries.specs.Found.{found_data, standing_at};
 
 use document_keys::{Database, DocumentKey, FieldPath};
 use std::cmp::Ordering;
-use value_model::{Fields, Kind, NameRef, Value};
+use value_model::{Fields, NameRef, Value};
 
 /// A document that is lent, by the root of its name, its key and its fields.
 #[derive(Clone, Copy)]
@@ -25,19 +24,12 @@ pub(crate) enum Found<'a> {
     Name(NameRef<'a>),
 }
 
-/// Whether the path is `__name__`.
-pub(crate) fn is_name(path: &FieldPath) -> bool
-    ensures { IsTrue result ↔ (path.now ≡ name_path) }
-{
-    path.len() == 1 && path.segment(0) == Some("__name__")
-}
-
 impl<'a> Candidate<'a> {
     /// What stands at the path.
     pub fn at(&self, path: &FieldPath) -> Option<Found<'a>>
         ensures { option_map found_data result ≡ standing_at self.now path.now }
     {
-        if is_name(path) {
+        if path.is_document_name() {
             return Some(Found::Name(NameRef {
                 project: self.root.project(),
                 database: self.root.name(),
@@ -68,30 +60,17 @@ impl Found<'_> {
     {
         match self {
             Found::Value(value) => value.compare(other),
-            Found::Name(name) => match &other.kind {
-                Kind::Reference(reference) => name.compare(reference),
-                _ => 7u8.cmp(&other.rank()),
-            },
+            Found::Name(name) => name.compare_value(other),
         }
     }
 
-    /// The items of an array; another value has none.
+    /// The items of an array, lent; another value has none.
     pub fn items(&self) -> &[Value]
         ensures { result.now ≡ items_in (found_data self.now) }
     {
         match self {
-            Found::Value(value) => items_of(value),
+            Found::Value(value) => value.items(),
             Found::Name(_) => &[],
         }
-    }
-}
-
-/// The items of an array; another value has none.
-pub(crate) fn items_of(value: &Value) -> &[Value]
-    ensures { result.now ≡ items_in value.now }
-{
-    match &value.kind {
-        Kind::Array(values) => values.as_slice(),
-        _ => &[],
     }
 }

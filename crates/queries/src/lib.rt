@@ -3,5 +3,11 @@
 
 mod candidate;
 mod filter;
+mod holding;
+mod order;
+mod rows;
+mod target;
 
 pub use filter::{Filter, FilterKind, Junction, Operator, UnaryOp};
+pub use order::{Cursor, Order};
+pub use target::{CollectionTarget, Target};

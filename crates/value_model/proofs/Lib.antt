@@ -18,4 +18,5 @@ pub mod ReadBack
 pub mod RefNames
 pub mod Scalars
 pub mod Sizes
+pub mod UnderRoot
 pub mod Written

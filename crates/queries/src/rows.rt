@@ -1,0 +1,109 @@
+//! Where documents stand in the order of a query.
+
+ghost use Rattle.std.specs.Prelude.{◌≡◌, ◌↔◌, ◌≤◌, List, length, Some, IsTrue};
+ghost use Rattle.document_keys.specs.Names.{Root};
+ghost use Rattle.value_model.specs.Data as Data;
+ghost use Rattle.value_model.specs.Order.{RanksValues};
+ghost use Rattle.queries.specs.Found.{standing_at};
+ghost use Rattle.queries.specs.Holding.{standing};
+ghost use Rattle.queries.specs.Rows.{HasValues, RanksDirected, RanksRows, FitsOrders, StartKeeps, EndKeeps};
+
+use crate::candidate::Candidate;
+use crate::order::{Cursor, Order};
+use document_keys::FieldPath;
+use std::cmp::Ordering;
+use value_model::{DocRef, Value};
+
+/// A comparison's answer in the direction of an order.
+fn directed(order: Ordering, descending: bool) -> Ordering
+    ensures { (x y : Data.Data) → RanksValues order x y → RanksDirected descending x y result }
+{
+    if descending { order.reverse() } else { order }
+}
+
+/// Whether the document has a value at the field of each order.
+pub(crate) fn has_values(candidate: &Candidate<'_>, orders: &[Order]) -> bool
+    ensures { IsTrue result ↔ ((xs : List Data.Data) × HasValues (standing_at candidate.now) orders.now xs) }
+{
+    for order in orders {
+        let Some(_) = candidate.at(&order.path) else {
+            return false;
+        };
+    }
+    true
+}
+
+/// The order of a document's values, which it has, and those of a cursor, which are for the first orders.
+fn compare_to_values(candidate: &Candidate<'_>, orders: &[Order], values: &[Value]) -> Ordering
+    ensures { (xs : List Data.Data) → HasValues (standing_at candidate.now) orders.now xs → length values.now ≤ length orders.now → RanksRows orders.now xs values.now result }
+{
+    for i in 0..values.len().min(orders.len()) {
+        let order = &orders[i];
+        let Some(found) = candidate.at(&order.path) else {
+            return Ordering::Equal;
+        };
+        let ranked = directed(found.compare(&values[i]), order.descending);
+        if ranked.is_ne() {
+            return ranked;
+        }
+    }
+    Ordering::Equal
+}
+
+/// The order of the values at a path that two documents have.
+fn compare_at(path: &FieldPath, left: DocRef<'_>, right: DocRef<'_>) -> Ordering
+    ensures { (root : Root) (x y : Data.Data) → standing root left.entry.key.now left.entry.fields.now path.now ≡ Some x → standing root right.entry.key.now right.entry.fields.now path.now ≡ Some y → RanksValues result x y }
+{
+    if path.is_document_name() {
+        return left.key.compare(right.key);
+    }
+    match (left.fields.at(path), right.fields.at(path)) {
+        (Some(x), Some(y)) => x.compare(y),
+        _ => Ordering::Equal,
+    }
+}
+
+/// The order of two documents that have the values of the orders.
+pub(crate) fn compare_rows(orders: &[Order], left: DocRef<'_>, right: DocRef<'_>) -> Ordering
+    ensures { (root : Root) (xs ys : List Data.Data) → HasValues (standing root left.entry.key.now left.entry.fields.now) orders.now xs → HasValues (standing root right.entry.key.now right.entry.fields.now) orders.now ys → RanksRows orders.now xs ys result }
+{
+    for order in orders {
+        let ranked = directed(compare_at(&order.path, left, right), order.descending);
+        if ranked.is_ne() {
+            return ranked;
+        }
+    }
+    Ordering::Equal
+}
+
+/// Whether a start keeps the document, which has the values of the orders.
+pub(crate) fn start_keeps(
+    candidate: &Candidate<'_>,
+    orders: &[Order],
+    start: &Option<Cursor>,
+) -> bool
+    ensures { (xs : List Data.Data) → HasValues (standing_at candidate.now) orders.now xs → FitsOrders orders.now start.now → (IsTrue result ↔ StartKeeps orders.now xs start.now) }
+{
+    let Some(cursor) = start else {
+        return true;
+    };
+    match compare_to_values(candidate, orders, cursor.values.as_slice()) {
+        Ordering::Less => false,
+        Ordering::Equal => cursor.before,
+        Ordering::Greater => true,
+    }
+}
+
+/// Whether an end keeps the document, which has the values of the orders.
+pub(crate) fn end_keeps(candidate: &Candidate<'_>, orders: &[Order], end: &Option<Cursor>) -> bool
+    ensures { (xs : List Data.Data) → HasValues (standing_at candidate.now) orders.now xs → FitsOrders orders.now end.now → (IsTrue result ↔ EndKeeps orders.now xs end.now) }
+{
+    let Some(cursor) = end else {
+        return true;
+    };
+    match compare_to_values(candidate, orders, cursor.values.as_slice()) {
+        Ordering::Less => true,
+        Ordering::Equal => !cursor.before,
+        Ordering::Greater => false,
+    }
+}
