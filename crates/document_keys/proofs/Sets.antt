@@ -1,5 +1,5 @@
 -- ascending lists as sets: what a binary search finds in one, and what an insertion and a removal leave
-use Rattle.std.proofs.Common.{◌≡◌, ◌≢◌, ◌∙◌, ◌↔◌, ◌⊎◌, inl, inr, ℕ, ◌+◌, ◌-◌, ◌<◌, ◌≤◌, Bool, IsTrue, Ordering, Less, Equal, Greater, Result, Ok, Err, MatchResult, List, [], ◌∷◌, length, get_or, take, drop, refl, sym, ap, subst, arith}
+use Rattle.std.proofs.Common.{◌≡◌, ◌≢◌, ◌∙◌, ◌↔◌, ◌⊎◌, inl, inr, ℕ, zero, suc, ◌+◌, ◌-◌, ◌<◌, ◌≤◌, Bool, IsTrue, Ordering, Less, Equal, Greater, Result, Ok, Err, MatchResult, List, [], ◌∷◌, length, get_or, take, drop, refl, sym, ap, subst, arith}
 use Rattle.std.specs.Cmp.{tied_itself}
 use Rattle.std.specs.List.{AllPairs, AllWithin, Contains, HoldsAt, insert, remove}
 use Rattle.std.specs.List.Sorted.{IsBinarySearchResult, IsNonDecreasingBy, IsSearchInRange}
@@ -158,3 +158,47 @@ module _ {A : Type 0} {R : A → A → Ordering} {Below : A → A → Type 0} (r
   -- the same of the slice that was searched
   pub searched_slice : (slice xs : List A) (key : A) (found : Result ℕ ℕ) → slice ≡ xs → AllPairs Below xs → IsSearchInRange found (length slice) → IsBinarySearchResult (λ y. R y key) slice found → MatchResult found (λ i. (i < length xs) × HoldsAt (λ y. y ≡ key) xs i) (λ i. (i ≤ length xs) × AllWithin (λ y. Below y key) xs 0 i × AllWithin (λ y. Below key y) xs i (length xs))
   searched_slice slice xs key found same ascending within is = searched xs key found ascending (subst (λ ys. IsSearchInRange found (length ys)) same within) (subst (λ ys. IsBinarySearchResult (λ y. R y key) ys found) same is)
+
+  -- the members of a list, one by one
+  first_or_rest : (x : A) (xs : List A) (k : A) → Contains (x ∷ xs) k → (x ≡ k) ⊎ Contains xs k
+  first_or_rest x xs k there = place there.0 there.1 there.2
+    where
+      place : (i : ℕ) → i < length (x ∷ xs) → get_or (x ∷ xs) i k ≡ k → (x ≡ k) ⊎ Contains xs k
+      place zero inside is = inl is
+      place (suc i) inside is = inr (i, omega arith, is)
+
+  in_rest : (x : A) (xs : List A) (k : A) → Contains xs k → Contains (x ∷ xs) k
+  in_rest x xs k there = let inside = there.1 in (suc there.0, omega arith, there.2)
+
+  at_first : (x : A) (xs : List A) → Contains (x ∷ xs) x
+  at_first x xs = (0, omega arith, refl)
+
+  above_first : (x : A) (xs : List A) (k : A) → AllPairs Below (x ∷ xs) → Contains xs k → Below x k
+  above_first x xs k ascending there = let inside = there.1 in subst (Below x) there.2 (ascending 0 (suc there.0) k (omega arith) (omega arith))
+
+  rest_ascends : (x : A) (xs : List A) → AllPairs Below (x ∷ xs) → AllPairs Below xs
+  rest_ascends x xs ascending i j d before inside = ascending (suc i) (suc j) d (omega arith) (omega arith)
+
+  same_first : (x y : A) (xs ys : List A) → AllPairs Below (x ∷ xs) → AllPairs Below (y ∷ ys) → ((k : A) → Contains (x ∷ xs) k ↔ Contains (y ∷ ys) k) → x ≡ y
+  same_first x y xs ys ax ay same =
+      elim (first_or_rest y ys x ((same x).0 (at_first x xs))) [
+        | inl e ↦ sym e
+        | inr in_ys ↦ elim (first_or_rest x xs y ((same y).1 (at_first y ys))) [
+            | inl e ↦ e
+            | inr in_xs ↦ absurd (not_itself x x refl (chain x y x (above_first x xs y ax in_xs) (above_first y ys x ay in_ys)))
+          ]
+      ]
+
+  moved : (x y : A) (xs ys : List A) (k : A) → x ≡ y → AllPairs Below (x ∷ xs) → (Contains (x ∷ xs) k → Contains (y ∷ ys) k) → Contains xs k → Contains ys k
+  moved x y xs ys k first ax goes there =
+      elim (first_or_rest y ys k (goes (in_rest x xs k there))) [ inl e ↦ absurd (not_itself x k (first ∙ e) (above_first x xs k ax there)) | inr rest ↦ rest ]
+
+  -- ascending lists with the same members are the same
+  pub alike : (xs ys : List A) → AllPairs Below xs → AllPairs Below ys → ((k : A) → Contains xs k ↔ Contains ys k) → xs ≡ ys
+  alike [] [] ax ay same = refl
+  alike [] (y ∷ ys) ax ay same = absurd (let none = ((same y).1 (at_first y ys)).1 in omega arith)
+  alike (x ∷ xs) [] ax ay same = absurd (let none = ((same x).0 (at_first x xs)).1 in omega arith)
+  alike (x ∷ xs) (y ∷ ys) ax ay same =
+      let first = same_first x y xs ys ax ay same in
+      let rest = alike xs ys (rest_ascends x xs ax) (rest_ascends y ys ay) (λ k. (moved x y xs ys k first ax (same k).0, moved y x ys xs k (sym first) ay (same k).1)) in
+      λ i. first i ∷ rest i

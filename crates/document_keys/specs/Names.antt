@@ -2,7 +2,7 @@
 --
 -- A document name is `projects/{project}/databases/{database}/documents/{path}`, whose path has collection ids and
 -- document ids in turn. Here names are written from their parts; the code cuts them.
-use Rattle.std.specs.Prelude.{◌≡◌, ◌≢◌, ℕ, ◌<◌, ◌≤◌, ◌%◌, List, [], ◌∷◌, ◌++◌, length, codes}
+use Rattle.std.specs.Prelude.{◌≡◌, ◌≢◌, ℕ, ◌<◌, ◌≤◌, ◌%◌, List, [], ◌∷◌, ◌++◌, length, codes, Option, Some, None}
 use Rattle.std.specs.List.{All}
 
 -- the text is of the form `__.*__`: at least four bytes that begin and end with `__`
@@ -63,3 +63,8 @@ pub record IsKey (path : List (List ℕ)) : Type 0 where
 pub record IsCollection (path : List (List ℕ)) : Type 0 where
   pub odd : length path % 2 ≡ 1
   pub segments : All IsSegment path
+
+-- the path of a collection's parent: the key of its document, or the empty path, which is the root's `documents`
+abbrev pub parent_path : Option (List (List ℕ)) → List (List ℕ)
+parent_path None = []
+parent_path (Some key) = key

@@ -1,7 +1,7 @@
 ghost use Rattle.std.specs.Prelude.{◌≡◌, ◌≢◌, ◌↔◌, ◌%◌, IsTrue, IfOk, IfErr, MatchOption, option_map, List, ℕ, [], ◌++◌, ◌∷◌, length};
 ghost use Rattle.std.specs.String.{string_bytes};
 ghost use Rattle.std.specs.List.{slice_get};
-ghost use Rattle.document_keys.specs.Names.{IsCollection, documents_text, name_text};
+ghost use Rattle.document_keys.specs.Names.{IsCollection, documents_text, name_text, parent_path};
 ghost use Rattle.document_keys.specs.Faults.{HasKeyFault, HasCollectionFault, IsParent};
 ghost use Rattle.document_keys.specs.Order.{Ranks};
 
@@ -54,6 +54,17 @@ fn read_parent(alloc: Global, root: &Database, parent: &str) -> Result<Vec<Segme
     Ok(key.into_segments())
 }
 
+/// The segments of a parent: those of its key, or none.
+fn segments_of(alloc: Global, parent: Option<DocumentKey>) -> Vec<Segment>
+    ensures segments { result.items ≡ parent_path parent }
+    ensures even { length result.items % 2 ≡ 0 }
+{
+    match parent {
+        Some(key) => key.into_segments(),
+        None => Vec::new(alloc),
+    }
+}
+
 impl CollectionPath {
     /// The path of these segments, or `None` exactly where their number is even.
     pub fn from_segments(segments: Vec<Segment>) -> Option<CollectionPath>
@@ -72,6 +83,25 @@ impl CollectionPath {
         ensures { result ≡ segments.items }
     {
         CollectionPath { segments }
+    }
+
+    /// The path of the collection with this id in the parent's document, or without a parent at the root's `documents`.
+    ///
+    /// # Errors
+    /// `NoMemory`
+    pub fn inside(
+        alloc: Global,
+        parent: Option<DocumentKey>,
+        id: Segment,
+    ) -> Result<CollectionPath, NoMemory>
+        ensures { IfOk result (λ path. path ≡ parent_path parent ++ id ∷ []) }
+    {
+        let mut segments = segments_of(alloc, parent);
+        segments.push(id)?;
+        let Some(path) = CollectionPath::from_segments(segments) else {
+            unreachable!();
+        };
+        Ok(path)
     }
 
     /// The path of the collection with this id in the parent, which is `{root}/documents` or a document name.

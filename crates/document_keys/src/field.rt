@@ -100,6 +100,18 @@ impl FieldPath {
         Ok(FieldPath { names })
     }
 
+    /// The path `__name__`, which stands for the document's own name.
+    ///
+    /// # Errors
+    /// `NoMemory`
+    pub fn document_name(alloc: Global) -> Result<FieldPath, NoMemory>
+        ensures { IfOk result (λ path. path ≡ codes "__name__" ∷ []) }
+    {
+        let mut names = Vec::new(alloc);
+        names.push(Text::from_str(alloc, "__name__")?)?;
+        Ok(FieldPath { names })
+    }
+
     /// The path that the text spells: its names joined by `.`, each plain or between backticks.
     ///
     /// # Errors
@@ -178,5 +190,58 @@ impl FieldPath {
 impl Replicate for FieldPath {
     fn replicate(&self, alloc: Global) -> Result<FieldPath, NoMemory> {
         self.copy(alloc)
+    }
+}
+
+impl PartialEq for FieldPath {
+    ghost use Rattle.std.specs.Cmp.{partial_equiv_from_equiv};
+    ghost use Rattle.std.specs.Cmp.Lexicographic.{pointwise, lists_equiv, nat_list_eq_equiv};
+    ghost use Rattle.std.specs.Prelude.{nat_eq};
+
+    ghost eq = { pointwise (pointwise nat_eq) };
+
+    ghost laws = { partial_equiv_from_equiv (lists_equiv nat_list_eq_equiv) };
+
+    fn eq(&self, other: &FieldPath) -> bool {
+        self.names.as_slice() == other.names.as_slice()
+    }
+}
+
+impl Eq for FieldPath {
+    ghost use Rattle.std.specs.Cmp.Lexicographic.{lists_equiv, nat_list_eq_equiv};
+
+    ghost laws = { lists_equiv nat_list_eq_equiv };
+}
+
+impl PartialOrd for FieldPath {
+    ghost use Rattle.std.specs.Cmp.{po};
+    ghost use Rattle.std.specs.Cmp.Lexicographic.{slice_cmp, lists_total, lists_ties, nat_list_cmp_total, texts_ties};
+    ghost use Rattle.std.specs.Ordering.{nat_cmp};
+    ghost use Rattle.std.specs.Prelude.{Some};
+
+    ghost partial_cmp = { λ x y. Some (slice_cmp (slice_cmp nat_cmp) x y) };
+
+    ghost laws = { po (lists_total nat_list_cmp_total) (lists_ties (slice_cmp nat_cmp) texts_ties) };
+
+    fn partial_cmp(&self, other: &FieldPath) -> Option<Ordering> {
+        Some(self.names.as_slice().cmp(other.names.as_slice()))
+    }
+}
+
+impl Ord for FieldPath {
+    ghost use Rattle.std.specs.Cmp.Lexicographic.{slice_cmp, lists_total, lists_ties, nat_list_cmp_total, texts_ties};
+    ghost use Rattle.std.specs.Ordering.{nat_cmp};
+    ghost use Rattle.std.specs.Prelude.{refl};
+
+    ghost cmp = { slice_cmp (slice_cmp nat_cmp) };
+
+    ghost total = { lists_total nat_list_cmp_total };
+
+    ghost matches_partial_cmp = { λ x y. refl };
+
+    ghost matches_eq = { lists_ties (slice_cmp nat_cmp) texts_ties };
+
+    fn cmp(&self, other: &FieldPath) -> Ordering {
+        self.names.as_slice().cmp(other.names.as_slice())
     }
 }

@@ -1,8 +1,8 @@
 -- what stands at the paths of a document
-use Rattle.std.proofs.Common.{◌≡◌, ◌∙◌, ℕ, Bool, true, false, List, ap, refl, Option, Some, nat_eq, if◌then◌else◌}
+use Rattle.std.proofs.Common.{◌≡◌, ℕ, Bool, true, false, List, ap, refl, Some, nat_eq, if◌then◌else◌}
 use Rattle.std.specs.Cmp.Lexicographic.{pointwise, pointwise_decides, bytes_decides}
 use Rattle.document_keys.specs.Names.{Root}
-use Rattle.value_model.specs.Data.{Data, Entries}
+use Rattle.value_model.specs.Data.{Entries}
 use Rattle.value_model.specs.Paths.{value_at}
 use Rattle.queries.specs.Holding.{name_path, reference_to, standing}
 

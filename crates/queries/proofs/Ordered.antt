@@ -1,15 +1,15 @@
 -- rows compared value by value
-use Rattle.std.proofs.Common.{◌≡◌, ◌≢◌, ◌∙◌, ◌↔◌, ◌⊎◌, inl, inr, ℕ, zero, suc, ◌+◌, ◌<◌, ◌≤◌, Bool, true, false, List, [], ◌∷◌, ◌++◌, length, take, get_or, Option, Some, None, Ordering, Less, Equal, Greater, refl, sym, ap, subst, arith}
+use Rattle.std.proofs.Common.{◌≡◌, ◌≢◌, ◌∙◌, inl, inr, ℕ, zero, suc, ◌+◌, ◌<◌, Bool, true, false, List, [], ◌∷◌, ◌++◌, length, take, get_or, Option, Some, Ordering, Less, Equal, Greater, refl, sym, ap, subst, arith}
 use Rattle.std.proofs.lemmas.List.{take_all, take_more}
 use Rattle.std.proofs.lemmas.List.Elements.{All-head, All-tail}
 use Rattle.std.specs.List.{All}
 use Rattle.value_model.specs.Data.{Data}
-use Rattle.value_model.specs.Order.{Before, RanksValues}
+use Rattle.value_model.specs.Order.{RanksValues}
 use Rattle.value_model.proofs.Lawful.{ordered}
 use Rattle.queries.specs.declared.order.Order.{Order}
 use Rattle.queries.specs.Rows.{DirectedBefore, HasValues, Precedes, RanksDirected, RanksRows}
 
-not_itself : (d : Bool) (x : Data) → DirectedBefore d x x → ⊥
+pub not_itself : (d : Bool) (x : Data) → DirectedBefore d x x → ⊥
 not_itself false x before = ordered.strict x before
 not_itself true x before = ordered.strict x before
 

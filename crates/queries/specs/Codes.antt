@@ -1,6 +1,5 @@
 -- How deep proofs go into a filter, and the code by which they tell filters apart. No meaning stands here.
-use Rattle.std.specs.Prelude.{◌≡◌, refl, ℕ, zero, suc, max, List, [], ◌∷◌}
-use Rattle.std.proofs.Common.{ap}
+use Rattle.std.specs.Prelude.{◌≡◌, refl, ℕ, zero, suc, max}
 use Rattle.std.specs.Coded.{Coded, code_by}
 use base.Stored.{Gv, gnil, gnum, gcons}
 use denote.Struct.Codes.{itself}

@@ -4,6 +4,10 @@ pub mod Falls
 pub mod Filters
 pub mod Found
 pub mod Holding
+pub mod Laws
 pub mod Matching
+pub mod Orders
+pub mod Queried
 pub mod Rows
+pub mod Rules
 pub mod View

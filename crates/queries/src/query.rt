@@ -1,13 +1,20 @@
-ghost use Rattle.std.specs.Prelude.{◌≡◌, ◌↔◌, IsTrue, IfOk};
+ghost use Rattle.std.specs.Prelude.{◌≡◌, ◌≢◌, ◌↔◌, ◌∷◌, [], length, IsTrue, IfOk, IfErr, MatchOption};
 ghost use Rattle.document_keys.specs.Names.{Root};
 ghost use Rattle.queries.specs.Found.{standing_at};
-ghost use Rattle.queries.specs.Checked.{IsCheckedCollection};
+ghost use Rattle.queries.specs.Checked.{IsCheckedCollection, IsLimit};
+ghost use Rattle.queries.specs.Orders.{AreWhole};
+ghost use Rattle.queries.specs.Queried.{IsSameLimit, IsTargetOf, IsQueryOf, HasQueryFault};
+ghost use Rattle.queries.specs.Rules.{BadLimit, IsSound};
 ghost use Rattle.queries.specs.Matching.{MeetsAny, Matches, MatchesCollection, IsBefore};
 
 use crate::candidate::Candidate;
+use crate::checking::broken_rule;
+use crate::order::Order;
+use crate::raw::{QueryFault, RawCollection, RawQuery};
 use crate::rows::{compare_rows, end_keeps, has_values, start_keeps};
 use crate::target::{CollectionTarget, Target};
-use document_keys::{Database, DocumentKey, NoMemory};
+use crate::whole_orders::whole_orders;
+use document_keys::{CollectionPath, Database, DocumentKey, NoMemory, Segment, Sequence};
 use std::alloc::Global;
 use std::marker::Model;
 use value_model::{DocRef, Fields};
@@ -57,7 +64,88 @@ fn matches_collection(candidate: &Candidate<'_>, target: &CollectionTarget) -> b
         && end_keeps(candidate, orders, &target.end_at)
 }
 
+/// The one id, where there is exactly one.
+fn only_id(from: Sequence<Segment>) -> Option<Segment>
+    ensures { MatchOption result (length from ≢ 1) (λ id. from ≡ id ∷ []) }
+{
+    let mut ids = from.into_vec();
+    let id = ids.pop()?;
+    if ids.is_empty() { Some(id) } else { None }
+}
+
+/// A limit that is at least 1, without its sign.
+fn unsigned(limit: Option<i32>) -> Option<u32>
+    requires { BadLimit limit → ⊥ }
+    ensures same { IsSameLimit limit result }
+    ensures limit { IsLimit result }
+{
+    match limit {
+        Some(limit) => Some(limit as u32),
+        None => None,
+    }
+}
+
+/// The query of a collection that breaks no rule, with its whole list of orders.
+fn target_of(
+    alloc: Global,
+    raw: RawCollection,
+    orders: Sequence<Order>,
+) -> Result<CollectionTarget, NoMemory>
+    requires sound { IsSound raw }
+    requires whole { AreWhole raw.orders raw.filter orders }
+    ensures target { IfOk result (λ target. IsTargetOf raw target) }
+    ensures checked { IfOk result (λ target. IsCheckedCollection target) }
+{
+    let Some(id) = only_id(raw.from) else {
+        unreachable!();
+    };
+    let collection = CollectionPath::inside(alloc, raw.parent, id)?;
+    Ok(CollectionTarget {
+        collection,
+        filter: raw.filter,
+        orders,
+        start_at: raw.start_at,
+        end_at: raw.end_at,
+        limit: unsigned(raw.limit),
+    })
+}
+
+/// The query of a collection, checked.
+fn check_collection(alloc: Global, raw: RawCollection) -> Result<CollectionTarget, QueryFault>
+    ensures target { IfOk result (λ target. IsTargetOf raw target) }
+    ensures checked { IfOk result (λ target. IsCheckedCollection target) }
+    ensures fault { IfErr result (λ fault. HasQueryFault (RawQuery.Collection raw) fault) }
+{
+    let explicit = raw.orders.copy(alloc)?;
+    let orders = whole_orders(alloc, explicit, &raw.filter)?;
+    if let Some(rule) = broken_rule(&raw, orders.as_slice()) {
+        return Err(QueryFault::BadQuery(rule));
+    }
+    Ok(target_of(alloc, raw, orders)?)
+}
+
 impl Query {
+    /// The query, if it breaks no rule of queries, with its whole list of orders.
+    ///
+    /// # Errors
+    /// `BadQuery` with the rule of the least number that it breaks; or `NoMemory`.
+    pub fn check(alloc: Global, raw: RawQuery) -> Result<Query, QueryFault>
+        ensures query { IfOk result (λ query. IsQueryOf raw query) }
+        ensures fault { IfErr result (λ fault. HasQueryFault raw fault) }
+    {
+        match raw {
+            RawQuery::Document(key) => Ok(Query {
+                target: Target::Document(key),
+            }),
+            RawQuery::Collection(raw) => {
+                let target = check_collection(alloc, raw)?;
+                Ok(Query {
+                    target: Target::Collection(target),
+                })
+            }
+        }
+    }
+
     /// What is sent and stored of the query: a copy.
     ///
     /// # Errors

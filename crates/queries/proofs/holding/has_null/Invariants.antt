@@ -1,7 +1,6 @@
 use Rattle.std.proofs.Common.{◌≡◌, take}
-use Rattle.std.specs.List.{All, Contains}
+use Rattle.std.specs.List.{All}
 use Rattle.value_model.specs.Data as Data
-use Rattle.queries.specs.Found.{found_data}
 use Rattle.queries.proofs.holding.has_null.Given as goal
 
 abbrev pub invariant-loop-value : goal.invariant-loop-value

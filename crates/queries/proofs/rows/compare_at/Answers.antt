@@ -1,5 +1,4 @@
-use Rattle.std.proofs.Common.{◌≡◌, ◌∙◌, ap, sym, refl, option_map, Some, Ordering, subst}
-use Rattle.document_keys.specs.Names.{Root}
+use Rattle.std.proofs.Common.{◌≡◌, ◌∙◌, ap, sym, option_map}
 use Rattle.value_model.proofs.UnderRoot.{under_root}
 use Rattle.queries.specs.Holding.{name_path, reference_to, standing}
 use Rattle.queries.proofs.Candidates.{elsewhere}

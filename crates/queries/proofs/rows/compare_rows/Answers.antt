@@ -1,4 +1,4 @@
-use Rattle.std.proofs.Common.{◌≡◌, ◌∙◌, ap, sym, refl, arith, length}
+use Rattle.std.proofs.Common.{◌∙◌, sym, refl, arith}
 use Rattle.value_model.specs.Data.{null}
 use Rattle.value_model.proofs.RefNames.{differ, same}
 use Rattle.queries.specs.Holding.{standing}

@@ -1,4 +1,4 @@
-use Rattle.std.proofs.Common.{◌≡◌, ◌∙◌, ◌<◌, ap, sym, refl, arith, option_map, None, length}
+use Rattle.std.proofs.Common.{◌∙◌, ap, sym, arith, option_map}
 use Rattle.value_model.specs.Data.{null}
 use Rattle.value_model.proofs.RefNames.{differ, same}
 use Rattle.queries.specs.Found.{found_data, standing_at}

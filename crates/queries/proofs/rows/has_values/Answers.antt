@@ -1,4 +1,4 @@
-use Rattle.std.proofs.Common.{◌≡◌, ◌∙◌, ap, sym, refl, arith, option_map, None}
+use Rattle.std.proofs.Common.{◌∙◌, ap, sym, refl, arith, option_map}
 use Rattle.value_model.specs.Data.{null}
 use Rattle.document_keys.proofs.Fields.{walk_more, walk_whole}
 use Rattle.queries.specs.Found.{found_data, standing_at}

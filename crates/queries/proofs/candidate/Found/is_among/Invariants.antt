@@ -1,6 +1,5 @@
 use Rattle.std.proofs.Common.{◌≡◌, take}
-use Rattle.std.specs.List.{All, Contains}
-use Rattle.value_model.specs.Data as Data
+use Rattle.std.specs.List.{All}
 use Rattle.queries.specs.Found.{found_data}
 use Rattle.queries.proofs.candidate.Found.is_among.Given as goal
 

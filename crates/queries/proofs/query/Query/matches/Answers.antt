@@ -1,4 +1,4 @@
-use Rattle.std.proofs.Common.{◌≡◌, ◌∙◌, IsTrue, sym, subst}
+use Rattle.std.proofs.Common.{◌∙◌, IsTrue, sym, subst}
 use Rattle.std.specs.Cmp.Lexicographic.{pointwise_decides, bytes_decides}
 use Rattle.queries.specs.Checked.{IsChecked}
 use Rattle.queries.specs.Matching.{Matches}

@@ -1,0 +1,18 @@
+//! Laws of queries. Nothing is done when they run.
+
+ghost use Rattle.queries.specs.Laws.{WholeOrdersAreOne, RowsAreOrdered, AnswersAreOrdered};
+
+/// The explicit orders and the filter determine the whole list of orders.
+pub fn whole_orders_are_one()
+    ensures { WholeOrdersAreOne }
+{}
+
+/// Lists of values for the fields of orders are in a strict total order.
+pub fn rows_are_ordered()
+    ensures { RowsAreOrdered }
+{}
+
+/// The documents that match a checked query are in a strict order, which is total on different keys.
+pub fn answers_are_ordered()
+    ensures { AnswersAreOrdered }
+{}
