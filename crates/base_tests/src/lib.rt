@@ -1,9 +1,9 @@
 //! The tests of the crates that stand on no disk and no input: names, values, writes, their JSON and their bytes.
 //!
 //! It has tests and nothing else. They stand apart since a crate with tests is proved twice, so `document_keys`,
-//! `value_model`, `mutations`, `json_model` and `record_codec` have none, and are tried through what they export.
+//! `value_model`, `mutations`, `json_model`, `record_codec` and `queries` have none, and are tried through what they export.
 //! A module for each of them, cut where one grew long: `names`, `times`, `order`, `fields`, `messages`, `stores`,
-//! `writes`, `records`, `trees`. What several need to make a value stands in `fixtures`.
+//! `writes`, `records`, `trees`, `queries`. What several need to make a value stands in `fixtures`.
 //! A test function owns one value, and hands it on by reference.
 #![tactic(auto)]
 
@@ -19,6 +19,8 @@ mod names;
 mod order;
 #[cfg(test)]
 mod paths;
+#[cfg(test)]
+mod queries;
 #[cfg(test)]
 mod records;
 #[cfg(test)]
