@@ -1,4 +1,8 @@
 //! `fsclient`: the offline core of a Cloud Firestore client, over a folder, the standard input and the standard output.
+//!
+//! `main` makes what the run needs: the words behind the program's name (`words_of`), a `StdSource` over the
+//! standard input, and a `FileHost` over the folder that the words name. `run_client` does all else and answers the
+//! status, which is the exit status of the process; at Usage the usage text goes to the standard error (`usage`).
 #![tactic(auto)]
 
 mod usage;

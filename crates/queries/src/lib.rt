@@ -1,4 +1,10 @@
 //! Queries of Firestore: one document, or a collection with filter, orders, cursors and limit.
+//!
+//! A `RawQuery` is a query as it was read. `Query::check` refuses it by the least of six rules (`QueryRule`), or makes a
+//! `Query` of it, which has its whole list of orders: behind the explicit ones the fields that its filter compares, and
+//! the name. Contracts see a query as its `Target`, which is what is sent and stored of it, and a `Filter` as plain data
+//! (`specs/Filters.antt`). `Query::matches` and `Query::before` say which documents an answer has and in what order; they
+//! take no memory. `specs/Holding.antt` says when a filter is met, `specs/Rows.antt` how rows and cursors stand.
 #![tactic(auto)]
 
 mod candidate;

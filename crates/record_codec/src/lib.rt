@@ -1,4 +1,9 @@
 //! Commits as bytes: each commit has one spelling.
+//!
+//! A `Commit` is one step of the durable state. `encode` gives its spelling and `decode` reads exactly the spellings; both
+//! are one relation, `specs/Spelling.antt`: numbers are big-endian, a list is its count and its items, a case begins with
+//! its byte. Readers take bytes and give what they read with what follows it (`specs/Reading.antt`), or say that it isn't
+//! spelled there. Two commits have two spellings, and none is the front of another (`laws.rt`).
 #![tactic(auto)]
 
 mod commit;
