@@ -1,5 +1,5 @@
 -- the fields that filters imply
-use Rattle.std.proofs.Common.{◌≡◌, ◌∙◌, ◌⊎◌, inl, inr, ℕ, zero, suc, ◌+◌, ◌<◌, Bool, true, false, List, [], ◌∷◌, ◌++◌, length, map, get_or, Option, Some, None, MatchOption, option_to_list, refl, sym, ap, subst, arith}
+use Rattle.std.proofs.Common.{◌≡◌, ◌∙◌, ◌⊎◌, inl, inr, ℕ, zero, suc, ◌+◌, ◌<◌, Bool, true, false, List, [], ◌∷◌, ◌++◌, length, map, get_or, Option, Some, None, option_to_list, refl, sym, ap, subst, arith}
 use Rattle.std.specs.List.{All, AllPairs, Contains, slice_get}
 use Rattle.std.proofs.lemmas.List.Elements.{All-head, All-tail, Contains-append_cases, Contains-append_left, Contains-append_right}
 use Rattle.document_keys.specs.KeySet.{Inserts}
@@ -8,7 +8,7 @@ use Rattle.queries.specs.declared.filter.Junction.{Junction}
 use Rattle.queries.specs.declared.order.Order.{Order}
 use Rattle.queries.specs.Filters.{FilterData, composite, field, unary, composite_of, nodes, nodes_in, filters_of}
 use Rattle.queries.specs.Holding.{name_path}
-use Rattle.queries.specs.Orders.{is_inequality, path_of, paths_of, all_nodes, last_direction, order_by, IsImplied, Gathers, Implies, AreWhole}
+use Rattle.queries.specs.Orders.{is_inequality, path_of, paths_of, all_nodes, last_direction, order_by, IsImplied, IsNameOrder, Gathers, Implies, AreWhole}
 
 pub last_at : (os : List Order) (i : ℕ) (o : Order) → length os ≡ i + 1 → slice_get os i ≡ Some o → last_direction os ≡ o.descending
 last_at [] i o size is = absurd (omega arith)
@@ -94,7 +94,7 @@ none_by os path all there = apart os there.0 all there.1 there.2
     apart (o ∷ os) (suc k) all below is = apart os k (All-tail (λ o. o.path ≡ path → ⊥) o os all) (omega arith) is
 
 -- the whole orders, from the implied fields and the order by the name
-pub whole_from : (explicit : List Order) (filter : Option FilterData) (orders : List Order) (added : List (List (List ℕ))) (descending : Bool) (last : Option Order) → Gathers explicit (all_nodes filter) [] added → AllPairs PathBefore added → MatchOption last (Contains (paths_of explicit) name_path) (λ o. (Contains (paths_of explicit) name_path → ⊥) × (o ≡ order_by descending name_path)) → descending ≡ last_direction explicit → orders ≡ explicit ++ (map (order_by descending) added ++ option_to_list last) → AreWhole explicit filter orders
+pub whole_from : (explicit : List Order) (filter : Option FilterData) (orders : List Order) (added : List (List (List ℕ))) (descending : Bool) (last : Option Order) → Gathers explicit (all_nodes filter) [] added → AllPairs PathBefore added → IsNameOrder explicit descending last → descending ≡ last_direction explicit → orders ≡ explicit ++ (map (order_by descending) added ++ option_to_list last) → AreWhole explicit filter orders
 whole_from explicit filter orders added descending None gathers ascending named direction are = record {
   added = added;
   ascending = ascending;

@@ -1,5 +1,5 @@
 -- Which documents match a query, and which of two that do comes first.
-use Rattle.std.specs.Prelude.{◌≡◌, ℕ, List, Option, Some, None}
+use Rattle.std.specs.Prelude.{◌≡◌, ◌↔◌, ℕ, Bool, List, Option, Some, None, IsTrue}
 use Rattle.document_keys.specs.Names.{Root}
 use Rattle.value_model.specs.Data.{Data, Entries}
 use Rattle.value_model.specs.Documents.{IsIn}
@@ -42,3 +42,9 @@ pub record ComesBefore (target : CollectionTarget) (root : Root) (key : List (Li
 abbrev pub IsBefore : Target → Root → List (List ℕ) → Entries → List (List ℕ) → Entries → Type 0
 IsBefore (Document wanted) root key fields other others = ⊥
 IsBefore (Collection target) root key fields other others = ComesBefore target root key fields other others
+
+-- What is answered on whether one document comes before another, where both match the query under a root.
+abbrev pub TellsBefore : Target → List (List ℕ) → Entries → List (List ℕ) → Entries → Bool → Type 0
+TellsBefore target key fields other others answer = (root : Root)
+    → Matches target root key fields → Matches target root other others
+    → (IsTrue answer ↔ IsBefore target root key fields other others)

@@ -71,3 +71,12 @@ Gathers explicit filters old new = (path : List (List ℕ)) → Contains new pat
 -- the new paths are the old ones and this one, if it isn't the name and isn't among the explicit orders
 abbrev pub Implies : List Order → List (List ℕ) → List (List (List ℕ)) → List (List (List ℕ)) → Type 0
 Implies explicit path old new = (p : List (List ℕ)) → Contains new p ↔ (Contains old p ⊎ ((p ≡ path) × (p ≢ name_path) × (Contains (paths_of explicit) p → ⊥)))
+
+-- the filter makes an order by the path
+abbrev pub IsInequalityBy : FilterData → List (List ℕ) → Type 0
+IsInequalityBy filter path = (is_inequality filter ≡ true) × (path_of filter ≡ path)
+
+-- the order by the name that stands behind the explicit ones, where these have none
+abbrev pub IsNameOrder : List Order → Bool → Option Order → Type 0
+IsNameOrder explicit descending None = Contains (paths_of explicit) name_path
+IsNameOrder explicit descending (Some last) = (Contains (paths_of explicit) name_path → ⊥) × (last ≡ order_by descending name_path)

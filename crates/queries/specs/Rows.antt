@@ -1,11 +1,13 @@
 -- How documents stand in the order of a query, and to its cursors (StructuredQuery.Order and Cursor).
-use Rattle.std.specs.Prelude.{◌≡◌, ◌↔◌, ◌⊎◌, ℕ, ◌≤◌, Bool, true, false, List, [], ◌∷◌, length, take, Option, Some, None}
+use Rattle.std.specs.Prelude.{◌≡◌, ◌↔◌, ◌⊎◌, ℕ, ◌≤◌, Bool, true, false, List, [], ◌∷◌, length, take, Option, Some, None, IsTrue}
 use Rattle.std.specs.declared.cmp.Ordering.{Ordering}
 use Rattle.std.specs.declared.cmp.Ordering.TheVariants.{Less, Equal, Greater}
-use Rattle.value_model.specs.Data.{Data}
-use Rattle.value_model.specs.Order.{Before}
+use Rattle.document_keys.specs.Names.{Root}
+use Rattle.value_model.specs.Data.{Data, Entries}
+use Rattle.value_model.specs.Order.{Before, RanksValues}
 use Rattle.queries.specs.declared.order.Order.{Order}
 use Rattle.queries.specs.declared.order.Cursor.{Cursor}
+use Rattle.queries.specs.Holding.{standing}
 
 -- one value is before another, in the direction of an order
 abbrev pub DirectedBefore : Bool → Data → Data → Type 0
@@ -49,3 +51,28 @@ pub record RanksDirected (descending : Bool) (x y : Data) (order : Ordering) : T
   pub less : (order ≡ Less) ↔ DirectedBefore descending x y
   pub greater : (order ≡ Greater) ↔ DirectedBefore descending y x
   pub equal : (order ≡ Equal) ↔ (x ≡ y)
+
+-- a document has a value at the field of each order
+abbrev pub IsOrdered : (List (List ℕ) → Option Data) → List Order → Type 0
+IsOrdered at orders = (xs : List Data) × HasValues at orders xs
+
+-- what a comparison of a document's values, where it has them, with those of a cursor for the first orders answers
+abbrev pub RanksAgainst : (List (List ℕ) → Option Data) → List Order → List Data → Ordering → Type 0
+RanksAgainst at orders values order = (xs : List Data) → HasValues at orders xs
+    → length values ≤ length orders → RanksRows orders xs values order
+
+-- what a comparison of two documents answers, where both have values for the orders
+abbrev pub RanksDocuments : List Order → List (List ℕ) → Entries → List (List ℕ) → Entries → Ordering → Type 0
+RanksDocuments orders key fields other others order = (root : Root) (xs ys : List Data)
+    → HasValues (standing root key fields) orders xs → HasValues (standing root other others) orders ys
+    → RanksRows orders xs ys order
+
+-- what a comparison of two documents at a path answers, where both have a value there
+abbrev pub RanksAt : List (List ℕ) → List (List ℕ) → Entries → List (List ℕ) → Entries → Ordering → Type 0
+RanksAt path key fields other others order = (root : Root) (x y : Data)
+    → standing root key fields path ≡ Some x → standing root other others path ≡ Some y → RanksValues order x y
+
+-- what is answered on whether a cursor that fits the orders keeps a document that has values for them
+abbrev pub TellsKept : (List Order → List Data → Option Cursor → Type 0) → (List (List ℕ) → Option Data) → List Order → Option Cursor → Bool → Type 0
+TellsKept Keeps at orders cursor answer = (xs : List Data) → HasValues at orders xs
+    → FitsOrders orders cursor → (IsTrue answer ↔ Keeps orders xs cursor)

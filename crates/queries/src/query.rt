@@ -1,11 +1,10 @@
 ghost use Rattle.std.specs.Prelude.{◌≡◌, ◌≢◌, ◌↔◌, ◌∷◌, [], length, IsTrue, IfOk, IfErr, MatchOption};
-ghost use Rattle.document_keys.specs.Names.{Root};
-ghost use Rattle.queries.specs.Found.{standing_at};
+ghost use Rattle.queries.specs.Found.{standing_at, IsMatch};
 ghost use Rattle.queries.specs.Checked.{IsCheckedCollection, IsLimit};
 ghost use Rattle.queries.specs.Orders.{AreWhole};
 ghost use Rattle.queries.specs.Queried.{IsSameLimit, IsTargetOf, IsQueryOf, HasQueryFault};
 ghost use Rattle.queries.specs.Rules.{BadLimit, IsSound};
-ghost use Rattle.queries.specs.Matching.{MeetsAny, Matches, MatchesCollection, IsBefore};
+ghost use Rattle.queries.specs.Matching.{MeetsAny, Matches, TellsBefore};
 
 use crate::candidate::Candidate;
 use crate::checking::broken_rule;
@@ -54,7 +53,7 @@ fn meets_filter(candidate: &Candidate<'_>, target: &CollectionTarget) -> bool
 /// Whether the document matches the query of a collection, whose cursors fit its orders.
 fn matches_collection(candidate: &Candidate<'_>, target: &CollectionTarget) -> bool
     requires { IsCheckedCollection target.now }
-    ensures { IsTrue result ↔ MatchesCollection target.now candidate.now.root.now candidate.now.key.now candidate.now.fields.now }
+    ensures { IsTrue result ↔ IsMatch target.now candidate.now }
 {
     let orders = target.orders.as_slice();
     candidate.key.is_in(&target.collection)
@@ -172,8 +171,7 @@ impl Query {
 
     /// Whether one of two documents that match the query comes before the other. It takes no memory.
     pub fn before(&self, a: DocRef<'_>, b: DocRef<'_>) -> bool
-        ensures { (root : Root) → Matches self.now root a.entry.key.now a.entry.fields.now → Matches self.now root b.entry.key.now b.entry.fields.now
-            → (IsTrue result ↔ IsBefore self.now root a.entry.key.now a.entry.fields.now b.entry.key.now b.entry.fields.now) }
+        ensures { TellsBefore self.now a.entry.key.now a.entry.fields.now b.entry.key.now b.entry.fields.now result }
     {
         match &self.target {
             Target::Document(_) => false,

@@ -1,12 +1,10 @@
 //! Where documents stand in the order of a query.
 
-ghost use Rattle.std.specs.Prelude.{◌≡◌, ◌↔◌, ◌≤◌, List, length, Some, IsTrue};
-ghost use Rattle.document_keys.specs.Names.{Root};
+ghost use Rattle.std.specs.Prelude.{◌↔◌, IsTrue};
 ghost use Rattle.value_model.specs.Data as Data;
 ghost use Rattle.value_model.specs.Order.{RanksValues};
 ghost use Rattle.queries.specs.Found.{standing_at};
-ghost use Rattle.queries.specs.Holding.{standing};
-ghost use Rattle.queries.specs.Rows.{HasValues, RanksDirected, RanksRows, FitsOrders, StartKeeps, EndKeeps};
+ghost use Rattle.queries.specs.Rows.{RanksDirected, IsOrdered, RanksAgainst, RanksAt, RanksDocuments, TellsKept, StartKeeps, EndKeeps};
 
 use crate::candidate::Candidate;
 use crate::order::{Cursor, Order};
@@ -23,7 +21,7 @@ fn directed(order: Ordering, descending: bool) -> Ordering
 
 /// Whether the document has a value at the field of each order.
 pub(crate) fn has_values(candidate: &Candidate<'_>, orders: &[Order]) -> bool
-    ensures { IsTrue result ↔ ((xs : List Data.Data) × HasValues (standing_at candidate.now) orders.now xs) }
+    ensures { IsTrue result ↔ IsOrdered (standing_at candidate.now) orders.now }
 {
     for order in orders {
         let Some(_) = candidate.at(&order.path) else {
@@ -35,7 +33,7 @@ pub(crate) fn has_values(candidate: &Candidate<'_>, orders: &[Order]) -> bool
 
 /// The order of a document's values, which it has, and those of a cursor, which are for the first orders.
 fn compare_to_values(candidate: &Candidate<'_>, orders: &[Order], values: &[Value]) -> Ordering
-    ensures { (xs : List Data.Data) → HasValues (standing_at candidate.now) orders.now xs → length values.now ≤ length orders.now → RanksRows orders.now xs values.now result }
+    ensures { RanksAgainst (standing_at candidate.now) orders.now values.now result }
 {
     for i in 0..values.len().min(orders.len()) {
         let order = &orders[i];
@@ -52,7 +50,7 @@ fn compare_to_values(candidate: &Candidate<'_>, orders: &[Order], values: &[Valu
 
 /// The order of the values at a path that two documents have.
 fn compare_at(path: &FieldPath, left: DocRef<'_>, right: DocRef<'_>) -> Ordering
-    ensures { (root : Root) (x y : Data.Data) → standing root left.entry.key.now left.entry.fields.now path.now ≡ Some x → standing root right.entry.key.now right.entry.fields.now path.now ≡ Some y → RanksValues result x y }
+    ensures { RanksAt path.now left.entry.key.now left.entry.fields.now right.entry.key.now right.entry.fields.now result }
 {
     if path.is_document_name() {
         return left.key.compare(right.key);
@@ -65,7 +63,7 @@ fn compare_at(path: &FieldPath, left: DocRef<'_>, right: DocRef<'_>) -> Ordering
 
 /// The order of two documents that have the values of the orders.
 pub(crate) fn compare_rows(orders: &[Order], left: DocRef<'_>, right: DocRef<'_>) -> Ordering
-    ensures { (root : Root) (xs ys : List Data.Data) → HasValues (standing root left.entry.key.now left.entry.fields.now) orders.now xs → HasValues (standing root right.entry.key.now right.entry.fields.now) orders.now ys → RanksRows orders.now xs ys result }
+    ensures { RanksDocuments orders.now left.entry.key.now left.entry.fields.now right.entry.key.now right.entry.fields.now result }
 {
     for order in orders {
         let ranked = directed(compare_at(&order.path, left, right), order.descending);
@@ -82,7 +80,7 @@ pub(crate) fn start_keeps(
     orders: &[Order],
     start: &Option<Cursor>,
 ) -> bool
-    ensures { (xs : List Data.Data) → HasValues (standing_at candidate.now) orders.now xs → FitsOrders orders.now start.now → (IsTrue result ↔ StartKeeps orders.now xs start.now) }
+    ensures { TellsKept StartKeeps (standing_at candidate.now) orders.now start.now result }
 {
     let Some(cursor) = start else {
         return true;
@@ -96,7 +94,7 @@ pub(crate) fn start_keeps(
 
 /// Whether an end keeps the document, which has the values of the orders.
 pub(crate) fn end_keeps(candidate: &Candidate<'_>, orders: &[Order], end: &Option<Cursor>) -> bool
-    ensures { (xs : List Data.Data) → HasValues (standing_at candidate.now) orders.now xs → FitsOrders orders.now end.now → (IsTrue result ↔ EndKeeps orders.now xs end.now) }
+    ensures { TellsKept EndKeeps (standing_at candidate.now) orders.now end.now result }
 {
     let Some(cursor) = end else {
         return true;

@@ -1,11 +1,10 @@
 //! The whole list of a query's orders.
 
-ghost use Rattle.std.specs.Prelude.{◌≡◌, ◌↔◌, true, false, [], ◌++◌, map, IsTrue, IfOk, OnOk, MatchOption, option_to_list};
+ghost use Rattle.std.specs.Prelude.{◌≡◌, ◌↔◌, false, [], ◌++◌, map, IsTrue, IfOk, OnOk, MatchOption, option_to_list};
 ghost use Rattle.std.specs.List.{Contains};
 ghost use Rattle.document_keys.specs.KeySet.{IsAscending};
 ghost use Rattle.queries.specs.Filters.{nodes, nodes_in, filters_of};
-ghost use Rattle.queries.specs.Holding.{name_path};
-ghost use Rattle.queries.specs.Orders.{is_inequality, path_of, paths_of, all_nodes, last_direction, order_by, Implies, Gathers, AreWhole};
+ghost use Rattle.queries.specs.Orders.{is_inequality, IsInequalityBy, paths_of, all_nodes, last_direction, order_by, IsNameOrder, Implies, Gathers, AreWhole};
 
 use crate::filter::{Filter, FilterKind, Operator, UnaryOp};
 use crate::order::Order;
@@ -36,7 +35,7 @@ fn last_direction(orders: &[Order]) -> bool
 
 /// The field that the filter makes an order by itself.
 fn inequality(filter: &Filter) -> Option<&FieldPath>
-    ensures { MatchOption result (is_inequality filter.now ≡ false) (λ path. (is_inequality filter.now ≡ true) × (path_of filter.now ≡ path.now)) }
+    ensures { MatchOption result (is_inequality filter.now ≡ false) (λ path. IsInequalityBy filter.now path.now) }
 {
     match &filter.kind {
         FilterKind::Field { path, op, .. } => match op {
@@ -126,7 +125,7 @@ fn name_order(
     explicit: &[Order],
     descending: bool,
 ) -> Result<Option<Order>, NoMemory>
-    ensures { IfOk result (λ last. MatchOption last (Contains (paths_of explicit.now) name_path) (λ o. (Contains (paths_of explicit.now) name_path → ⊥) × (o ≡ order_by descending name_path))) }
+    ensures { IfOk result (IsNameOrder explicit.now descending) }
 {
     let path = FieldPath::document_name(alloc)?;
     if are_by(explicit, &path) {
