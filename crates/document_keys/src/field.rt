@@ -1,4 +1,4 @@
-ghost use Rattle.std.specs.Prelude.{◌≡◌, ◌↔◌, ℕ, List, [], ◌∷◌, length, codes, IsTrue, IfOk, IfErr, OnOk, option_map};
+ghost use Rattle.std.specs.Prelude.{◌≡◌, ◌≢◌, ◌↔◌, ℕ, List, [], ◌∷◌, length, codes, IsTrue, IfOk, IfErr, OnOk, option_map};
 ghost use Rattle.std.specs.String.{string_bytes};
 ghost use Rattle.std.specs.List.{All, Contains, slice_get};
 ghost use Rattle.document_keys.specs.Names.{HasNameLength, IsReserved};
@@ -123,6 +123,25 @@ impl FieldPath {
     {
         let names = read_names(alloc, text)?;
         FieldPath::from_names(names)
+    }
+
+    /// How many names the text spells, joined by `.`, each plain or between backticks, whatever their length.
+    ///
+    /// # Errors
+    /// `BadPath` where the text isn't of that form, or `NoMemory`.
+    pub fn count(alloc: Global, text: &str) -> Result<u64, FieldFault>
+        ensures count { IfOk result (λ count. (names : List (List ℕ)) × (SpellsPath text.now names × (length names ≡ count))) }
+        ensures fault { IfErr result (λ fault. fault ≢ FieldFault.NoMemory → (names : List (List ℕ)) → ¬ (SpellsPath text.now names)) }
+    {
+        let names = read_names(alloc, text)?;
+        Ok(names.len() as u64)
+    }
+
+    /// Whether it is the path `__name__`, which stands for the document's own name.
+    pub fn is_document_name(&self) -> bool
+        ensures { IsTrue result ↔ (self.now ≡ codes "__name__" ∷ []) }
+    {
+        is_document_name(self.names.as_slice())
     }
 
     /// The path's text, in which a name stands between backticks only where it must.

@@ -1,31 +1,37 @@
--- What is read nests no deeper than it may.
-use Rattle.std.proofs.Common.{◌≡◌, ℕ, ◌-◌, ◌≤◌, suc, List, [], ◌∷◌, Ordering, Less, Equal, Greater, ap, arith}
+-- What is read of a tree without faults nests no deeper than it may.
+use Rattle.std.proofs.Common.{◌≡◌, ℕ, ◌-◌, ◌≤◌, suc, List, [], ◌∷◌, Ordering, Less, Equal, Greater, sym, ap, subst, codes, refl, arith}
 use Rattle.std.specs.Ordering.{nat_cmp, match_ordering}
 use Rattle.std.specs.Cmp.Lexicographic.{slice_cmp}
 use Rattle.serde_json.specs.Data as json
 use Rattle.std.specs.Prelude.{Option}
 use Rattle.value_model.specs.Data.{Data, Entries, items_of, members_of, depth, items_depth, members_depth, entries_depth}
 use Rattle.value_model.specs.Fields.{with_field}
-use Rattle.json_model.specs.declared.side.Side.{Side}
 use Rattle.json_model.specs.declared.place.Place.{Place}
 use Rattle.json_model.specs.declared.place.Place.TheVariants as place
-use Rattle.json_model.specs.Grammar.{SpellsScalar, SpellsValue, of_kind, SpellsKind, as_scalar, as_array as by_array, as_map as by_map, SpellsList, no_list, a_list, SpellsItems, no_item, an_item, SpellsMap, no_map, a_map, SpellsMembers, no_member, left_out, a_member}
+use Rattle.json_model.specs.declared.place.Object.TheVariants as object
+use Rattle.json_model.specs.declared.place.Leaf.{Leaf}
+use Rattle.json_model.specs.declared.place.Leaf.TheVariants as leaf
+use Rattle.json_model.specs.declared.place.Series.TheVariants as series
+use Rattle.json_model.specs.Faults.{FaultsAt, ItemsFaults, MembersFaults}
+use Rattle.json_model.specs.Grammar.{SpellsScalar, SpellsValue, of_kind, SpellsKind, as_scalar, as_array as by_array, as_map as by_map, SpellsList, no_list, a_list, SpellsItems, no_item, an_item, SpellsMap, no_map, a_map, SpellsMembers, no_member, left_out, a_member, SpellsFields}
+use Rattle.json_model.specs.Members.{given}
+use Rattle.json_model.specs.Origin.{Origin}
+use Rattle.json_model.specs.Places.{value_member}
+use Rattle.json_model.proofs.Built.{item_faults}
+use Rattle.json_model.proofs.Choices.{chosen_clean}
+use Rattle.json_model.proofs.Sound.{sound, sound_list, first_of, at_clean, not_out, member_clean, given_some}
 
-scalar_deep : (p : Place) (d : json.Data) (v : Data) → SpellsScalar p d v → depth v ≡ 0
-scalar_deep place.Null d v s = ap depth s.1
-scalar_deep place.Boolean d v s = ap depth s.2
-scalar_deep place.Integer d v s = ap depth s.2
-scalar_deep place.Time d v s = ap depth s.1.3
-scalar_deep place.Text d v s = ap depth s.2
-scalar_deep place.Bytes d v s = ap depth s.1.3
-scalar_deep place.Reference d v s = ap depth s.1.3
-scalar_deep place.Value d v s = absurd s
-scalar_deep place.Array d v s = absurd s
-scalar_deep place.Values d v s = absurd s
-scalar_deep place.Map d v s = absurd s
-scalar_deep place.Fields d v s = absurd s
-scalar_deep place.Unsupported d v s = absurd s
-scalar_deep place.Unknown d v s = absurd s
+scalar_deep : (kind : Leaf) (d : json.Data) (v : Data) → SpellsScalar kind d v → depth v ≡ 0
+scalar_deep leaf.Null d v s = ap depth s.1
+scalar_deep leaf.Boolean d v s = ap depth s.1.1
+scalar_deep leaf.Integer d v s = ap depth s.1.1
+scalar_deep leaf.Time d v s = ap depth s.1.1
+scalar_deep leaf.Text d v s = ap depth s.1.1
+scalar_deep leaf.Bytes d v s = ap depth s.1.1
+scalar_deep leaf.Reference d v s = ap depth s.1.1
+scalar_deep leaf.Name d v s = absurd s
+scalar_deep leaf.Path d v s = absurd s
+scalar_deep leaf.ServerTime d v s = absurd s
 
 put_deep : (es : Entries) (name : List ℕ) (v : Data) (limit : ℕ) → entries_depth es ≤ limit → depth v ≤ limit → entries_depth (with_field es name v) ≤ limit
 put_deep [] name v limit all one = omega arith
@@ -36,28 +42,72 @@ put_deep (e ∷ es) name v limit all one = by (slice_cmp nat_cmp name e.0) (put_
     by Equal later = omega arith
     by Greater later = omega arith
 
+-- the faults at a place are those of the object or the list there
+at : (o : Origin) (limit : ℕ) (p : Place) (d e : json.Data) → d ≡ e → (name : List ℕ) × FaultsAt o limit p name d [] → (name : List ℕ) × FaultsAt o limit p name e []
+at o limit p d e is clean = (clean.0, subst (λ t. FaultsAt o limit p clean.0 t []) is clean.1)
+
 mutual
-  pub value_deep : (side : Side) (limit : ℕ) (d : json.Data) (v : Data) → SpellsValue side limit d v → depth v ≤ limit
-  value_deep side limit d v (of_kind ms name inner at kinds known spelled) = kind_deep side limit _ inner v spelled
+  pub value_deep : (o : Origin) (limit : ℕ) (d : json.Data) (v : Data) → (name : List ℕ) × FaultsAt o limit (place.Object object.Value) name d [] → SpellsValue d v → depth v ≤ limit
+  value_deep o limit d v clean (of_kind ms k inner is only spelled) =
+      let here = at o limit (place.Object object.Value) d (json.object ms) is clean in
+      let inside = sound o limit object.Value here.0 ms here.1 in
+      let e : 0 ≡ inside.levels = sym inside.takes in
+      let more = kind_deep o (limit - inside.levels) (value_member k) inner v (k, chosen_clean o (limit - inside.levels) object.Value ms [] ms k inner inside.inside only) spelled in
+      omega arith
 
-  kind_deep : (side : Side) (limit : ℕ) (p : Place) (d : json.Data) (v : Data) → SpellsKind side limit p d v → depth v ≤ limit
-  kind_deep side limit p d v (as_scalar s) = let flat = scalar_deep p d v s in omega arith
-  kind_deep side limit p d v (by_array ms ds room at known list means) = let inside = list_deep side (limit - 1) _ ds list in let whole : depth v ≡ suc (items_depth (items_of ds)) = ap depth means in omega arith
-  kind_deep side limit p d v (by_map ms es room at untyped known fields means) = let inside = map_deep side (limit - 1) _ es fields in let whole : depth v ≡ suc (members_depth (members_of es)) = ap depth means in omega arith
+  kind_deep : (o : Origin) (limit : ℕ) (p : Place) (d : json.Data) (v : Data) → (name : List ℕ) × FaultsAt o limit p name d [] → SpellsKind p d v → depth v ≤ limit
+  kind_deep o limit _ d v clean (as_scalar {kind = k} s) = let flat = scalar_deep k d v s in omega arith
+  kind_deep o limit _ d v clean (by_array ms ds is list means) =
+      let here = at o limit (place.Object object.Array) d (json.object ms) is clean in
+      let inside = sound o limit object.Array here.0 ms here.1 in
+      let e : 1 ≡ inside.levels = sym inside.takes in
+      let room = inside.room in
+      let more = list_deep o (limit - inside.levels) ms ds inside.inside (given (codes "values") ms) refl list in
+      let whole : depth v ≡ suc (items_depth (items_of ds)) = ap depth means in omega arith
+  kind_deep o limit _ d v clean (by_map ms es is fields means) =
+      let here = at o limit (place.Object object.Map) d (json.object ms) is clean in
+      let inside = sound o limit object.Map here.0 ms here.1 in
+      let e : 1 ≡ inside.levels = sym inside.takes in
+      let room = inside.room in
+      let more = map_deep o (limit - inside.levels) ms es inside.inside (given (codes "fields") ms) refl fields in
+      let whole : depth v ≡ suc (members_depth (members_of es)) = ap depth means in omega arith
 
-  list_deep : (side : Side) (limit : ℕ) (o : Option json.Data) (ds : List Data) → SpellsList side limit o ds → items_depth (items_of ds) ≤ limit
-  list_deep side limit o ds no_list = omega arith
-  list_deep side limit o ds (a_list items d at spelled) = items_deep side limit items ds spelled
+  list_deep : (o : Origin) (limit : ℕ) (ms : json.Members) (ds : List Data) → MembersFaults o limit object.Array [] ms [] → (found : Option json.Data) → given (codes "values") ms ≡ found → SpellsList found ds → items_depth (items_of ds) ≤ limit
+  list_deep o limit ms ds clean _ is no_list = omega arith
+  list_deep o limit ms ds clean _ is (a_list items d held spelled) =
+      let there = given_some _ d is in
+      let here = at o limit (place.Series series.Values) d (json.array items) held (codes "values", member_clean o limit object.Array [] ms (codes "values") d clean there.0 there.1) in
+      items_deep o limit here.0 items ds (sound_list o limit series.Values here.0 items here.1).1 spelled
 
-  items_deep : (side : Side) (limit : ℕ) (items : json.Items) (ds : List Data) → SpellsItems side limit items ds → items_depth (items_of ds) ≤ limit
-  items_deep side limit items ds no_item = omega arith
-  items_deep side limit items ds (an_item first rest) = let one = value_deep side limit _ _ first in let more = items_deep side limit _ _ rest in omega arith
+  items_deep : (o : Origin) (limit : ℕ) (name : List ℕ) (items : json.Items) (ds : List Data) → ItemsFaults o limit series.Values name items [] → SpellsItems items ds → items_depth (items_of ds) ≤ limit
+  items_deep o limit name _ ds clean no_item = omega arith
+  items_deep o limit name _ ds clean (an_item {d = d} {items = items} {v = v} {vs = vs} first rest) =
+      let here = item_faults o limit series.Values name d items clean in
+      let one = value_deep o limit d v (name, here.0) first in
+      let more = items_deep o limit name items vs here.1 rest in omega arith
 
-  map_deep : (side : Side) (limit : ℕ) (o : Option json.Data) (es : Entries) → SpellsMap side limit o es → entries_depth es ≤ limit
-  map_deep side limit o es no_map = omega arith
-  map_deep side limit o es (a_map ms d at spelled) = members_deep side limit ms [] es (omega arith) spelled
+  map_deep : (o : Origin) (limit : ℕ) (ms : json.Members) (es : Entries) → MembersFaults o limit object.Map [] ms [] → (found : Option json.Data) → given (codes "fields") ms ≡ found → SpellsMap found es → entries_depth es ≤ limit
+  map_deep o limit ms es clean _ is no_map = omega arith
+  map_deep o limit ms es clean _ is (a_map ns d held spelled) =
+      let there = given_some _ d is in
+      let here = at o limit (place.Object object.Fields) d (json.object ns) held (codes "fields", member_clean o limit object.Map [] ms (codes "fields") d clean there.0 there.1) in
+      let inside = sound o limit object.Fields here.0 ns here.1 in
+      let e : 0 ≡ inside.levels = sym inside.takes in
+      let more = members_deep o (limit - inside.levels) ns [] es inside.inside (omega arith) spelled in
+      omega arith
 
-  pub members_deep : (side : Side) (limit : ℕ) (ms : json.Members) (es fs : Entries) → entries_depth es ≤ limit → SpellsMembers side limit ms es fs → entries_depth fs ≤ limit
-  members_deep side limit ms es fs start no_member = start
-  members_deep side limit ms es fs start (left_out is rest) = members_deep side limit _ es fs start rest
-  members_deep side limit ms es fs start (a_member {name = n} v some named spelled rest) = members_deep side limit _ _ fs (put_deep es n v limit start (value_deep side limit _ v spelled)) rest
+  pub members_deep : (o : Origin) (limit : ℕ) (ms : json.Members) (es fs : Entries) → MembersFaults o limit object.Fields [] ms [] → entries_depth es ≤ limit → SpellsMembers ms es fs → entries_depth fs ≤ limit
+  members_deep o limit _ es fs clean start no_member = start
+  members_deep o limit _ es fs clean start (left_out {name = k} {d = d} {ms = ms} is rest) = members_deep o limit ms es fs (first_of o limit object.Fields [] k d ms clean).rest start rest
+  members_deep o limit _ es fs clean start (a_member {name = k} {d = d} {ms = ms} v some spelled rest) =
+      let here = first_of o limit object.Fields [] k d ms clean in
+      let value = at_clean o limit object.Fields k d [] here.at refl (not_out (place.Object object.Value) d some) in
+      members_deep o limit ms (with_field es k v) fs here.rest (put_deep es k v limit start (value_deep o limit d v (k, value.1) spelled)) rest
+
+pub fields_deep : (o : Origin) (limit : ℕ) (name : List ℕ) (d : json.Data) (es : Entries) → FaultsAt o limit (place.Object object.Fields) name d [] → SpellsFields d es → entries_depth es ≤ limit
+fields_deep o limit name d es clean spelled =
+    let here = at o limit (place.Object object.Fields) d (json.object spelled.members) spelled.is (name, clean) in
+    let inside = sound o limit object.Fields here.0 spelled.members here.1 in
+    let e : 0 ≡ inside.levels = sym inside.takes in
+    let more = members_deep o (limit - inside.levels) spelled.members [] es inside.inside (omega arith) spelled.spelled in
+    omega arith

@@ -1,7 +1,8 @@
 -- Of two lists of faults the first of the least kind is the better of each one's.
-use Rattle.std.proofs.Common.{◌≡◌, List, [], ◌∷◌, ◌++◌, Bool, true, false, cond, nat_lt, Option, Some, None, refl, sym, ap, ◌∙◌, arith}
+use Rattle.std.proofs.Common.{◌≡◌, List, [], ◌∷◌, ◌++◌, Bool, true, false, cond, nat_lt, Option, Some, None, refl, sym, ap, subst, ◌∙◌, arith}
 use borrow.Author.Tests.{ltb-true, ltb-false}
 use Rattle.json_model.specs.declared.fault.JsonFault.{JsonFault}
+use Rattle.json_model.specs.Faults.{FirstOf}
 use Rattle.json_model.specs.Ranks.{rank, better, first_of_least}
 
 assoc_by : (a b c : JsonFault) (x y z : Bool) → x ≡ nat_lt (rank c) (rank b) → y ≡ nat_lt (rank b) (rank a) → z ≡ nat_lt (rank c) (rank a)
@@ -47,3 +48,6 @@ some_better x (Some g) is = by (nat_lt (rank g) (rank x)) is
 pub none_first : (xs : List JsonFault) → None ≡ first_of_least xs → xs ≡ []
 none_first [] is = refl
 none_first (x ∷ xs) is = absurd (some_better x (first_of_least xs) is)
+
+pub none_found : (Faults : List JsonFault → Type 0) → FirstOf Faults None → Faults []
+none_found Faults first = subst Faults (none_first first.faults first.first) first.are

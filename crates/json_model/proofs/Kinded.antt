@@ -7,9 +7,10 @@ use Rattle.value_model.specs.Time.{time_of}
 use Rattle.json_model.specs.declared.fault.JsonFault.{JsonFault}
 use Rattle.json_model.specs.declared.fault.JsonFault.TheVariants as json_fault
 use Rattle.json_model.specs.Bytes.{SpellsBytes}
-use Rattle.json_model.specs.References.{HasReferenceFault}
-use Rattle.json_model.specs.Faults.{FirstOf, Unless, InText, in_text, in_other, IsText, IsTimeText, IsBytesText, IsNameFault, ReferenceFaults}
-use Rattle.json_model.proofs.Leaves.{only, none}
+use Rattle.json_model.specs.declared.fault.NamingFault.{NamingFault}
+use Rattle.json_model.specs.Faults.{FirstOf, IsFault}
+use Rattle.json_model.specs.Leaves.{Unless, InText, in_text, in_other, IsText, IsTimeText, IsBytesText, IsNameFault, NamingFaults}
+use Rattle.json_model.proofs.Naming.{only, none}
 
 pub unless_none : (Fact : Type 0) (fault : JsonFault) → Fact → FirstOf (Unless Fact fault) None
 unless_none Fact fault fact = none (Unless Fact fault) (inl (fact, refl))
@@ -33,6 +34,10 @@ text_at (boolean b) text same = cc
 text_at (number n) text same = cc
 text_at (array ds) text same = cc
 text_at (object ms) text same = cc
+
+-- two readings of one text
+pub same_text : (d : Json) (a b : List ℕ) → Some a ≡ as_str d → d ≡ string b → a ≡ b
+same_text d a b is at = let e : Some a ≡ Some b = is ∙ ap as_str at in cc
 
 pub is_boolean : (d : Json) → is_some (as_bool d) ≡ true → (is : Bool) × (d ≡ boolean is)
 is_boolean (boolean b) yes_is = (b, refl)
@@ -79,11 +84,22 @@ pub no_text : {E : Type 0} (d : Json) (name : List ℕ) (Faults : List ℕ → L
 no_text d name Faults (Ok found) is shape = subst (FirstOf (InText d name Faults)) (sym shape) (only (InText d name Faults) (json_fault.BadShape name) (in_other (λ has. let e = is ∙ ap as_str has.1 in cc)))
 no_text d name Faults (Err e) is shape = shape
 
--- the fault of a reference
-reference_is : (text : List ℕ) (f : JsonFault) → IsNameFault (HasReferenceFault text) text f → f ≢ json_fault.NoMemory → ReferenceFaults text (f ∷ [])
-reference_is text f (inl memory) other = absurd (other memory)
-reference_is text f (inr (why, has, is_named)) other = inr (why, has, ap (λ x. x ∷ []) is_named)
+-- the fault of a text that is to be a name
+naming_is : (Fact : Type 0) (Has : NamingFault → Type 0) (text : List ℕ) (f : JsonFault) → IsNameFault Has text f → f ≢ json_fault.NoMemory → NamingFaults Fact Has text (f ∷ [])
+naming_is Fact Has text f (inl memory) other = absurd (other memory)
+naming_is Fact Has text f (inr (why, has, is_named)) other = inr (why, has, ap (λ x. x ∷ []) is_named)
 
-pub reference_fault : {E : Type 0} (text : List ℕ) (f : JsonFault) (r : Result (Option JsonFault) E) → IsNameFault (HasReferenceFault text) text f → IfOk r (λ found. (found ≡ Some f) × (f ≢ json_fault.NoMemory)) → IfOk r (FirstOf (ReferenceFaults text))
-reference_fault text f (Ok found) why is = subst (FirstOf (ReferenceFaults text)) (sym is.0) (only (ReferenceFaults text) f (reference_is text f why is.1))
-reference_fault text f (Err e) why is = is
+pub naming_fault : {E : Type 0} (Fact : Type 0) (Has : NamingFault → Type 0) (text : List ℕ) (f : JsonFault) (r : Result (Option JsonFault) E) → IsNameFault Has text f → IfOk r (λ found. (found ≡ Some f) × (f ≢ json_fault.NoMemory)) → IfOk r (FirstOf (NamingFaults Fact Has text))
+naming_fault Fact Has text f (Ok found) why is = subst (FirstOf (NamingFaults Fact Has text)) (sym is.0) (only (NamingFaults Fact Has text) f (naming_is Fact Has text f why is.1))
+naming_fault Fact Has text f (Err e) why is = is
+
+-- any fault but want of memory
+pub found_fault : {E : Type 0} (Faults : List JsonFault → Type 0) (f : JsonFault) (r : Result (Option JsonFault) E) → IsFault Faults f → IfOk r (λ found. (found ≡ Some f) × (f ≢ json_fault.NoMemory)) → IfOk r (FirstOf Faults)
+found_fault Faults f (Ok found) (inl memory) is = absurd (is.1 memory)
+found_fault Faults f (Ok found) (inr first) is = subst (FirstOf Faults) (sym is.0) first
+found_fault Faults f (Err e) why is = is
+
+-- one fault and no other
+pub lone_fault : {E : Type 0} (fault : JsonFault) (r : Result (Option JsonFault) E) → IfOk r (λ found. found ≡ Some fault) → IfOk r (FirstOf (λ faults. faults ≡ fault ∷ []))
+lone_fault fault (Ok found) is = subst (FirstOf (λ faults. faults ≡ fault ∷ [])) (sym is) (only (λ faults. faults ≡ fault ∷ []) fault refl)
+lone_fault fault (Err e) is = is

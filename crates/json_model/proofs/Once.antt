@@ -1,5 +1,5 @@
 -- A tree spells one value at most.
-use Rattle.std.proofs.Common.{◌≡◌, ℕ, zero, suc, ◌-◌, ℤ, pos, codes, Option, ◌==◌, ◌++◌, ◌%◌, ◌/◌, ◌*◌, ◌+◌, List, [], ◌∷◌, length, map, replicate, slice_index, cond, Ok, refl, sym, ap, subst, inl, inr, ◌∙◌}
+use Rattle.std.proofs.Common.{◌≡◌, ℕ, zero, suc, ℤ, pos, codes, Option, ◌==◌, ◌++◌, ◌%◌, ◌/◌, ◌*◌, ◌+◌, List, [], ◌∷◌, length, map, replicate, slice_index, cond, Ok, refl, sym, ap, subst, inl, inr, ◌∙◌}
 use Rattle.std.proofs.lemmas.List.{map-append}
 use Rattle.std.proofs.Math.ListN as listn
 use Rattle.base64.specs.GeneralPurpose.{encode_of, decode_of}
@@ -13,19 +13,21 @@ use Rattle.document_keys.specs.Names.{IsPart, IsSegment, name_text}
 use Rattle.document_keys.proofs.Lawful.{named_once}
 use Rattle.value_model.specs.Data.{Data, boolean, integer, time, text, bytes, reference, array_of, map_of, Entries}
 use Rattle.value_model.specs.Fields.{with_field}
+use Rattle.value_model.specs.declared.timestamp.Timestamp.{Timestamp}
 use Rattle.value_model.specs.Time.{time_of}
 use Rattle.value_model.specs.declared.reference.RefName.{RefName}
-use Rattle.json_model.specs.declared.side.Side.{Side}
 use Rattle.json_model.specs.declared.place.Place.{Place}
-use Rattle.json_model.specs.declared.place.Place.TheVariants as place
-use Rattle.json_model.specs.Grammar.{SpellsScalar, SpellsValue, of_kind, SpellsKind, as_scalar, as_array as by_array, as_map as by_map, SpellsList, no_list, a_list, SpellsItems, no_item, an_item, SpellsMap, no_map, a_map, SpellsMembers, no_member, left_out, a_member, SpellsFields, max_nesting}
-use Rattle.json_model.specs.Members.{given, kinds_given}
+use Rattle.json_model.specs.declared.place.Object.TheVariants as object
+use Rattle.json_model.specs.declared.place.Leaf.{Leaf}
+use Rattle.json_model.specs.declared.place.Leaf.TheVariants as leaf
+use Rattle.json_model.specs.Grammar.{SpellsTime, SpellsScalar, SpellsValue, of_kind, SpellsKind, as_scalar, as_array as by_array, as_map as by_map, SpellsList, no_list, a_list, SpellsItems, no_item, an_item, SpellsMap, no_map, a_map, SpellsMembers, no_member, left_out, a_member, SpellsFields}
+use Rattle.json_model.specs.Members.{given, chosen}
 use Rattle.json_model.specs.Numbers.{SpellsInteger, IsNumber, SpellsWhole, as_number, as_text}
 use Rattle.json_model.specs.Places.{value_member}
 use Rattle.json_model.specs.References.{SpellsReference, root_of}
 use Rattle.json_model.proofs.Cuts.{one_root}
 use Rattle.json_model.proofs.Numerals.{spells_one_integer}
-use Rattle.json_model.proofs.Spelled.{under_name, same_root}
+use Rattle.json_model.proofs.Referred.{under_name, same_root}
 
 -- ---- bytes
 
@@ -111,24 +113,26 @@ reference_once content a b one two =
     let keys = named_once (root_of a) a.key b.key (All-weaker IsSegment IsPart (λ s is. is.part) a.key one.names.segments) (All-weaker IsSegment IsPart (λ s is. is.part) b.key two.names.segments) texts in
     λ i. record { project = parts.0 i; database = parts.1 i; key = keys i }
 
-scalar_once : (p : Place) (d : json.Data) (v w : Data) → SpellsScalar p d v → SpellsScalar p d w → v ≡ w
-scalar_once place.Null d v w s t = s.1 ∙ sym t.1
-scalar_once place.Boolean d v w s t = let e = sym s.1 ∙ t.1 in let is : s.0 ≡ t.0 = cc in s.2 ∙ ap boolean is ∙ sym t.2
-scalar_once place.Integer d v w s t = s.2 ∙ ap integer (whole_once d s.0 t.0 s.1 t.1) ∙ sym t.2
-scalar_once place.Time d v w s t =
-    let e = sym s.1.2 ∙ ap time_of (same_text d s.0 t.0 s.1.1 t.1.1) ∙ t.1.2 in
-    let at : s.1.0 ≡ t.1.0 = cc in
-    s.1.3 ∙ ap time at ∙ sym t.1.3
-scalar_once place.Text d v w s t = s.2 ∙ ap text (same_text d s.0 t.0 s.1 t.1) ∙ sym t.2
-scalar_once place.Bytes d v w s t = s.1.3 ∙ ap bytes (bytes_once s.0 s.1.0 t.1.0 s.1.2 (subst (λ c. SpellsBytes c t.1.0) (same_text d t.0 s.0 t.1.1 s.1.1) t.1.2)) ∙ sym t.1.3
-scalar_once place.Reference d v w s t = s.1.3 ∙ ap reference (reference_once s.0 s.1.0 t.1.0 s.1.2 (subst (λ c. SpellsReference c t.1.0) (same_text d t.0 s.0 t.1.1 s.1.1) t.1.2)) ∙ sym t.1.3
-scalar_once place.Value d v w s t = absurd s
-scalar_once place.Array d v w s t = absurd s
-scalar_once place.Values d v w s t = absurd s
-scalar_once place.Map d v w s t = absurd s
-scalar_once place.Fields d v w s t = absurd s
-scalar_once place.Unsupported d v w s t = absurd s
-scalar_once place.Unknown d v w s t = absurd s
+pub time_once : (d : json.Data) (a b : Timestamp) → SpellsTime d a → SpellsTime d b → a ≡ b
+time_once d a b one two = let e = sym one.1.1 ∙ ap time_of (same_text d one.0 two.0 one.1.0 two.1.0) ∙ two.1.1 in cc
+
+scalar_once : (kind : Leaf) (d : json.Data) (v w : Data) → SpellsScalar kind d v → SpellsScalar kind d w → v ≡ w
+scalar_once leaf.Null d v w s t = s.1 ∙ sym t.1
+scalar_once leaf.Boolean d v w s t = let e = sym s.1.0 ∙ t.1.0 in let is : s.0 ≡ t.0 = cc in s.1.1 ∙ ap boolean is ∙ sym t.1.1
+scalar_once leaf.Integer d v w s t = s.1.1 ∙ ap integer (whole_once d s.0 t.0 s.1.0 t.1.0) ∙ sym t.1.1
+scalar_once leaf.Time d v w s t = s.1.1 ∙ ap time (time_once d s.0 t.0 s.1.0 t.1.0) ∙ sym t.1.1
+scalar_once leaf.Text d v w s t = s.1.1 ∙ ap text (same_text d s.0 t.0 s.1.0 t.1.0) ∙ sym t.1.1
+scalar_once leaf.Bytes d v w s t =
+    let one = s.1.0 in
+    let two = t.1.0 in
+    s.1.1 ∙ ap bytes (bytes_once one.0 s.0 t.0 one.1.1 (subst (λ c. SpellsBytes c t.0) (same_text d two.0 one.0 two.1.0 one.1.0) two.1.1)) ∙ sym t.1.1
+scalar_once leaf.Reference d v w s t =
+    let one = s.1.0 in
+    let two = t.1.0 in
+    s.1.1 ∙ ap reference (reference_once one.0 s.0 t.0 one.1.1 (subst (λ c. SpellsReference c t.0) (same_text d two.0 one.0 two.1.0 one.1.0) two.1.1)) ∙ sym t.1.1
+scalar_once leaf.Name d v w s t = absurd s
+scalar_once leaf.Path d v w s t = absurd s
+scalar_once leaf.ServerTime d v w s t = absurd s
 
 -- ---- trees
 
@@ -146,54 +150,49 @@ abbrev head_tree : List (List ℕ × json.Data) → json.Data
 head_tree [] = json.null
 head_tree (e ∷ es) = e.1
 
-module _ (side : Side) where
-  -- what a value's only kind spells
-  kind_in : (limit : ℕ) (d : json.Data) (ms : json.Members) (name : List ℕ) (inner : json.Data) (v : Data) → d ≡ json.object ms → kinds_given ms ≡ (name, inner) ∷ [] → SpellsValue side limit d v → SpellsKind side limit (value_member name) inner v
-  kind_in limit d ms name inner v is kinds (of_kind ns other e at those known spelled) =
-      let same : (other, e) ∷ [] ≡ (name, inner) ∷ [] = sym those ∙ ap kinds_given (same_object d ns ms at is) ∙ kinds in
-      let names : other ≡ name = ap head_name same in
-      let trees : e ≡ inner = ap head_tree same in
-      subst (λ n. SpellsKind side limit (value_member n) inner v) names (subst (λ t. SpellsKind side limit (value_member other) t v) trees spelled)
+-- what a value's only kind spells
+kind_in : (d : json.Data) (ms : json.Members) (name : List ℕ) (inner : json.Data) (v : Data) → d ≡ json.object ms → chosen object.Value ms ≡ (name, inner) ∷ [] → SpellsValue d v → SpellsKind (value_member name) inner v
+kind_in d ms name inner v is kinds (of_kind ns other e at those spelled) =
+    let same : (other, e) ∷ [] ≡ (name, inner) ∷ [] = sym those ∙ ap (chosen object.Value) (same_object d ns ms at is) ∙ kinds in
+    let names : other ≡ name = ap head_name same in
+    let trees : e ≡ inner = ap head_tree same in
+    subst (λ n. SpellsKind (value_member n) inner v) names (subst (λ t. SpellsKind (value_member other) t v) trees spelled)
 
-  mutual
-    pub value_once : (limit : ℕ) (d : json.Data) (v w : Data) → SpellsValue side limit d v → SpellsValue side limit d w → v ≡ w
-    value_once limit d v w (of_kind ms name inner at kinds known spelled) second = kind_once limit _ inner v w spelled (kind_in limit d ms name inner w at kinds second)
+mutual
+  pub value_once : (d : json.Data) (v w : Data) → SpellsValue d v → SpellsValue d w → v ≡ w
+  value_once d v w (of_kind ms name inner at kinds spelled) second = kind_once _ inner v w spelled (kind_in d ms name inner w at kinds second)
 
-    kind_once : (limit : ℕ) (p : Place) (d : json.Data) (v w : Data) → SpellsKind side limit p d v → SpellsKind side limit p d w → v ≡ w
-    kind_once limit p d v w (as_scalar s) (as_scalar t) = scalar_once p d v w s t
-    kind_once limit p d v w (as_scalar s) (by_array ms ds room at known list means) = absurd s
-    kind_once limit p d v w (as_scalar s) (by_map ms es room at untyped known fields means) = absurd s
-    kind_once limit p d v w (by_array ms ds room at known list means) (as_scalar t) = absurd t
-    kind_once limit p d v w (by_array ms ds room at known list means) (by_array ns vs room_too at_too known_too list_too means_too) =
-        means ∙ ap array_of (list_once (limit - 1) _ ds vs list (subst (λ m. SpellsList side (limit - 1) (given (codes "values") m) vs) (same_object d ns ms at_too at) list_too)) ∙ sym means_too
-    kind_once limit p d v w (by_map ms es room at untyped known fields means) (as_scalar t) = absurd t
-    kind_once limit p d v w (by_map ms es room at untyped known fields means) (by_map ns fs room_too at_too untyped_too known_too fields_too means_too) =
-        means ∙ ap map_of (map_once (limit - 1) _ es fs fields (subst (λ m. SpellsMap side (limit - 1) (given (codes "fields") m) fs) (same_object d ns ms at_too at) fields_too)) ∙ sym means_too
+  kind_once : (p : Place) (d : json.Data) (v w : Data) → SpellsKind p d v → SpellsKind p d w → v ≡ w
+  kind_once _ d v w (as_scalar {kind = k} s) (as_scalar t) = scalar_once k d v w s t
+  kind_once _ d v w (by_array ms ds at list means) (by_array ns vs at_too list_too means_too) =
+      means ∙ ap array_of (list_once _ ds vs list (subst (λ m. SpellsList (given (codes "values") m) vs) (same_object d ns ms at_too at) list_too)) ∙ sym means_too
+  kind_once _ d v w (by_map ms es at fields means) (by_map ns fs at_too fields_too means_too) =
+      means ∙ ap map_of (map_once _ es fs fields (subst (λ m. SpellsMap (given (codes "fields") m) fs) (same_object d ns ms at_too at) fields_too)) ∙ sym means_too
 
-    list_once : (limit : ℕ) (o : Option json.Data) (vs ws : List Data) → SpellsList side limit o vs → SpellsList side limit o ws → vs ≡ ws
-    list_once limit o vs ws no_list no_list = refl
-    list_once limit o vs ws (a_list items d at spelled) (a_list others e at_too spelled_too) = items_once limit items vs ws spelled (subst (λ l. SpellsItems side limit l ws) (same_array d others items at_too at) spelled_too)
+  pub list_once : (o : Option json.Data) (vs ws : List Data) → SpellsList o vs → SpellsList o ws → vs ≡ ws
+  list_once o vs ws no_list no_list = refl
+  list_once o vs ws (a_list items d at spelled) (a_list others e at_too spelled_too) = items_once items vs ws spelled (subst (λ l. SpellsItems l ws) (same_array d others items at_too at) spelled_too)
 
-    items_once : (limit : ℕ) (items : json.Items) (vs ws : List Data) → SpellsItems side limit items vs → SpellsItems side limit items ws → vs ≡ ws
-    items_once limit items vs ws no_item no_item = refl
-    items_once limit items vs ws (an_item first rest) (an_item first_too rest_too) =
-        let one = value_once limit _ _ _ first first_too in
-        let more = items_once limit _ _ _ rest rest_too in
-        λ i. one i ∷ more i
+  items_once : (items : json.Items) (vs ws : List Data) → SpellsItems items vs → SpellsItems items ws → vs ≡ ws
+  items_once items vs ws no_item no_item = refl
+  items_once items vs ws (an_item first rest) (an_item first_too rest_too) =
+      let one = value_once _ _ _ first first_too in
+      let more = items_once _ _ _ rest rest_too in
+      λ i. one i ∷ more i
 
-    map_once : (limit : ℕ) (o : Option json.Data) (es fs : Entries) → SpellsMap side limit o es → SpellsMap side limit o fs → es ≡ fs
-    map_once limit o es fs no_map no_map = refl
-    map_once limit o es fs (a_map ms d at spelled) (a_map ns e at_too spelled_too) = members_once limit ms [] es fs spelled (subst (λ m. SpellsMembers side limit m [] fs) (same_object d ns ms at_too at) spelled_too)
+  map_once : (o : Option json.Data) (es fs : Entries) → SpellsMap o es → SpellsMap o fs → es ≡ fs
+  map_once o es fs no_map no_map = refl
+  map_once o es fs (a_map ms d at spelled) (a_map ns e at_too spelled_too) = members_once ms [] es fs spelled (subst (λ m. SpellsMembers m [] fs) (same_object d ns ms at_too at) spelled_too)
 
-    pub members_once : (limit : ℕ) (ms : json.Members) (old es fs : Entries) → SpellsMembers side limit ms old es → SpellsMembers side limit ms old fs → es ≡ fs
-    members_once limit ms old es fs no_member no_member = refl
-    members_once limit ms old es fs (left_out is rest) (left_out is_too rest_too) = members_once limit _ old es fs rest rest_too
-    members_once limit ms old es fs (left_out is rest) (a_member v some named spelled rest_too) = let e = sym is ∙ some in cc
-    members_once limit ms old es fs (a_member v some named spelled rest) (left_out is rest_too) = let e = sym is ∙ some in cc
-    members_once limit ms old es fs (a_member {name = n} {ms = more} v some named spelled rest) (a_member w some_too named_too spelled_too rest_too) =
-        let one = value_once limit _ v w spelled spelled_too in
-        members_once limit more (with_field old n v) es fs rest (subst (λ x. SpellsMembers side limit more (with_field old n x) fs) (sym one) rest_too)
+  members_once : (ms : json.Members) (old es fs : Entries) → SpellsMembers ms old es → SpellsMembers ms old fs → es ≡ fs
+  members_once ms old es fs no_member no_member = refl
+  members_once ms old es fs (left_out is rest) (left_out is_too rest_too) = members_once _ old es fs rest rest_too
+  members_once ms old es fs (left_out is rest) (a_member v some spelled rest_too) = let e = sym is ∙ some in cc
+  members_once ms old es fs (a_member v some spelled rest) (left_out is rest_too) = let e = sym is ∙ some in cc
+  members_once ms old es fs (a_member {name = n} {ms = more} v some spelled rest) (a_member w some_too spelled_too rest_too) =
+      let one = value_once _ v w spelled spelled_too in
+      members_once more (with_field old n v) es fs rest (subst (λ x. SpellsMembers more (with_field old n x) fs) (sym one) rest_too)
 
 -- an object spells its fields once
-pub spells_fields_once : (side : Side) (d : json.Data) (a b : Entries) → SpellsFields side d a → SpellsFields side d b → a ≡ b
-spells_fields_once side d a b one two = members_once side max_nesting one.members [] a b one.spelled (subst (λ m. SpellsMembers side max_nesting m [] b) (same_object d two.members one.members two.is one.is) two.spelled)
+pub spells_fields_once : (d : json.Data) (a b : Entries) → SpellsFields d a → SpellsFields d b → a ≡ b
+spells_fields_once d a b one two = members_once one.members [] a b one.spelled (subst (λ m. SpellsMembers m [] b) (same_object d two.members one.members two.is one.is) two.spelled)

@@ -1,5 +1,5 @@
 -- How deep trees are, and what is inside them.
-use Rattle.std.proofs.Common.{◌≡◌, ◌++◌, ℕ, ◌<◌, ◌≤◌, zero, suc, List, [], ◌∷◌, length, get_or, String, Bool, true, false, cond, Option, Some, None, is_some, refl, sym, ap, arith, Ordering, Less, Equal, Greater}
+use Rattle.std.proofs.Common.{◌≡◌, ◌++◌, ℕ, ◌<◌, ◌≤◌, zero, suc, List, [], ◌∷◌, length, get_or, String, Bool, true, false, cond, Option, Some, None, is_some, Bor, IfSome, option_map, refl, sym, ap, arith, Ordering, Less, Equal, Greater}
 use Rattle.std.specs.declared.alloc.Global.{Global}
 use Rattle.std.specs.Option.{option_and_then}
 use Rattle.std.specs.Ordering.{nat_cmp, match_ordering}
@@ -8,7 +8,8 @@ use Rattle.serde_json.specs.Data.{Data as Tree, null, boolean, number, string, a
 use Rattle.serde_json.specs.Find.{as_object, as_array, as_null, get_member}
 use Rattle.serde_json.specs.View.{view, items_view, members_view}
 use Rattle.serde_json.specs.declared.value.Value.{Value as Json}
-use Rattle.json_model.specs.Members.{given, unless_null, is_null, kinds_given, says_kind}
+use Rattle.json_model.specs.declared.place.Object.{Object}
+use Rattle.json_model.specs.Members.{given, unless_null, is_null, chosen, is_chosen}
 
 pub object_at : (d : Tree) (ms : Members) → Some ms ≡ as_object d → d ≡ object ms
 object_at (object ns) ms is = let e : ns ≡ ms = cc in ap object e
@@ -36,12 +37,12 @@ abbrev head_tree : List (List ℕ × Tree) → Tree
 head_tree [] = null
 head_tree (e ∷ es) = e.1
 
--- the only kind is inside
-pub kind_depth : (ms : Members) (name : List ℕ) (d : Tree) → kinds_given ms ≡ (name, d) ∷ [] → depth d ≤ members_depth ms
-kind_depth no_members name d is = cc
-kind_depth (member k e ms) name d is = by (says_kind k e) is (kind_depth ms name d)
+-- the only alternative is inside
+pub choice_depth : (o : Object) (ms : Members) (name : List ℕ) (d : Tree) → chosen o ms ≡ (name, d) ∷ [] → depth d ≤ members_depth ms
+choice_depth o no_members name d is = cc
+choice_depth o (member k e ms) name d is = by (is_chosen o k e) is (choice_depth o ms name d)
   where
-    by : (b : Bool) → cond b ((k, e) ∷ kinds_given ms) (kinds_given ms) ≡ (name, d) ∷ [] → (kinds_given ms ≡ (name, d) ∷ [] → depth d ≤ members_depth ms) → depth d ≤ members_depth (member k e ms)
+    by : (b : Bool) → cond b ((k, e) ∷ chosen o ms) (chosen o ms) ≡ (name, d) ∷ [] → (chosen o ms ≡ (name, d) ∷ [] → depth d ≤ members_depth ms) → depth d ≤ members_depth (member k e ms)
     by true same later = let one : e ≡ d = ap head_tree same in let f : depth e ≡ depth d = ap depth one in omega arith
     by false same later = let rest = later same in omega arith
 
@@ -65,6 +66,10 @@ given_is (Some e) d is = by (is_null e) is
 
 pub given_depth : (ms : Members) (name : List ℕ) (d : Tree) → Some d ≡ given name ms → depth d ≤ members_depth ms
 given_depth ms name d is = member_depth ms name d (given_is (get_member name ms) d (sym is))
+
+pub given_within : (ms : Members) (name : List ℕ) (found : Option (Bor Json)) → option_map (λ v. view v.now) found ≡ given name ms → IfSome found (λ v. depth (view v.now) ≤ members_depth ms)
+given_within ms name None is = tt
+given_within ms name (Some v) is = given_depth ms name (view v.now) is
 
 pub item_depth : (items : List Json) (i : ℕ) (one : Json) → i < length items → one ≡ get_or items i one → depth (view one) ≤ items_depth (items_view items)
 item_depth [] i one below is = absurd (omega arith)

@@ -1,25 +1,25 @@
--- The faults of a tree, in the order of the walk: members in byte order of their names, lists in order. The wrong shape of
--- an object, and a value that doesn't have exactly one kind, come before what is inside, and are then the only fault there.
-use Rattle.std.specs.Prelude.{◌≡◌, ◌≢◌, ℤ, Option, ◌⊎◌, ℕ, ◌-◌, ◌==◌, List, [], ◌∷◌, ◌++◌, length, Bool, true, false, codes, Some, if◌then◌else◌}
-use Rattle.document_keys.specs.Names.{Root, IsKey, name_text}
-use Rattle.value_model.specs.declared.reference.RefName.{RefName}
-use Rattle.document_keys.specs.Paths.{IsFieldName}
-use Rattle.serde_json.specs.Data.{Data as Json, null, boolean, number, string, array, object, Members, no_members, member, Items, no_items, item}
-use Rattle.value_model.specs.declared.timestamp.Timestamp.{Timestamp}
-use Rattle.value_model.specs.Time.{time_of}
+-- The faults of a tree, in the order of the walk: members in byte order of their names, lists in order, a required member that
+-- is missing at its own name's place. The wrong shape of an object, and one that must have exactly one of several members and
+-- hasn't, come before what is inside, and are then the only fault there.
+use Rattle.std.specs.Prelude.{◌≡◌, ◌⊎◌, ℕ, ◌-◌, List, [], ◌∷◌, ◌++◌, map, length, true, false, codes, Option, Some, nat_lt, if◌then◌else◌}
+use Rattle.document_keys.specs.Names.{Root}
+use Rattle.document_keys.specs.Paths.{SpellsPath}
+use Rattle.serde_json.specs.Data.{Data as Json, null, boolean, number, string, array, object as an_object, Members, no_members, member, Items, no_items, item}
 use Rattle.json_model.specs.declared.side.Side.{Side}
 use Rattle.json_model.specs.declared.side.Side.TheVariants.{Caller, Backend}
 use Rattle.json_model.specs.declared.place.Place.{Place}
 use Rattle.json_model.specs.declared.place.Place.TheVariants as place
+use Rattle.json_model.specs.declared.place.Object.{Object}
+use Rattle.json_model.specs.declared.place.Object.TheVariants as object
+use Rattle.json_model.specs.declared.place.Series.{Series}
+use Rattle.json_model.specs.declared.place.Leaf.TheVariants as leaf
 use Rattle.json_model.specs.declared.fault.JsonFault.{JsonFault}
 use Rattle.json_model.specs.declared.fault.JsonFault.TheVariants as json_fault
-use Rattle.json_model.specs.declared.fault.NamingFault.{NamingFault}
-use Rattle.json_model.specs.Bytes.{SpellsBytes}
-use Rattle.json_model.specs.Members.{is_vector, is_left_out, kinds_given}
-use Rattle.json_model.specs.Numbers.{SpellsWhole}
-use Rattle.json_model.specs.Places.{member_place}
+use Rattle.json_model.specs.Leaves.{LeafFaults, FieldNameFaults}
+use Rattle.json_model.specs.Members.{given, is_left_out, missed, later, lacks_choice, is_vector_map, lacks_only, refined}
+use Rattle.json_model.specs.Origin.{Origin}
+use Rattle.json_model.specs.Places.{member_place, item_place, required}
 use Rattle.json_model.specs.Ranks.{first_of_least}
-use Rattle.json_model.specs.References.{SpellsReference, HasDocumentFault, HasReferenceFault, HasFieldFault}
 
 -- a fault is found: the first of the least kind, of faults that there are
 pub record FirstOf (Faults : List JsonFault → Type 0) (found : Option JsonFault) : Type 0 where
@@ -27,156 +27,123 @@ pub record FirstOf (Faults : List JsonFault → Type 0) (found : Option JsonFaul
   pub are : Faults faults
   pub first : found ≡ first_of_least faults
 
--- no fault where the fact holds, and this one where it doesn't
-abbrev pub Unless : Type 0 → JsonFault → List JsonFault → Type 0
-Unless Fact fault faults = (Fact × (faults ≡ [])) ⊎ ((Fact → ⊥) × (faults ≡ fault ∷ []))
-
--- the fault of a name
-abbrev pub bad_name : NamingFault → List ℕ → JsonFault
-bad_name fault name = json_fault.BadName (record { fault = fault; name = name })
-
 -- what a reader answers where it can't read: want of memory, or the first of the least kind of the faults
 abbrev pub IsFault : (List JsonFault → Type 0) → JsonFault → Type 0
 IsFault Faults fault = (fault ≡ json_fault.NoMemory) ⊎ FirstOf Faults (Some fault)
-
--- the fault of a name is one of these, or want of memory
-abbrev pub IsNameFault : (NamingFault → Type 0) → List ℕ → JsonFault → Type 0
-IsNameFault Has text fault = (fault ≡ json_fault.NoMemory) ⊎ ((why : NamingFault) × Has why × (fault ≡ bad_name why text))
-
--- the tree names the document of that key: a text that is its name under the root
-pub record SpellsName (root : Root) (d : Json) (key : List (List ℕ)) : Type 0 where
-  pub names : IsKey key
-  pub is : d ≡ string (name_text root key)
-
--- the faults of a tree that is to name a document under the root
-pub data NameFaults (root : Root) (d : Json) : List JsonFault → Type 0 where
-  named : (key : List (List ℕ)) → SpellsName root d key → NameFaults root d []
-  badly : (text : List ℕ) (fault : NamingFault) → d ≡ string text → HasDocumentFault root text fault → NameFaults root d (bad_name fault text ∷ [])
-  no_text : ((text : List ℕ) → d ≢ string text) → NameFaults root d (json_fault.BadShape (codes "name") ∷ [])
-
--- the faults of a text as a reference
-abbrev pub ReferenceFaults : List ℕ → List JsonFault → Type 0
-ReferenceFaults text faults =
-    ((name : RefName) × SpellsReference text name × (faults ≡ []))
-    ⊎ ((fault : NamingFault) × HasReferenceFault text fault × (faults ≡ bad_name fault text ∷ []))
-
--- the faults of a field's name
-abbrev pub FieldNameFaults : List ℕ → List JsonFault → Type 0
-FieldNameFaults name faults = (IsFieldName name × (faults ≡ [])) ⊎ ((fault : NamingFault) × HasFieldFault name fault × (faults ≡ bad_name fault name ∷ []))
 
 -- a member that isn't known is a fault of the caller's, and ignored in a message of the backend
 abbrev pub unknown_faults : Side → List ℕ → List JsonFault
 unknown_faults Caller name = json_fault.BadShape name ∷ []
 unknown_faults Backend name = []
 
--- what has not the shape that is to stand there
-abbrev pub stray : Side → Place → List ℕ → List JsonFault
-stray side place.Unsupported name = json_fault.Unsupported name ∷ []
-stray side place.Unknown name = unknown_faults side name
-stray side _ name = json_fault.BadShape name ∷ []
+-- a tree that isn't looked into, or isn't one that is to be
+abbrev pub FlatFaults : Origin → Place → List ℕ → Json → List JsonFault → Type 0
+FlatFaults o (place.Leaf kind) name d faults = LeafFaults o.root kind name d faults
+FlatFaults o place.Unsupported name d faults = faults ≡ json_fault.Unsupported name ∷ []
+FlatFaults o place.Unknown name d faults = faults ≡ unknown_faults o.side name
+FlatFaults o place.Ignored name d faults = faults ≡ []
+FlatFaults o _ name d faults = faults ≡ json_fault.BadShape name ∷ []
 
--- what null is written as
-abbrev pub IsNullTree : Json → Type 0
-IsNullTree d = (d ≡ null) ⊎ (d ≡ string (codes "NULL_VALUE"))
+-- What an object has in place of what is inside it: the wrong number of alternatives, or that it is a vector.
+abbrev pub own_faults : Object → List ℕ → Members → List JsonFault
+own_faults kind name ms =
+    if lacks_choice kind ms then json_fault.BadShape name ∷ []
+    else if is_vector_map kind ms then json_fault.Unsupported (codes "vectorValue") ∷ []
+    else []
 
-abbrev pub IsText : Json → Type 0
-IsText d = (text : List ℕ) × (d ≡ string text)
+-- what a list has in place of what is inside it
+abbrev pub own_list_faults : Series → List ℕ → Items → List JsonFault
+own_list_faults kind name ds = if lacks_only kind ds then json_fault.Unsupported name ∷ [] else []
 
-abbrev pub IsTimeText : List ℕ → Type 0
-IsTimeText text = (time : Timestamp) × (time_of text ≡ Some time)
+-- the faults of its own, or else those of what is inside
+abbrev pub OwnOr : List JsonFault → (List JsonFault → Type 0) → List JsonFault → Type 0
+OwnOr [] Inside faults = Inside faults
+OwnOr (fault ∷ own) Inside faults = faults ≡ fault ∷ own
 
-abbrev pub IsBytesText : List ℕ → Type 0
-IsBytesText text = (bytes : List ℕ) × SpellsBytes text bytes
+-- the path under `fieldPath` has so many names; none where it isn't a path
+pub data CountsPath (path : Option Json) : ℕ → Type 0 where
+  of_path : (text : List ℕ) (names : List (List ℕ)) → path ≡ Some (string text) → SpellsPath text names → CountsPath path (length names)
+  no_path : ((text : List ℕ) (names : List (List ℕ)) → path ≡ Some (string text) → ¬ (SpellsPath text names)) → CountsPath path 0
 
--- a text with these faults, or no text
-pub data InText (d : Json) (name : List ℕ) (Faults : List ℕ → List JsonFault → Type 0) : List JsonFault → Type 0 where
-  in_text : (text : List ℕ) (faults : List JsonFault) → d ≡ string text → Faults text faults → InText d name Faults faults
-  in_other : ¬ (IsText d) → InText d name Faults (json_fault.BadShape name ∷ [])
+-- How many levels of nesting an object takes up: an array or a map one, and a transform of an array as many as its path has names.
+abbrev pub Takes : Object → Members → ℕ → Type 0
+Takes object.Array ms n = n ≡ 1
+Takes object.Map ms n = n ≡ 1
+Takes object.ArrayTransform ms n = CountsPath (given (codes "fieldPath") ms) n
+Takes _ ms n = n ≡ 0
 
--- the faults of a tree at a place that isn't looked into
-abbrev pub KindFaults : Side → Place → List ℕ → Json → List JsonFault → Type 0
-KindFaults side place.Null name d faults = Unless (IsNullTree d) (json_fault.BadShape name) faults
-KindFaults side place.Boolean name d faults = Unless ((is : Bool) × (d ≡ boolean is)) (json_fault.BadShape name) faults
-KindFaults side place.Integer name d faults = Unless ((z : ℤ) × SpellsWhole d z) (json_fault.BadShape name) faults
-KindFaults side place.Text name d faults = Unless (IsText d) (json_fault.BadShape name) faults
-KindFaults side place.Time name d faults = InText d name (λ text. Unless (IsTimeText text) (json_fault.BadTime name)) faults
-KindFaults side place.Bytes name d faults = InText d name (λ text. Unless (IsBytesText text) (json_fault.BadBytes name)) faults
-KindFaults side place.Reference name d faults = InText d name ReferenceFaults faults
-KindFaults side place name d faults = faults ≡ stray side place name
+-- an object that takes up more levels than there are is too deep
+abbrev pub depth_faults : ℕ → ℕ → List JsonFault
+depth_faults limit levels = if nat_lt limit levels then json_fault.TooDeep ∷ [] else []
 
--- the places where an object, or a list, is looked into
-abbrev pub holds_object : Place → Bool
-holds_object place.Value = true
-holds_object place.Array = true
-holds_object place.Map = true
-holds_object place.Fields = true
-holds_object _ = false
+-- what is inside an object, in the levels that are left
+pub record InLevels (kind : Object) (ms : Members) (limit : ℕ) (Inside : ℕ → List JsonFault → Type 0) (faults : List JsonFault) : Type 0 where
+  pub levels : ℕ
+  pub takes : Takes kind ms levels
+  pub inside : List JsonFault
+  pub are : Inside (limit - levels) inside
+  pub is : faults ≡ depth_faults limit levels ++ inside
 
-abbrev pub holds_list : Place → Bool
-holds_list place.Values = true
-holds_list _ = false
+-- an object or a list where one is to stand, and any tree elsewhere
+abbrev pub InObject : Place → (Object → List JsonFault → Type 0) → (List JsonFault → Type 0) → List JsonFault → Type 0
+InObject (place.Object kind) Inside Other faults = Inside kind faults
+InObject _ Inside Other faults = Other faults
 
--- What an object has in place of what is inside it: a value has exactly one kind, and a map with a field `__type__` is a
--- vector.
-abbrev pub own_faults : Place → List ℕ → Members → List JsonFault
-own_faults place.Value name ms = if length (kinds_given ms) == 1 then [] else json_fault.BadShape name ∷ []
-own_faults place.Map name ms = if is_vector ms then json_fault.Unsupported (codes "vectorValue") ∷ [] else []
-own_faults _ name ms = []
-
--- an array or a map where none may nest any more
-abbrev pub depth_faults : Place → ℕ → List JsonFault
-depth_faults place.Array limit = if limit == 0 then json_fault.TooDeep ∷ [] else []
-depth_faults place.Map limit = if limit == 0 then json_fault.TooDeep ∷ [] else []
-depth_faults _ limit = []
-
--- how many arrays and maps may nest inside
-abbrev pub limit_inside : Place → ℕ → ℕ
-limit_inside place.Array limit = limit - 1
-limit_inside place.Map limit = limit - 1
-limit_inside _ limit = limit
-
--- an object, by what it has if it isn't looked into, by its own faults, and by those that come before and of what is inside
-abbrev pub InObject : Bool → (List JsonFault → Type 0) → List JsonFault → List JsonFault → (List JsonFault → Type 0) → List JsonFault → Type 0
-InObject false Other own deep Inside faults = Other faults
-InObject true Other (fault ∷ own) deep Inside faults = faults ≡ fault ∷ own
-InObject true Other [] deep Inside faults = (inside : List JsonFault) × Inside inside × (faults ≡ deep ++ inside)
-
-abbrev pub InList : Bool → (List JsonFault → Type 0) → (List JsonFault → Type 0) → List JsonFault → Type 0
-InList false Other Inside faults = Other faults
-InList true Other Inside faults = Inside faults
+abbrev pub InSeries : Place → (Series → List JsonFault → Type 0) → (List JsonFault → Type 0) → List JsonFault → Type 0
+InSeries (place.Series kind) Inside Other faults = Inside kind faults
+InSeries _ Inside Other faults = Other faults
 
 -- the faults of a member's name: fields have names that can be wrong
-abbrev pub OwnName : Place → List ℕ → List JsonFault → Type 0
-OwnName place.Fields name faults = FieldNameFaults name faults
+abbrev pub OwnName : Object → List ℕ → List JsonFault → Type 0
+OwnName object.Fields name faults = FieldNameFaults name faults
 OwnName _ name faults = faults ≡ []
 
--- a member, with what its value has: its name comes first
-abbrev pub Named : Place → List ℕ → (List JsonFault → Type 0) → List JsonFault → Type 0
-Named place name Inside faults = (own : List JsonFault) × (inside : List JsonFault) × OwnName place name own × Inside inside × (faults ≡ own ++ inside)
+-- a member: it is left out, or has the faults of its name and then those of its value
+abbrev pub AtMember : Object → List ℕ → Json → (List JsonFault → Type 0) → List JsonFault → Type 0
+AtMember kind name d Inside faults =
+    ((is_left_out (member_place kind name) d ≡ true) × (faults ≡ []))
+    ⊎ ((is_left_out (member_place kind name) d ≡ false) × ((own : List JsonFault) × (inside : List JsonFault) × OwnName kind name own × Inside inside × (faults ≡ own ++ inside)))
 
-abbrev pub AtMember : Place → List ℕ → Json → (List JsonFault → Type 0) → List JsonFault → Type 0
-AtMember place name d Inside faults =
-    ((is_left_out (member_place place name) d ≡ true) × (faults ≡ [])) ⊎ ((is_left_out (member_place place name) d ≡ false) × Named place name Inside faults)
+-- required members that are missing
+abbrev pub missing : List (List ℕ) → List JsonFault
+missing names = map json_fault.BadShape names
 
 -- the faults of a tree at a place, under that name, where so many arrays and maps may nest
 unfoldable mutual
-  pub FaultsAt : Side → ℕ → Place → List ℕ → Json → List JsonFault → Type 0
-  FaultsAt side limit place name null faults = KindFaults side place name null faults
-  FaultsAt side limit place name (boolean b) faults = KindFaults side place name (boolean b) faults
-  FaultsAt side limit place name (number n) faults = KindFaults side place name (number n) faults
-  FaultsAt side limit place name (string text) faults = KindFaults side place name (string text) faults
-  FaultsAt side limit place name (array ds) faults = InList (holds_list place) (KindFaults side place name (array ds)) (ItemsFaults side limit name ds) faults
-  FaultsAt side limit place name (object ms) faults =
-      InObject (holds_object place) (KindFaults side place name (object ms)) (own_faults place name ms) (depth_faults place limit) (MembersFaults side (limit_inside place limit) place ms) faults
+  pub FaultsAt : Origin → ℕ → Place → List ℕ → Json → List JsonFault → Type 0
+  FaultsAt o limit place name null faults = FlatFaults o place name null faults
+  FaultsAt o limit place name (boolean b) faults = FlatFaults o place name (boolean b) faults
+  FaultsAt o limit place name (number n) faults = FlatFaults o place name (number n) faults
+  FaultsAt o limit place name (string text) faults = FlatFaults o place name (string text) faults
+  FaultsAt o limit place name (array ds) faults =
+      InSeries place (λ kind. OwnOr (own_list_faults kind name ds) (ItemsFaults o limit kind name ds)) (FlatFaults o place name (array ds)) faults
+  FaultsAt o limit place name (an_object ms) faults =
+      InObject place (λ kind. OwnOr (own_faults kind name ms) (InLevels (refined kind ms) ms limit (λ inner. MembersFaults o inner (refined kind ms) (required (refined kind ms)) ms)))
+      (FlatFaults o place name (an_object ms)) faults
 
-  -- of the values in a list of that name
-  pub ItemsFaults : Side → ℕ → List ℕ → Items → List JsonFault → Type 0
-  ItemsFaults side limit name no_items faults = faults ≡ []
-  ItemsFaults side limit name (item d ds) faults =
-      (first : List JsonFault) × (rest : List JsonFault) × FaultsAt side limit place.Value name d first × ItemsFaults side limit name ds rest × (faults ≡ first ++ rest)
+  -- of the items of a list of that name
+  pub ItemsFaults : Origin → ℕ → Series → List ℕ → Items → List JsonFault → Type 0
+  ItemsFaults o limit kind name no_items faults = faults ≡ []
+  ItemsFaults o limit kind name (item d ds) faults =
+      (first : List JsonFault) × (rest : List JsonFault) × FaultsAt o limit (item_place kind) name d first × ItemsFaults o limit kind name ds rest × (faults ≡ first ++ rest)
 
-  -- of the members of an object
-  pub MembersFaults : Side → ℕ → Place → Members → List JsonFault → Type 0
-  MembersFaults side limit place no_members faults = faults ≡ []
-  MembersFaults side limit place (member name d ms) faults =
-      (first : List JsonFault) × (rest : List JsonFault) × AtMember place name d (FaultsAt side limit (member_place place name) name d) first × MembersFaults side limit place ms rest × (faults ≡ first ++ rest)
+  -- of the members of an object, of which these are required
+  pub MembersFaults : Origin → ℕ → Object → List (List ℕ) → Members → List JsonFault → Type 0
+  MembersFaults o limit kind names no_members faults = faults ≡ missing names
+  MembersFaults o limit kind names (member name d ms) faults =
+      (first : List JsonFault) × (rest : List JsonFault) × AtMember kind name d (FaultsAt o limit (member_place kind name) name d) first × MembersFaults o limit kind (later name names) ms rest
+      × (faults ≡ missing (missed name d names) ++ (first ++ rest))
+
+-- ---- fields, and the name of a document
+
+-- how deep a field's value may nest
+abbrev pub max_nesting : ℕ
+max_nesting = 20
+
+-- of a tree that is to spell fields
+abbrev pub FieldsFaults : Origin → Json → List JsonFault → Type 0
+FieldsFaults o d faults = FaultsAt o max_nesting (place.Object object.Fields) (codes "fields") d faults
+
+-- of a tree that is to name a document under the root
+abbrev pub NameFaults : Root → Json → List JsonFault → Type 0
+NameFaults root d faults = LeafFaults root leaf.Name (codes "name") d faults

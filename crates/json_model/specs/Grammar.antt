@@ -1,93 +1,106 @@
--- The trees that spell values and fields, as google.firestore.v1 writes them in proto3 JSON.
-use Rattle.std.specs.Prelude.{◌≡◌, ℕ, ℤ, ◌<◌, ◌-◌, List, [], ◌∷◌, Bool, true, false, not, ◌&&◌, cond, codes, Option, Some, None}
+-- The values and fields that trees without faults spell, as google.firestore.v1 writes them in proto3 JSON. The form of these
+-- trees is said by their faults, and by `Fits`.
+use Rattle.std.specs.Prelude.{◌≡◌, ℕ, ℤ, List, [], ◌∷◌, Bool, true, false, codes, Option, Some, None}
 use Rattle.serde_json.specs.Data as json
-use Rattle.document_keys.specs.Paths.{IsFieldName}
 use Rattle.value_model.specs.declared.reference.RefName.{RefName}
 use Rattle.value_model.specs.declared.timestamp.Timestamp.{Timestamp}
 use Rattle.value_model.specs.Data.{Data, null, boolean, integer, time, text, bytes, reference, array_of, map_of, Entries}
 use Rattle.value_model.specs.Fields.{with_field}
 use Rattle.value_model.specs.Time.{time_of}
-use Rattle.json_model.specs.declared.side.Side.{Side}
-use Rattle.json_model.specs.declared.side.Side.TheVariants.{Caller, Backend}
+use Rattle.document_keys.specs.Names.{Root, IsKey, name_text}
 use Rattle.json_model.specs.declared.place.Place.{Place}
 use Rattle.json_model.specs.declared.place.Place.TheVariants as place
+use Rattle.json_model.specs.declared.place.Object.TheVariants as object
+use Rattle.json_model.specs.declared.place.Leaf.{Leaf}
+use Rattle.json_model.specs.declared.place.Leaf.TheVariants as leaf
 use Rattle.json_model.specs.Bytes.{SpellsBytes}
-use Rattle.json_model.specs.declared.fault.JsonFault.{JsonFault}
-use Rattle.json_model.specs.Faults.{IsNullTree, FaultsAt}
-use Rattle.json_model.specs.Members.{is_vector, is_null, is_unknown, given, kinds_given}
+use Rattle.json_model.specs.Leaves.{IsNullTree, SpellsFieldPath}
+use Rattle.json_model.specs.Members.{is_null, given, chosen}
 use Rattle.json_model.specs.Numbers.{SpellsWhole}
-use Rattle.json_model.specs.Places.{value_member, member_place}
+use Rattle.json_model.specs.Places.{value_member}
 use Rattle.json_model.specs.References.{SpellsReference}
 
--- the member isn't known, and isn't left out
-abbrev pub is_strange : Place → List ℕ → json.Data → Bool
-is_strange p name d = is_unknown (member_place p name) && not (is_null d)
+-- the tree is the text of a time
+abbrev pub SpellsTime : json.Data → Timestamp → Type 0
+SpellsTime d at = (content : List ℕ) × ((d ≡ json.string content) × (time_of content ≡ Some at))
 
-abbrev pub none_strange : Place → json.Members → Bool
-none_strange p json.no_members = true
-none_strange p (json.member name d ms) = cond (is_strange p name d) false (none_strange p ms)
+-- the tree names the document of that key: a text that is its name under the root
+pub record SpellsName (root : Root) (d : json.Data) (key : List (List ℕ)) : Type 0 where
+  pub names : IsKey key
+  pub is : d ≡ json.string (name_text root key)
 
--- the caller's objects have known members alone, and those of the backend any
-abbrev pub are_known : Side → Place → json.Members → Bool
-are_known Caller p ms = none_strange p ms
-are_known Backend p ms = true
+-- the tree is the text
+abbrev pub SpellsText : json.Data → List ℕ → Type 0
+SpellsText d content = d ≡ json.string content
 
--- a scalar of the kind that stands at a place
-abbrev pub SpellsScalar : Place → json.Data → Data → Type 0
-SpellsScalar place.Null d v = IsNullTree d × (v ≡ null)
-SpellsScalar place.Boolean d v = (is : Bool) × (d ≡ json.boolean is) × (v ≡ boolean is)
-SpellsScalar place.Integer d v = (z : ℤ) × SpellsWhole d z × (v ≡ integer z)
-SpellsScalar place.Time d v = (content : List ℕ) × ((at : Timestamp) × (d ≡ json.string content) × (time_of content ≡ Some at) × (v ≡ time at))
-SpellsScalar place.Text d v = (content : List ℕ) × (d ≡ json.string content) × (v ≡ text content)
-SpellsScalar place.Bytes d v = (content : List ℕ) × ((those : List ℕ) × (d ≡ json.string content) × SpellsBytes content those × (v ≡ bytes those))
-SpellsScalar place.Reference d v = (content : List ℕ) × ((name : RefName) × (d ≡ json.string content) × SpellsReference content name × (v ≡ reference name))
+-- a text that spells the bytes, the name of a document of any database, or the path of a field
+abbrev pub SpellsBytesTree : json.Data → List ℕ → Type 0
+SpellsBytesTree d those = (content : List ℕ) × (SpellsText d content × SpellsBytes content those)
+
+abbrev pub SpellsReferenceTree : json.Data → RefName → Type 0
+SpellsReferenceTree d name = (content : List ℕ) × (SpellsText d content × SpellsReference content name)
+
+abbrev pub SpellsPathTree : json.Data → List (List ℕ) → Type 0
+SpellsPathTree d path = (content : List ℕ) × (SpellsText d content × SpellsFieldPath content path)
+
+-- a scalar of that kind
+abbrev pub SpellsScalar : Leaf → json.Data → Data → Type 0
+SpellsScalar leaf.Null d v = IsNullTree d × (v ≡ null)
+SpellsScalar leaf.Boolean d v = (is : Bool) × ((d ≡ json.boolean is) × (v ≡ boolean is))
+SpellsScalar leaf.Integer d v = (z : ℤ) × (SpellsWhole d z × (v ≡ integer z))
+SpellsScalar leaf.Time d v = (at : Timestamp) × (SpellsTime d at × (v ≡ time at))
+SpellsScalar leaf.Text d v = (content : List ℕ) × (SpellsText d content × (v ≡ text content))
+SpellsScalar leaf.Bytes d v = (those : List ℕ) × (SpellsBytesTree d those × (v ≡ bytes those))
+SpellsScalar leaf.Reference d v = (name : RefName) × (SpellsReferenceTree d name × (v ≡ reference name))
 SpellsScalar _ d v = ⊥
 
--- The tree spells the value, in which so many arrays and maps nest at most.
+-- what may stand under the name of a value's kind
+abbrev pub is_scalar : Leaf → Bool
+is_scalar leaf.Name = false
+is_scalar leaf.Path = false
+is_scalar leaf.ServerTime = false
+is_scalar _ = true
+
+abbrev pub is_kind : Place → Bool
+is_kind (place.Leaf kind) = is_scalar kind
+is_kind (place.Object object.Array) = true
+is_kind (place.Object object.Map) = true
+is_kind place.Unsupported = true
+is_kind _ = false
+
 mutual
   -- a value: an object with exactly one kind
-  pub data SpellsValue (side : Side) : ℕ → json.Data → Data → Type 0 where
-    of_kind : {limit : ℕ} {d : json.Data} {v : Data} (ms : json.Members) (name : List ℕ) (inner : json.Data) → d ≡ json.object ms → kinds_given ms ≡ (name, inner) ∷ [] → are_known side place.Value ms ≡ true
-        → SpellsKind side limit (value_member name) inner v → SpellsValue side limit d v
+  pub data SpellsValue : json.Data → Data → Type 0 where
+    of_kind : {d : json.Data} {v : Data} (ms : json.Members) (name : List ℕ) (inner : json.Data) → d ≡ json.object ms → chosen object.Value ms ≡ (name, inner) ∷ [] → SpellsKind (value_member name) inner v → SpellsValue d v
 
   -- what stands under the kind's name: a scalar, `{"values":[..]}` or `{"fields":{..}}`
-  pub data SpellsKind (side : Side) : ℕ → Place → json.Data → Data → Type 0 where
-    as_scalar : {limit : ℕ} {p : Place} {d : json.Data} {v : Data} → SpellsScalar p d v → SpellsKind side limit p d v
-    as_array : {limit : ℕ} {d : json.Data} {v : Data} (ms : json.Members) (ds : List Data) → 0 < limit → d ≡ json.object ms → are_known side place.Array ms ≡ true
-        → SpellsList side (limit - 1) (given (codes "values") ms) ds → v ≡ array_of ds → SpellsKind side limit place.Array d v
-    as_map : {limit : ℕ} {d : json.Data} {v : Data} (ms : json.Members) (es : Entries) → 0 < limit → d ≡ json.object ms → is_vector ms ≡ false → are_known side place.Map ms ≡ true
-        → SpellsMap side (limit - 1) (given (codes "fields") ms) es → v ≡ map_of es → SpellsKind side limit place.Map d v
+  pub data SpellsKind : Place → json.Data → Data → Type 0 where
+    as_scalar : {kind : Leaf} {d : json.Data} {v : Data} → SpellsScalar kind d v → SpellsKind (place.Leaf kind) d v
+    as_array : {d : json.Data} {v : Data} (ms : json.Members) (ds : List Data) → d ≡ json.object ms → SpellsList (given (codes "values") ms) ds → v ≡ array_of ds → SpellsKind (place.Object object.Array) d v
+    as_map : {d : json.Data} {v : Data} (ms : json.Members) (es : Entries) → d ≡ json.object ms → SpellsMap (given (codes "fields") ms) es → v ≡ map_of es → SpellsKind (place.Object object.Map) d v
 
   -- a list of values, which may be left out where it is empty
-  pub data SpellsList (side : Side) : ℕ → Option json.Data → List Data → Type 0 where
-    no_list : {limit : ℕ} → SpellsList side limit None []
-    a_list : {limit : ℕ} {ds : List Data} (items : json.Items) (d : json.Data) → d ≡ json.array items → SpellsItems side limit items ds → SpellsList side limit (Some d) ds
+  pub data SpellsList : Option json.Data → List Data → Type 0 where
+    no_list : SpellsList None []
+    a_list : {ds : List Data} (items : json.Items) (d : json.Data) → d ≡ json.array items → SpellsItems items ds → SpellsList (Some d) ds
 
-  pub data SpellsItems (side : Side) : ℕ → json.Items → List Data → Type 0 where
-    no_item : {limit : ℕ} → SpellsItems side limit json.no_items []
-    an_item : {limit : ℕ} {d : json.Data} {items : json.Items} {v : Data} {vs : List Data} → SpellsValue side limit d v → SpellsItems side limit items vs → SpellsItems side limit (json.item d items) (v ∷ vs)
+  pub data SpellsItems : json.Items → List Data → Type 0 where
+    no_item : SpellsItems json.no_items []
+    an_item : {d : json.Data} {items : json.Items} {v : Data} {vs : List Data} → SpellsValue d v → SpellsItems items vs → SpellsItems (json.item d items) (v ∷ vs)
 
   -- an object of fields, which may be left out where it is empty
-  pub data SpellsMap (side : Side) : ℕ → Option json.Data → Entries → Type 0 where
-    no_map : {limit : ℕ} → SpellsMap side limit None []
-    a_map : {limit : ℕ} {es : Entries} (ms : json.Members) (d : json.Data) → d ≡ json.object ms → SpellsMembers side limit ms [] es → SpellsMap side limit (Some d) es
+  pub data SpellsMap : Option json.Data → Entries → Type 0 where
+    no_map : SpellsMap None []
+    a_map : {es : Entries} (ms : json.Members) (d : json.Data) → d ≡ json.object ms → SpellsMembers ms [] es → SpellsMap (Some d) es
 
   -- the members that aren't null, each the name and the value of a field, are put one after another
-  pub data SpellsMembers (side : Side) : ℕ → json.Members → Entries → Entries → Type 0 where
-    no_member : {limit : ℕ} {es : Entries} → SpellsMembers side limit json.no_members es es
-    left_out : {limit : ℕ} {name : List ℕ} {d : json.Data} {ms : json.Members} {es fs : Entries} → is_null d ≡ true → SpellsMembers side limit ms es fs → SpellsMembers side limit (json.member name d ms) es fs
-    a_member : {limit : ℕ} {name : List ℕ} {d : json.Data} {ms : json.Members} {es fs : Entries} (v : Data) → is_null d ≡ false → IsFieldName name → SpellsValue side limit d v → SpellsMembers side limit ms (with_field es name v) fs → SpellsMembers side limit (json.member name d ms) es fs
-
--- how deep a field's value may nest
-abbrev pub max_nesting : ℕ
-max_nesting = 20
+  pub data SpellsMembers : json.Members → Entries → Entries → Type 0 where
+    no_member : {es : Entries} → SpellsMembers json.no_members es es
+    left_out : {name : List ℕ} {d : json.Data} {ms : json.Members} {es fs : Entries} → is_null d ≡ true → SpellsMembers ms es fs → SpellsMembers (json.member name d ms) es fs
+    a_member : {name : List ℕ} {d : json.Data} {ms : json.Members} {es fs : Entries} (v : Data) → is_null d ≡ false → SpellsValue d v → SpellsMembers ms (with_field es name v) fs → SpellsMembers (json.member name d ms) es fs
 
 -- an object whose members spell the fields
-pub record SpellsFields (side : Side) (d : json.Data) (fields : Entries) : Type 0 where
+pub record SpellsFields (d : json.Data) (fields : Entries) : Type 0 where
   pub members : json.Members
   pub is : d ≡ json.object members
-  pub spelled : SpellsMembers side max_nesting members [] fields
-
--- the faults of a tree that is to spell fields, in the order of the walk
-abbrev pub FieldsFaults : Side → json.Data → List JsonFault → Type 0
-FieldsFaults side d faults = FaultsAt side max_nesting place.Fields (codes "fields") d faults
+  pub spelled : SpellsMembers members [] fields

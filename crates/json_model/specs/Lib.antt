@@ -1,10 +1,15 @@
+pub mod Ascending
 pub mod Bytes
+pub mod Clean
 pub mod Faults
+pub mod Fits
 pub mod Grammar
 pub mod Laws
+pub mod Leaves
 pub mod Members
-pub mod NamesOnce
 pub mod Numbers
+pub mod Objects
+pub mod Origin
 pub mod Places
 pub mod Printed
 pub mod Ranks

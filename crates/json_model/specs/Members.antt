@@ -1,18 +1,22 @@
 -- The members of JSON objects. A member whose value is null counts as left out.
-use Rattle.std.specs.Prelude.{ℕ, List, [], ◌∷◌, Bool, true, false, not, ◌&&◌, Option, Some, None, cond, is_some, codes, option_and_then}
-use Rattle.serde_json.specs.Data.{Data as Json, null, boolean, number, string, array, object, Members, no_members, member}
+use Rattle.std.specs.Prelude.{ℕ, List, [], ◌∷◌, Bool, true, false, not, ◌&&◌, ◌||◌, Option, Some, None, cond, is_some, codes, option_and_then, if◌then◌else◌}
+use Rattle.std.specs.Ordering.{nat_cmp, match_ordering}
+use Rattle.std.specs.Cmp.Lexicographic.{slice_cmp}
+use Rattle.serde_json.specs.Data.{Data as Json, null, Members, no_members, member, Items, no_items, item}
 use Rattle.serde_json.specs.Find.{as_object, get_member}
 use Rattle.json_model.specs.declared.place.Place.{Place}
 use Rattle.json_model.specs.declared.place.Place.TheVariants as place
-use Rattle.json_model.specs.Places.{value_member}
+use Rattle.json_model.specs.declared.place.Object.{Object}
+use Rattle.json_model.specs.declared.place.Object.TheVariants as object
+use Rattle.json_model.specs.declared.place.Series.{Series}
+use Rattle.json_model.specs.declared.place.Series.TheVariants as series
+use Rattle.json_model.specs.declared.place.Leaf.{Leaf}
+use Rattle.json_model.specs.declared.place.Leaf.TheVariants as leaf
+use Rattle.json_model.specs.Places.{member_place, is_unknown, chooses, is_choice}
 
 abbrev pub is_null : Json → Bool
 is_null null = true
-is_null (boolean b) = false
-is_null (number n) = false
-is_null (string s) = false
-is_null (array ds) = false
-is_null (object ms) = false
+is_null _ = false
 
 abbrev pub unless_null : Json → Option Json
 unless_null d = cond (is_null d) None (Some d)
@@ -20,6 +24,54 @@ unless_null d = cond (is_null d) None (Some d)
 -- the value of the member of that name, where it is there and isn't null
 abbrev pub given : List ℕ → Members → Option Json
 given name ms = option_and_then unless_null (get_member name ms)
+
+-- ---- members that are left out
+
+abbrev pub is_null_leaf : Leaf → Bool
+is_null_leaf leaf.Null = true
+is_null_leaf _ = false
+
+-- null may stand there
+abbrev pub takes_null : Place → Bool
+takes_null (place.Leaf kind) = is_null_leaf kind
+takes_null _ = false
+
+-- the member is left out: its value is null, and null isn't what is to stand there
+abbrev pub is_left_out : Place → Json → Bool
+is_left_out p d = not (takes_null p) && is_null d
+
+-- Of required names those that this member shows to be missing: they come before it, or it is theirs and is null.
+abbrev pub missed : List ℕ → Json → List (List ℕ) → List (List ℕ)
+missed name d [] = []
+missed name d (one ∷ others) = match_ordering (slice_cmp nat_cmp one name) (one ∷ missed name d others) (if is_null d then one ∷ [] else []) []
+
+-- those that are still to come behind it
+abbrev pub later : List ℕ → List (List ℕ) → List (List ℕ)
+later name [] = []
+later name (one ∷ others) = match_ordering (slice_cmp nat_cmp one name) (later name others) others (one ∷ others)
+
+-- ---- alternatives
+
+-- the member is one of the object's alternatives, and isn't left out
+abbrev pub is_chosen : Object → List ℕ → Json → Bool
+is_chosen o name d = is_choice o name && not (is_left_out (member_place o name) d)
+
+-- the alternatives that are given
+abbrev pub chosen : Object → Members → List (List ℕ × Json)
+chosen o no_members = []
+chosen o (member name d ms) = cond (is_chosen o name d) ((name, d) ∷ chosen o ms) (chosen o ms)
+
+-- they are one, whose name is known
+abbrev pub is_one_known : Object → List (List ℕ × Json) → Bool
+is_one_known o [] = false
+is_one_known o (only ∷ []) = not (is_unknown (member_place o only.0))
+is_one_known o (first ∷ second ∷ others) = false
+
+-- the object must have exactly one of several members, and hasn't
+abbrev pub lacks_choice : Object → Members → Bool
+lacks_choice o ms = chooses o && not (is_one_known o (chosen o ms))
+
+-- ---- what the members make of an object
 
 abbrev pub has_type : Option Members → Bool
 has_type None = false
@@ -29,20 +81,24 @@ has_type (Some fields) = is_some (given (codes "__type__") fields)
 abbrev pub is_vector : Members → Bool
 is_vector ms = has_type (option_and_then as_object (given (codes "fields") ms))
 
--- the member is left out: its value is null, and null isn't what is to stand there
-abbrev pub is_left_out : Place → Json → Bool
-is_left_out place.Null d = false
-is_left_out _ d = is_null d
+abbrev pub is_vector_map : Object → Members → Bool
+is_vector_map object.Map ms = is_vector ms
+is_vector_map _ ms = false
 
-abbrev pub is_unknown : Place → Bool
-is_unknown place.Unknown = true
-is_unknown _ = false
+-- the transform's alternative is one of an array
+abbrev pub is_of_array : Members → Bool
+is_of_array ms = is_some (given (codes "appendMissingElements") ms) || is_some (given (codes "removeAllFromArray") ms)
 
--- the member says of which kind a value is: its name is known, and it isn't left out
-abbrev pub says_kind : List ℕ → Json → Bool
-says_kind name d = not (is_unknown (value_member name)) && not (is_left_out (value_member name) d)
+-- what object it is by its members
+abbrev pub refined : Object → Members → Object
+refined object.Write ms = if is_some (given (codes "delete") ms) then object.DeleteWrite else object.Write
+refined object.Transform ms = if is_of_array ms then object.ArrayTransform else object.Transform
+refined o ms = o
 
--- the members that say of which kind a value is
-abbrev pub kinds_given : Members → List (List ℕ × Json)
-kinds_given no_members = []
-kinds_given (member name d ms) = cond (says_kind name d) ((name, d) ∷ kinds_given ms) (kinds_given ms)
+-- ---- lists
+
+-- the list must have exactly one item, since more aren't built, and hasn't
+abbrev pub lacks_only : Series → Items → Bool
+lacks_only series.PlainWrites (item d no_items) = false
+lacks_only series.PlainWrites _ = true
+lacks_only _ ds = false

@@ -1,29 +1,206 @@
--- What is to stand under which name, as google.firestore.v1 spells a Value in proto3 JSON.
-use Rattle.std.specs.Prelude.{ℕ, List, codes, if◌then◌else◌}
+-- The tables: what is to stand under which name of which object, as google.firestore.v1 spells it in proto3 JSON.
+use Rattle.std.specs.Prelude.{ℕ, List, [], ◌∷◌, Bool, true, false, not, ◌&&◌, ◌||◌, codes, if◌then◌else◌}
 use Rattle.std.specs.Str.{bytes_eq}
 use Rattle.json_model.specs.declared.place.Place.{Place}
-use Rattle.json_model.specs.declared.place.Place.TheVariants as place
+use Rattle.json_model.specs.declared.place.Place.TheVariants.{Leaf as a_leaf, Object as an_object, Series as a_series, Unsupported, Unknown}
+use Rattle.json_model.specs.declared.place.Object.{Object}
+use Rattle.json_model.specs.declared.place.Object.TheVariants as object
+use Rattle.json_model.specs.declared.place.Series.{Series}
+use Rattle.json_model.specs.declared.place.Series.TheVariants as series
+use Rattle.json_model.specs.declared.place.Leaf.TheVariants as leaf
+
+-- a name, and what is to stand under it
+abbrev pub Row : Type 0
+Row = List ℕ × Place
+
+-- the place of a name in a table
+abbrev pub placed : List Row → List ℕ → Place
+placed [] name = Unknown
+placed (row ∷ rows) name = if bytes_eq name row.0 then row.1 else placed rows name
 
 -- the kinds of a value
-unfoldable pub value_member : List ℕ → Place
-value_member name =
-    if bytes_eq name (codes "arrayValue") then place.Array
-    else if bytes_eq name (codes "booleanValue") then place.Boolean
-    else if bytes_eq name (codes "bytesValue") then place.Bytes
-    else if bytes_eq name (codes "doubleValue") then place.Unsupported
-    else if bytes_eq name (codes "geoPointValue") then place.Unsupported
-    else if bytes_eq name (codes "integerValue") then place.Integer
-    else if bytes_eq name (codes "mapValue") then place.Map
-    else if bytes_eq name (codes "nullValue") then place.Null
-    else if bytes_eq name (codes "referenceValue") then place.Reference
-    else if bytes_eq name (codes "stringValue") then place.Text
-    else if bytes_eq name (codes "timestampValue") then place.Time
-    else place.Unknown
+unfoldable pub value_rows : List Row
+value_rows =
+    (codes "arrayValue", an_object object.Array) ∷
+    (codes "booleanValue", a_leaf leaf.Boolean) ∷
+    (codes "bytesValue", a_leaf leaf.Bytes) ∷
+    (codes "doubleValue", Unsupported) ∷
+    (codes "geoPointValue", Unsupported) ∷
+    (codes "integerValue", a_leaf leaf.Integer) ∷
+    (codes "mapValue", an_object object.Map) ∷
+    (codes "nullValue", a_leaf leaf.Null) ∷
+    (codes "referenceValue", a_leaf leaf.Reference) ∷
+    (codes "stringValue", a_leaf leaf.Text) ∷
+    (codes "timestampValue", a_leaf leaf.Time) ∷
+    []
 
--- what is to stand under a name in an object at a place
-abbrev pub member_place : Place → List ℕ → Place
-member_place place.Value name = value_member name
-member_place place.Array name = if bytes_eq name (codes "values") then place.Values else place.Unknown
-member_place place.Map name = if bytes_eq name (codes "fields") then place.Fields else place.Unknown
-member_place place.Fields name = place.Value
-member_place _ name = place.Unknown
+-- the lines, by the name of their only member
+unfoldable pub line_rows : List Row
+line_rows =
+    (codes "close", Unsupported) ∷
+    (codes "get", an_object object.GetLine) ∷
+    (codes "listen", Unsupported) ∷
+    (codes "open", Unsupported) ∷
+    (codes "timer", Unsupported) ∷
+    (codes "unlisten", Unsupported) ∷
+    (codes "watch", Unsupported) ∷
+    (codes "write", an_object object.WriteLine) ∷
+    (codes "written", Unsupported) ∷
+    []
+
+-- what `write` holds
+unfoldable pub write_line_rows : List Row
+write_line_rows =
+    (codes "at", a_leaf leaf.Time) ∷
+    (codes "writes", a_series series.PlainWrites) ∷
+    []
+
+-- what `get` holds
+unfoldable pub get_line_rows : List Row
+get_line_rows =
+    (codes "name", a_leaf leaf.Name) ∷
+    []
+
+-- a write of which one of all fields alone is built
+unfoldable pub plain_write_rows : List Row
+plain_write_rows =
+    (codes "currentDocument", Unsupported) ∷
+    (codes "delete", Unsupported) ∷
+    (codes "transform", Unsupported) ∷
+    (codes "update", an_object object.Update) ∷
+    (codes "updateMask", Unsupported) ∷
+    (codes "updateTransforms", Unsupported) ∷
+    []
+
+-- a write
+unfoldable pub write_rows : List Row
+write_rows =
+    (codes "currentDocument", an_object object.Condition) ∷
+    (codes "delete", a_leaf leaf.Name) ∷
+    (codes "transform", Unsupported) ∷
+    (codes "update", an_object object.Update) ∷
+    (codes "updateMask", an_object object.Mask) ∷
+    (codes "updateTransforms", a_series series.Transforms) ∷
+    []
+
+-- a write whose alternative is `delete`: it has no mask and no transforms
+unfoldable pub delete_write_rows : List Row
+delete_write_rows =
+    (codes "currentDocument", an_object object.Condition) ∷
+    (codes "delete", a_leaf leaf.Name) ∷
+    []
+
+-- the alternatives of a write
+unfoldable pub is_write_choice : List ℕ → Bool
+is_write_choice name = bytes_eq name (codes "delete") || (bytes_eq name (codes "transform") || bytes_eq name (codes "update"))
+
+-- what `update` holds
+unfoldable pub update_rows : List Row
+update_rows =
+    (codes "fields", an_object object.Fields) ∷
+    (codes "name", a_leaf leaf.Name) ∷
+    []
+
+-- what `updateMask` holds
+unfoldable pub mask_rows : List Row
+mask_rows =
+    (codes "fieldPaths", a_series series.Paths) ∷
+    []
+
+-- what `currentDocument` holds
+unfoldable pub condition_rows : List Row
+condition_rows =
+    (codes "exists", a_leaf leaf.Boolean) ∷
+    (codes "updateTime", a_leaf leaf.Time) ∷
+    []
+
+-- a transform
+unfoldable pub transform_rows : List Row
+transform_rows =
+    (codes "appendMissingElements", an_object object.Elements) ∷
+    (codes "fieldPath", a_leaf leaf.Path) ∷
+    (codes "increment", an_object object.Operand) ∷
+    (codes "maximum", an_object object.Operand) ∷
+    (codes "minimum", an_object object.Operand) ∷
+    (codes "removeAllFromArray", an_object object.Elements) ∷
+    (codes "setToServerValue", a_leaf leaf.ServerTime) ∷
+    []
+
+-- the operand of an arithmetic transform: a value that is a whole number
+unfoldable pub operand_rows : List Row
+operand_rows =
+    (codes "doubleValue", Unsupported) ∷
+    (codes "integerValue", a_leaf leaf.Integer) ∷
+    []
+
+-- the kind of a value, by its name
+abbrev pub value_member : List ℕ → Place
+value_member name = placed value_rows name
+
+-- what is to stand under a name in an object
+abbrev pub member_place : Object → List ℕ → Place
+member_place object.Value name = placed value_rows name
+member_place object.Array name = if bytes_eq name (codes "values") then a_series series.Values else Unknown
+member_place object.Map name = if bytes_eq name (codes "fields") then an_object object.Fields else Unknown
+member_place object.Fields name = an_object object.Value
+member_place object.Line name = placed line_rows name
+member_place object.WriteLine name = placed write_line_rows name
+member_place object.GetLine name = placed get_line_rows name
+member_place object.PlainWrite name = placed plain_write_rows name
+member_place object.Write name = placed write_rows name
+member_place object.DeleteWrite name = placed delete_write_rows name
+member_place object.Update name = placed update_rows name
+member_place object.Mask name = placed mask_rows name
+member_place object.Condition name = placed condition_rows name
+member_place object.Transform name = placed transform_rows name
+member_place object.ArrayTransform name = placed transform_rows name
+member_place object.Operand name = placed operand_rows name
+member_place object.Elements name = if bytes_eq name (codes "values") then a_series series.Values else Unknown
+
+-- what is to stand in a list
+abbrev pub item_place : Series → Place
+item_place series.Values = an_object object.Value
+item_place series.PlainWrites = an_object object.PlainWrite
+item_place series.Writes = an_object object.Write
+item_place series.Paths = a_leaf leaf.Path
+item_place series.Transforms = an_object object.Transform
+
+abbrev pub is_unknown : Place → Bool
+is_unknown Unknown = true
+is_unknown _ = false
+
+-- the members that an object must have, ascending
+abbrev pub required : Object → List (List ℕ)
+required object.WriteLine = codes "at" ∷ []
+required object.GetLine = codes "name" ∷ []
+required object.Update = codes "name" ∷ []
+required object.Transform = codes "fieldPath" ∷ []
+required object.ArrayTransform = codes "fieldPath" ∷ []
+required _ = []
+
+-- the name is one of these
+abbrev pub is_among : List ℕ → List (List ℕ) → Bool
+is_among name [] = false
+is_among name (one ∷ others) = bytes_eq one name || is_among name others
+
+-- the objects that have exactly one of several members
+abbrev pub chooses : Object → Bool
+chooses object.Value = true
+chooses object.Line = true
+chooses object.PlainWrite = true
+chooses object.Write = true
+chooses object.Condition = true
+chooses object.Transform = true
+chooses object.Operand = true
+chooses _ = false
+
+-- the member is one of them. What isn't supported counts, and in a line and an operand any that would be one elsewhere
+abbrev pub is_choice : Object → List ℕ → Bool
+is_choice object.Value name = not (is_unknown (placed value_rows name))
+is_choice object.Line name = true
+is_choice object.PlainWrite name = is_write_choice name
+is_choice object.Write name = is_write_choice name
+is_choice object.Condition name = not (is_unknown (placed condition_rows name))
+is_choice object.Transform name = not (is_unknown (placed transform_rows name)) && not (bytes_eq name (codes "fieldPath"))
+is_choice object.Operand name = not (is_unknown (placed value_rows name))
+is_choice _ name = false

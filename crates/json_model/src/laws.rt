@@ -1,20 +1,20 @@
 //! Laws of trees and what they spell. Nothing is done when they run.
 
-ghost use Rattle.json_model.specs.Laws.{ATreeSpellsOnce, FaultsAreOne, NoFaultSpells, PrintedFieldsReadBack, ReadHasNamesOnce, SpelledHasNoFault};
+ghost use Rattle.json_model.specs.Laws.{ATreeSpellsOnce, FaultsAreOne, FitsWithoutFaults, NoFaultSpells, PrintedFieldsReadBack, ReadAscends};
+
+/// A tree is of the form exactly where it has no fault.
+pub fn fits_without_faults()
+    ensures { FitsWithoutFaults }
+{}
 
 /// A tree without faults spells a value.
 pub fn no_fault_spells()
     ensures { NoFaultSpells }
 {}
 
-/// A tree that has each name once, and spells a value or fields, has no fault.
-pub fn spelled_has_no_fault()
-    ensures { SpelledHasNoFault }
-{}
-
-/// A tree that is read from a text has each name once.
-pub fn read_has_names_once()
-    ensures { ReadHasNamesOnce }
+/// In a tree that is read from a text the names of each object ascend strictly.
+pub fn read_ascends()
+    ensures { ReadAscends }
 {}
 
 /// What fields print reads back as them, where they can be stored and nest at most 20 deep.
@@ -22,7 +22,7 @@ pub fn printed_fields_read_back()
     ensures { PrintedFieldsReadBack }
 {}
 
-/// A tree that is to spell fields, or to name a document, has one list of faults.
+/// A tree has one list of faults at each place, and as the name of a document.
 pub fn faults_are_one()
     ensures { FaultsAreOne }
 {}

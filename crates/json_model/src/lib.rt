@@ -1,31 +1,52 @@
-//! Values, fields, names and documents in JSON: what a tree spells, the faults of one that spells nothing, and how they
-//! are printed.
+//! JSON trees of messages and lines: what is to stand where, the faults of a tree, what one without faults spells, and how
+//! values and documents are printed.
+//!
+//! A `Place` says what is to stand at a place of a tree: an `Object` or a `Series` that is looked into, or a `Leaf`. The tables
+//! say which members an object has (`table.rt`). `find_fault` walks a tree by them and answers its first fault of the least kind,
+//! `check` the same as a `Result`. What has no fault is taken apart by `clean_object`, `clean_list`, `clean_member`,
+//! `clean_choice` and the readers of leaves, which are total. A new message is some rows of tables and a builder over these.
 #![tactic(auto)]
 
 mod bytes;
+mod clean;
+mod clean_leaves;
 mod document;
 mod fault;
-mod kinds;
 mod laws;
+mod leaves;
 mod members;
 mod names;
 mod numbers;
+mod objects;
 mod place;
 mod printing;
 mod reading;
+mod required;
+mod setting;
 mod side;
+mod table;
 mod texts;
 mod walk;
 
 pub use bytes::{print_bytes, read_bytes};
+pub use clean::{check, clean_choice, clean_list, clean_member, clean_object};
+pub use clean_leaves::{
+    clean_boolean, clean_bytes, clean_integer, clean_name, clean_path, clean_reference, clean_text,
+    clean_time,
+};
 pub use document::print_document;
 pub use fault::{BadName, JsonFault, NamingFault, better};
-pub use laws::{a_tree_spells_once, faults_are_one, no_fault_spells, printed_fields_read_back};
-pub use members::given;
-pub use names::read_name;
+pub use laws::{
+    a_tree_spells_once, faults_are_one, fits_without_faults, no_fault_spells,
+    printed_fields_read_back, read_ascends,
+};
+pub use members::{given, only_choice, refined};
 pub use numbers::{read_integer, read_whole};
-pub use place::{Place, value_member};
+pub use objects::{put_given, put_member, text_tree};
+pub use place::{Leaf, Object, Place, Series};
 pub use printing::{print_fields, print_value};
-pub use reading::{MAX_NESTING, read_fields};
+pub use reading::{MAX_NESTING, clean_fields, clean_value, clean_values, read_fields, read_name};
+pub use setting::Setting;
 pub use side::Side;
+pub use table::value_member;
 pub use walk::find_fault;

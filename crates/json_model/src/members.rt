@@ -1,9 +1,11 @@
-ghost use Rattle.std.specs.Prelude.{◌≡◌, ◌≢◌, [], ◌∷◌, length, MatchOption, option_map};
+ghost use Rattle.std.specs.Prelude.{◌≡◌, ◌≢◌, [], ◌∷◌, length, false, codes, MatchOption, option_map};
 ghost use Rattle.serde_json.specs.Find.{get_member};
 ghost use Rattle.serde_json.specs.View.{view, members_view};
-ghost use Rattle.json_model.specs.Members.{given as given_of, is_vector as is_vector_of, kinds_given, says_kind as says_kind_of};
+ghost use Rattle.json_model.specs.Members.{given as given_of, is_vector_map as is_vector_map_of, is_vector as is_vector_of, is_chosen as is_chosen_of, chosen as chosen_of, is_one_known, lacks_choice as lacks_choice_of, is_of_array as is_of_array_of, refined as refined_of};
+ghost use Rattle.json_model.specs.Places.{member_place as member_place_of, is_unknown as is_unknown_of};
 
-use crate::place::{Place, value_member};
+use crate::place::Object;
+use crate::table::{chooses, is_choice, member_place};
 use serde_json::{Map, Value as Json};
 
 /// The value of the object's member of that name.
@@ -25,7 +27,7 @@ pub fn given<'a>(members: &'a Map<String, Json>, name: &str) -> Option<&'a Json>
 }
 
 /// Whether the map of these members is a vector: one of its fields has the name `__type__`.
-pub(crate) fn is_vector(members: &Map<String, Json>) -> bool
+fn is_vector(members: &Map<String, Json>) -> bool
     ensures { result ≡ is_vector_of (members_view members.now.entries) }
 {
     let Some(json) = given(members, "fields") else {
@@ -37,26 +39,35 @@ pub(crate) fn is_vector(members: &Map<String, Json>) -> bool
     given(fields, "__type__").is_some()
 }
 
-/// Whether the member says of which kind a value is.
-fn says_kind(name: &str, json: &Json) -> bool
-    ensures { result ≡ says_kind_of name.now (view json.now) }
+/// Whether the object is a map, and a vector.
+pub(crate) fn is_vector_map(object: Object, members: &Map<String, Json>) -> bool
+    ensures { result ≡ is_vector_map_of object (members_view members.now.entries) }
 {
-    let place = value_member(name);
-    if place == Place::Unknown {
-        return false;
+    match object {
+        Object::Map => is_vector(members),
+        _ => false,
     }
-    !place.is_left_out(json)
 }
 
-/// The member that says of which kind a value is, with its name, where exactly one does.
-pub fn only_kind(members: &Map<String, Json>) -> Option<(&str, &Json)>
+/// Whether the member is one of the object's alternatives, and isn't left out.
+fn is_chosen(object: Object, name: &str, json: &Json) -> bool
+    ensures { result ≡ is_chosen_of object name.now (view json.now) }
+{
+    if !is_choice(object, name) {
+        return false;
+    }
+    !member_place(object, name).is_left_out(json)
+}
+
+/// The alternative that is given, with its name, where exactly one is.
+fn only_chosen(object: Object, members: &Map<String, Json>) -> Option<(&str, &Json)>
     ensures { MatchOption result
-        (length (kinds_given (members_view members.now.entries)) ≢ 1)
-        (λ kind. kinds_given (members_view members.now.entries) ≡ (kind.0.now, view kind.1.now) ∷ []) }
+        (length (chosen_of object (members_view members.now.entries)) ≢ 1)
+        (λ kind. chosen_of object (members_view members.now.entries) ≡ (kind.0.now, view kind.1.now) ∷ []) }
 {
     let mut only = None;
     for (name, value) in members {
-        if !says_kind(name.as_str(), value) {
+        if !is_chosen(object, name.as_str(), value) {
             continue;
         }
         if only.is_some() {
@@ -65,4 +76,50 @@ pub fn only_kind(members: &Map<String, Json>) -> Option<(&str, &Json)>
         only = Some((name.as_str(), value));
     }
     only
+}
+
+/// The alternative that is given, with its name, where exactly one is and it is known.
+pub fn only_choice(object: Object, members: &Map<String, Json>) -> Option<(&str, &Json)>
+    ensures { MatchOption result
+        (is_one_known object (chosen_of object (members_view members.now.entries)) ≡ false)
+        (λ kind. (chosen_of object (members_view members.now.entries) ≡ (kind.0.now, view kind.1.now) ∷ []) × (is_unknown_of (member_place_of object kind.0.now) ≡ false)) }
+{
+    let Some((name, json)) = only_chosen(object, members) else {
+        return None;
+    };
+    if member_place(object, name).is_unknown() {
+        return None;
+    }
+    Some((name, json))
+}
+
+/// Whether the object must have exactly one of several members, and hasn't.
+pub(crate) fn lacks_choice(object: Object, members: &Map<String, Json>) -> bool
+    ensures { result ≡ lacks_choice_of object (members_view members.now.entries) }
+{
+    if !chooses(object) {
+        return false;
+    }
+    only_choice(object, members).is_none()
+}
+
+/// Whether the transform's alternative is one of an array.
+fn is_of_array(members: &Map<String, Json>) -> bool
+    ensures { result ≡ is_of_array_of (members_view members.now.entries) }
+{
+    if given(members, "appendMissingElements").is_some() {
+        return true;
+    }
+    given(members, "removeAllFromArray").is_some()
+}
+
+/// What object it is by its members.
+pub fn refined(object: Object, members: &Map<String, Json>) -> Object
+    ensures { result ≡ refined_of object (members_view members.now.entries) }
+{
+    match object {
+        Object::Write if given(members, "delete").is_some() => Object::DeleteWrite,
+        Object::Transform if is_of_array(members) => Object::ArrayTransform,
+        _ => object,
+    }
 }

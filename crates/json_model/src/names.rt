@@ -1,21 +1,23 @@
-ghost use Rattle.std.specs.Prelude.{◌≡◌, ◌≢◌, ℕ, [], ◌++◌, ◌∷◌, List, IfOk, IfErr, MatchOption};
-ghost use Rattle.serde_json.specs.View.{view};
+ghost use Rattle.std.specs.Prelude.{◌≡◌, ◌≢◌, ℕ, ◌++◌, ◌∷◌, List, length, ◌↔◌, IsTrue, IfOk, IfErr, MatchOption};
 ghost use Rattle.document_keys.specs.Names.{Root, IsPart, IsSegment, IsRoot, IsKey, name_text};
-ghost use Rattle.document_keys.specs.Paths.{IsFieldName};
-ghost use Rattle.value_model.specs.Storable.{IsStorableName, IsStorableKey};
-ghost use Rattle.json_model.specs.declared.fault.JsonFault.TheVariants as json_fault;
+ghost use Rattle.std.specs.List.{All};
+ghost use Rattle.document_keys.specs.Paths.{IsFieldName, SpellsPath};
+ghost use Rattle.value_model.specs.Storable.{IsStorableName};
 ghost use Rattle.json_model.specs.References.{SpellsReference, IsUnder, HasDocumentFault, HasReferenceFault};
-ghost use Rattle.json_model.specs.Faults.{FirstOf, IsFault, IsNameFault, SpellsName, NameFaults, FieldNameFaults, bad_name as bad_name_of};
+ghost use Rattle.json_model.specs.Faults.{FirstOf, IsFault};
+ghost use Rattle.json_model.specs.Leaves.{IsNameFault, FieldNameFaults, PathFaults, SpellsFieldPath, HasFieldPathFault, HasManyNames, bad_name as bad_name_of};
 
 use crate::fault::{BadName, JsonFault, NamingFault};
-use crate::side::Side;
 use crate::texts::{show_key, show_segment};
 use document_keys::{
-    Database, DocumentKey, FieldFault, NameFault, NoMemory, Segment, Text, check_field_name,
+    Database, DocumentKey, FieldFault, FieldPath, NameFault, NoMemory, Segment, Text,
+    check_field_name,
 };
-use serde_json::Value as Json;
 use std::alloc::Global;
 use value_model::RefName;
+
+/// How many names a path may have.
+const MAX_NAMES: u64 = 21;
 
 /// The fault of a name.
 fn bad_name(alloc: Global, fault: NamingFault, name: &str) -> Result<JsonFault, NoMemory>
@@ -26,7 +28,7 @@ fn bad_name(alloc: Global, fault: NamingFault, name: &str) -> Result<JsonFault, 
 }
 
 /// The key of the document whose name under the root is the text.
-fn read_key(alloc: Global, root: &Database, text: &str) -> Result<DocumentKey, JsonFault>
+pub(crate) fn read_key(alloc: Global, root: &Database, text: &str) -> Result<DocumentKey, JsonFault>
     ensures key { IfOk result (λ key. IsKey key × (text.now ≡ name_text root.now key)) }
     ensures fault { IfErr result (λ fault. IsNameFault (HasDocumentFault root.now text.now) text.now fault) }
 {
@@ -133,36 +135,6 @@ pub fn read_reference(alloc: Global, text: &str) -> Result<RefName, JsonFault>
     })
 }
 
-/// The key of the document that the tree names under the root. Both sides write names alike. The tree then has no fault as a
-/// name.
-///
-/// # Errors
-/// `BadShape` of `name` where the tree is no text, `BadName` as `DocumentKey::read` says: the tree then names no document
-/// under the root. Or `NoMemory`.
-pub fn read_name(
-    alloc: Global,
-    root: &Database,
-    _side: Side,
-    json: &Json,
-) -> Result<DocumentKey, JsonFault>
-    ensures name { IfOk result (λ key. SpellsName root.now (view json.now) key) }
-    ensures storable { IfOk result IsStorableKey }
-    ensures fault { IfErr result (λ fault. IsFault (NameFaults root.now (view json.now)) fault) }
-    ensures clean { IfOk result (λ _. NameFaults root.now (view json.now) []) }
-    ensures names_none { IfErr result (λ fault. fault ≢ json_fault.NoMemory → (key : List (List ℕ)) → ¬ (SpellsName root.now (view json.now) key)) }
-{
-    let Some(text) = json.as_str() else {
-        return Err(JsonFault::BadShape(Text::from_str(alloc, "name")?));
-    };
-    match read_key(alloc, root, text) {
-        Ok(key) => {
-            show_key(&key);
-            Ok(key)
-        }
-        Err(fault) => Err(fault),
-    }
-}
-
 /// The fault of a field's name.
 pub(crate) fn find_in_field_name(alloc: Global, name: &str) -> Result<Option<JsonFault>, NoMemory>
     ensures { IfOk result (λ found. FirstOf (FieldNameFaults name.now) found) }
@@ -177,4 +149,61 @@ pub(crate) fn find_in_field_name(alloc: Global, name: &str) -> Result<Option<Jso
         )?)),
         Err(FieldFault::NoMemory) => Err(NoMemory),
     }
+}
+
+/// How many names the text has as a path, where it is of the form of one.
+pub(crate) fn count_names(alloc: Global, text: &str) -> Result<Option<u64>, NoMemory>
+    ensures { IfOk result (λ found. MatchOption found
+        ((names : List (List ℕ)) → ¬ (SpellsPath text.now names))
+        (λ count. (names : List (List ℕ)) × (SpellsPath text.now names × (length names ≡ count)))) }
+{
+    match FieldPath::count(alloc, text) {
+        Ok(count) => Ok(Some(count)),
+        Err(FieldFault::NoMemory) => Err(NoMemory),
+        Err(_) => Ok(None),
+    }
+}
+
+/// Whether the text has more names than a path may have. One that isn't of the form of a path has none.
+fn has_many_names(alloc: Global, text: &str) -> Result<bool, NoMemory>
+    ensures { IfOk result (λ is. IsTrue is ↔ HasManyNames text.now) }
+{
+    match count_names(alloc, text)? {
+        Some(count) => Ok(count > MAX_NAMES),
+        None => Ok(false),
+    }
+}
+
+/// The path of a field of a document that the text spells, whatever the number of its names.
+fn read_names(alloc: Global, text: &str) -> Result<FieldPath, JsonFault>
+    ensures path { IfOk result (λ path. SpellsPath text.now path × All IsFieldName path) }
+    ensures fault { IfErr result (λ fault. IsNameFault (HasFieldPathFault text.now) text.now fault) }
+{
+    match FieldPath::read(alloc, text) {
+        Ok(path) => {
+            if path.is_document_name() {
+                return Err(bad_name(alloc, NamingFault::ReservedField, text)?);
+            }
+            let _count = path.len();
+            Ok(path)
+        }
+        Err(FieldFault::BadPath) => Err(bad_name(alloc, NamingFault::BadPath, text)?),
+        Err(FieldFault::ReservedField) => Err(bad_name(alloc, NamingFault::ReservedField, text)?),
+        Err(FieldFault::NoMemory) => Err(JsonFault::NoMemory),
+    }
+}
+
+/// The path of a field in a write.
+///
+/// # Errors
+/// `TooDeep` where the text has more than 21 names; else `BadName`: `BadPath` where it isn't of the form of a path or a name
+/// doesn't have 1 to 1,500 bytes, `ReservedField` where a name is of the form `__.*__`; or `NoMemory`.
+pub(crate) fn read_path(alloc: Global, text: &str) -> Result<FieldPath, JsonFault>
+    ensures path { IfOk result (λ path. SpellsFieldPath text.now path) }
+    ensures fault { IfErr result (λ fault. IsFault (PathFaults text.now) fault) }
+{
+    if has_many_names(alloc, text)? {
+        return Err(JsonFault::TooDeep);
+    }
+    read_names(alloc, text)
 }

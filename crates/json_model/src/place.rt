@@ -1,23 +1,84 @@
 ghost use Rattle.std.specs.Prelude.{◌≡◌};
-ghost use Rattle.json_model.specs.Places.{value_member as value_member_of, member_place as member_place_of};
-ghost use Rattle.json_model.specs.Members.{is_left_out};
 ghost use Rattle.serde_json.specs.View.{view};
+ghost use Rattle.json_model.specs.Members.{is_left_out, takes_null as takes_null_of};
+ghost use Rattle.json_model.specs.Places.{is_unknown as is_unknown_of};
 
 use serde_json::Value as Json;
 
 /// What is to stand at a place of a tree.
 #[derive(Clone, Copy, Debug, PartialEq, Eq)]
 pub enum Place {
-    /// A value: an object with one member that names its kind.
+    /// An object.
+    Object(Object),
+    /// A list.
+    Series(Series),
+    /// A tree that isn't looked into.
+    Leaf(Leaf),
+    /// Whatever stands under a name that isn't supported.
+    Unsupported,
+    /// Whatever stands under a name that isn't known.
+    Unknown,
+    /// What is read over.
+    Ignored,
+}
+
+/// An object, by the names that it may have.
+#[derive(Clone, Copy, Debug, PartialEq, Eq)]
+pub enum Object {
+    /// A value: one member that names its kind.
     Value,
-    /// What `arrayValue` holds: an object with a list `values`.
+    /// What `arrayValue` holds: a list `values`.
     Array,
-    /// The list of an array's values.
-    Values,
-    /// What `mapValue` holds: an object with an object `fields`.
+    /// What `mapValue` holds: an object `fields`.
     Map,
-    /// An object whose members are values.
+    /// Values, each under the name of a field.
     Fields,
+    /// A line: one member that names it.
+    Line,
+    /// What `write` holds.
+    WriteLine,
+    /// What `get` holds.
+    GetLine,
+    /// A write of which an update of all fields alone is built.
+    PlainWrite,
+    /// A write: an update, or by its members a `DeleteWrite`.
+    Write,
+    /// A write that deletes.
+    DeleteWrite,
+    /// What `update` holds.
+    Update,
+    /// What `updateMask` holds.
+    Mask,
+    /// What `currentDocument` holds.
+    Condition,
+    /// A transform, or by its members an `ArrayTransform`.
+    Transform,
+    /// A transform of an array, whose elements stand below its path.
+    ArrayTransform,
+    /// The operand of an arithmetic transform: a value that is a whole number.
+    Operand,
+    /// The elements of a transform of an array.
+    Elements,
+}
+
+/// A list, by its items.
+#[derive(Clone, Copy, Debug, PartialEq, Eq)]
+pub enum Series {
+    /// Values.
+    Values,
+    /// Writes of which an update of all fields alone is built.
+    PlainWrites,
+    /// Writes.
+    Writes,
+    /// Paths of fields.
+    Paths,
+    /// Transforms.
+    Transforms,
+}
+
+/// A tree that isn't looked into.
+#[derive(Clone, Copy, Debug, PartialEq, Eq)]
+pub enum Leaf {
     /// What `nullValue` holds.
     Null,
     /// true or false.
@@ -32,54 +93,42 @@ pub enum Place {
     Bytes,
     /// The name of a document of any database.
     Reference,
-    /// Whatever stands under a name that isn't supported.
-    Unsupported,
-    /// Whatever stands under a name that isn't known.
-    Unknown,
-}
-
-/// The place of a value's member of that name.
-#[tactic(auto, unfolding(crate::specs::Places::value_member))]
-pub fn value_member(name: &str) -> Place
-    ensures { result ≡ value_member_of name.now }
-{
-    match name {
-        "arrayValue" => Place::Array,
-        "booleanValue" => Place::Boolean,
-        "bytesValue" => Place::Bytes,
-        "doubleValue" => Place::Unsupported,
-        "geoPointValue" => Place::Unsupported,
-        "integerValue" => Place::Integer,
-        "mapValue" => Place::Map,
-        "nullValue" => Place::Null,
-        "referenceValue" => Place::Reference,
-        "stringValue" => Place::Text,
-        "timestampValue" => Place::Time,
-        _ => Place::Unknown,
-    }
-}
-
-/// The place of the member of that name of an object at the place.
-pub fn member_place(place: Place, name: &str) -> Place
-    ensures { result ≡ member_place_of place name.now }
-{
-    match place {
-        Place::Value => value_member(name),
-        Place::Array if name == "values" => Place::Values,
-        Place::Map if name == "fields" => Place::Fields,
-        Place::Fields => Place::Value,
-        _ => Place::Unknown,
-    }
+    /// The name of a document.
+    Name,
+    /// The path of a field in a write.
+    Path,
+    /// The text that stands for the time at which the backend commits.
+    ServerTime,
 }
 
 impl Place {
+    /// Whether null may stand there.
+    fn takes_null(self) -> bool
+        ensures { result ≡ takes_null_of self }
+    {
+        match self {
+            Place::Leaf(Leaf::Null) => true,
+            _ => false,
+        }
+    }
+
     /// Whether the member is left out: its value is null, and null isn't what is to stand there.
     pub fn is_left_out(self, json: &Json) -> bool
         ensures { result ≡ is_left_out self (view json.now) }
     {
+        if self.takes_null() {
+            return false;
+        }
+        json.is_null()
+    }
+
+    /// Whether it is that of a name that isn't known.
+    pub fn is_unknown(self) -> bool
+        ensures { result ≡ is_unknown_of self }
+    {
         match self {
-            Place::Null => false,
-            _ => json.is_null(),
+            Place::Unknown => true,
+            _ => false,
         }
     }
 }

@@ -1,386 +1,321 @@
 //! The values and fields that trees spell.
 
-ghost use Rattle.std.specs.Prelude.{◌≡◌, ◌≢◌, ◌≤◌, [], List, None, IsTrue, ◌↔◌, IfOk, IfErr, IfSome, MatchOption};
-ghost use Rattle.serde_json.specs.View.{view, items_view, members_view};
-ghost use Rattle.document_keys.specs.Paths.{IsFieldName};
-ghost use Rattle.value_model.specs.Data.{Data as ValueData, Entries, items_of, entries_depth};
-ghost use Rattle.value_model.specs.Storable.{IsStorable, AreStorableItems, AreStorable};
+ghost use Rattle.std.specs.Prelude.{◌≡◌, ◌≢◌, ◌≤◌, ◌⊎◌, ℕ, List, [], true, Some, Ok, Err, IfOk, IfErr};
+ghost use Rattle.serde_json.specs.View.{view};
+ghost use Rattle.value_model.specs.Data.{Entries, items_of, entries_depth};
+ghost use Rattle.value_model.specs.Storable.{IsStorable, AreStorableItems, AreStorable, IsStorableKey};
 ghost use Rattle.json_model.specs.declared.place.Place.TheVariants as places;
+ghost use Rattle.json_model.specs.declared.place.Leaf.TheVariants as leaves;
+ghost use Rattle.json_model.specs.declared.place.Object.TheVariants as objects;
+ghost use Rattle.json_model.specs.declared.place.Series.TheVariants as serieses;
 ghost use Rattle.json_model.specs.declared.fault.JsonFault.TheVariants as json_fault;
-ghost use Rattle.json_model.specs.Grammar.{are_known as are_known_of, is_strange as is_strange_of, none_strange as none_strange_of, SpellsScalar, SpellsValue, SpellsKind, SpellsItems, SpellsMembers, SpellsFields, FieldsFaults, max_nesting};
-ghost use Rattle.json_model.specs.Faults.{IsFault};
-ghost use Rattle.json_model.specs.NamesOnce.{HasNamesOnce};
+ghost use Rattle.json_model.specs.Clean.{IsClean};
+ghost use Rattle.json_model.specs.Faults.{IsFault, FieldsFaults, NameFaults, max_nesting};
+ghost use Rattle.json_model.specs.Grammar.{SpellsScalar, SpellsValue, SpellsKind, SpellsList, SpellsFields, SpellsName, is_scalar, is_kind};
+ghost use Rattle.json_model.specs.Printed.{printed_fields};
 
-use crate::bytes::read_bytes;
+use crate::clean::{check, clean_choice, clean_list, clean_member, clean_object};
+use crate::clean_leaves::{
+    clean_boolean, clean_bytes, clean_integer, clean_name, clean_reference, clean_text, clean_time,
+};
 use crate::fault::JsonFault;
-use crate::kinds::is_null_tree;
-use crate::members::{given, is_vector, only_kind};
-use crate::names::read_reference;
-use crate::numbers::read_whole;
-use crate::place::{Place, member_place, value_member};
+use crate::place::{Leaf, Object, Place, Series};
+use crate::setting::Setting;
 use crate::side::Side;
+use crate::table::value_member;
 use crate::texts::show_text;
-use crate::walk::find_fault;
-use document_keys::{Database, NoMemory, Text, check_field_name};
+use document_keys::{Database, DocumentKey, NoMemory, Text};
 use serde_json::{Map, Value as Json};
 use std::alloc::Global;
-use value_model::{Bytes, Fields, Kind, Timestamp, Value};
+use value_model::{Bytes, Fields, Kind, Value};
 
 /// How many arrays and maps may nest in a field's value.
 pub const MAX_NESTING: u64 = 20;
 
-/// Whether the member isn't known, and isn't left out.
-fn is_strange(place: Place, name: &str, json: &Json) -> bool
-    ensures { result ≡ is_strange_of place name.now (view json.now) }
+fn build_null(_setting: &Setting<'_>, _json: &Json) -> Value
+    requires { IsClean _setting.now (places.Leaf leaves.Null) (view _json.now) }
+    ensures found { SpellsScalar leaves.Null (view _json.now) result }
+    ensures storable { IsStorable result }
 {
-    if json.is_null() {
-        return false;
-    }
-    member_place(place, name) == Place::Unknown
+    Value { kind: Kind::Null }
 }
 
-fn none_strange(place: Place, members: &Map<String, Json>) -> bool
-    ensures { result ≡ none_strange_of place (members_view members.now.entries) }
+fn build_boolean(setting: &Setting<'_>, json: &Json) -> Value
+    requires { IsClean setting.now (places.Leaf leaves.Boolean) (view json.now) }
+    ensures found { SpellsScalar leaves.Boolean (view json.now) result }
+    ensures storable { IsStorable result }
 {
-    for (name, member) in members {
-        if is_strange(place, name.as_str(), member) {
-            return false;
-        }
-    }
-    true
-}
-
-/// Whether the members are known, as far as the side must know its members.
-fn are_known(side: Side, place: Place, members: &Map<String, Json>) -> bool
-    ensures { result ≡ are_known_of side place (members_view members.now.entries) }
-{
-    match side {
-        Side::Caller => none_strange(place, members),
-        Side::Backend => true,
-    }
-}
-
-fn build_null(json: &Json) -> Option<Value>
-    ensures found { MatchOption result ((v : ValueData) → ¬ (SpellsScalar places.Null (view json.now) v)) (λ v. SpellsScalar places.Null (view json.now) v) }
-    ensures storable { IfSome result IsStorable }
-{
-    if is_null_tree(json) {
-        return Some(Value { kind: Kind::Null });
-    }
-    None
-}
-
-fn build_boolean(json: &Json) -> Option<Value>
-    ensures found { MatchOption result ((v : ValueData) → ¬ (SpellsScalar places.Boolean (view json.now) v)) (λ v. SpellsScalar places.Boolean (view json.now) v) }
-    ensures storable { IfSome result IsStorable }
-{
-    let is = json.as_bool()?;
-    Some(Value {
+    let is = clean_boolean(setting, json);
+    Value {
         kind: Kind::Boolean(is),
-    })
+    }
 }
 
-fn build_integer(alloc: Global, json: &Json) -> Result<Option<Value>, NoMemory>
-    ensures found { IfOk result (λ found. MatchOption found ((v : ValueData) → ¬ (SpellsScalar places.Integer (view json.now) v)) (λ v. SpellsScalar places.Integer (view json.now) v)) }
-    ensures storable { IfOk result (λ found. IfSome found IsStorable) }
+fn build_time(setting: &Setting<'_>, json: &Json) -> Value
+    requires { IsClean setting.now (places.Leaf leaves.Time) (view json.now) }
+    ensures found { SpellsScalar leaves.Time (view json.now) result }
+    ensures storable { IsStorable result }
 {
-    let Some(number) = read_whole(alloc, json)? else {
-        return Ok(None);
-    };
-    Ok(Some(Value {
-        kind: Kind::Integer(number),
-    }))
-}
-
-fn build_time(json: &Json) -> Option<Value>
-    ensures found { MatchOption result ((v : ValueData) → ¬ (SpellsScalar places.Time (view json.now) v)) (λ v. SpellsScalar places.Time (view json.now) v) }
-    ensures storable { IfSome result IsStorable }
-{
-    let Some(text) = json.as_str() else {
-        return None;
-    };
-    let Some(time) = Timestamp::read(text) else {
-        return None;
-    };
-    Some(Value {
+    let time = clean_time(setting, json);
+    Value {
         kind: Kind::Time(time),
+    }
+}
+
+fn build_integer(alloc: Global, setting: &Setting<'_>, json: &Json) -> Result<Value, NoMemory>
+    requires { IsClean setting.now (places.Leaf leaves.Integer) (view json.now) }
+    ensures found { IfOk result (λ v. SpellsScalar leaves.Integer (view json.now) v) }
+    ensures storable { IfOk result IsStorable }
+{
+    let number = clean_integer(alloc, setting, json)?;
+    Ok(Value {
+        kind: Kind::Integer(number),
     })
 }
 
-fn build_text(alloc: Global, json: &Json) -> Result<Option<Value>, NoMemory>
-    ensures found { IfOk result (λ found. MatchOption found ((v : ValueData) → ¬ (SpellsScalar places.Text (view json.now) v)) (λ v. SpellsScalar places.Text (view json.now) v)) }
-    ensures storable { IfOk result (λ found. IfSome found IsStorable) }
+fn build_text(alloc: Global, setting: &Setting<'_>, json: &Json) -> Result<Value, NoMemory>
+    requires { IsClean setting.now (places.Leaf leaves.Text) (view json.now) }
+    ensures found { IfOk result (λ v. SpellsScalar leaves.Text (view json.now) v) }
+    ensures storable { IfOk result IsStorable }
 {
-    let Some(text) = json.as_str() else {
-        return Ok(None);
-    };
+    let text = clean_text(setting, json);
     show_text(text);
     let text = Text::from_str(alloc, text)?;
-    Ok(Some(Value {
+    Ok(Value {
         kind: Kind::Text(text),
-    }))
+    })
 }
 
-fn build_bytes(alloc: Global, json: &Json) -> Result<Option<Value>, NoMemory>
-    ensures found { IfOk result (λ found. MatchOption found ((v : ValueData) → ¬ (SpellsScalar places.Bytes (view json.now) v)) (λ v. SpellsScalar places.Bytes (view json.now) v)) }
-    ensures storable { IfOk result (λ found. IfSome found IsStorable) }
+fn build_bytes(alloc: Global, setting: &Setting<'_>, json: &Json) -> Result<Value, NoMemory>
+    requires { IsClean setting.now (places.Leaf leaves.Bytes) (view json.now) }
+    ensures found { IfOk result (λ v. SpellsScalar leaves.Bytes (view json.now) v) }
+    ensures storable { IfOk result IsStorable }
 {
-    let Some(text) = json.as_str() else {
-        return Ok(None);
-    };
-    let Some(bytes) = read_bytes(alloc, text)? else {
-        return Ok(None);
-    };
-    Ok(Some(Value {
+    let bytes = clean_bytes(alloc, setting, json)?;
+    Ok(Value {
         kind: Kind::Bytes(Bytes::from_vec(bytes)),
-    }))
+    })
 }
 
-/// Nothing, unless the fault is want of memory.
-fn none_unless_memory(fault: JsonFault) -> Result<Option<Value>, NoMemory>
-    ensures found { IfOk result (λ found. (found ≡ None) × (fault ≢ json_fault.NoMemory)) }
-    ensures storable { IfOk result (λ found. IfSome found IsStorable) }
+fn build_reference(alloc: Global, setting: &Setting<'_>, json: &Json) -> Result<Value, NoMemory>
+    requires { IsClean setting.now (places.Leaf leaves.Reference) (view json.now) }
+    ensures found { IfOk result (λ v. SpellsScalar leaves.Reference (view json.now) v) }
+    ensures storable { IfOk result IsStorable }
 {
-    match fault {
-        JsonFault::NoMemory => Err(NoMemory),
-        _ => Ok(None),
-    }
+    let name = clean_reference(alloc, setting, json)?;
+    Ok(Value {
+        kind: Kind::Reference(name),
+    })
 }
 
-fn build_reference(alloc: Global, json: &Json) -> Result<Option<Value>, NoMemory>
-    ensures found { IfOk result (λ found. MatchOption found ((v : ValueData) → ¬ (SpellsScalar places.Reference (view json.now) v)) (λ v. SpellsScalar places.Reference (view json.now) v)) }
-    ensures storable { IfOk result (λ found. IfSome found IsStorable) }
-{
-    let Some(text) = json.as_str() else {
-        return Ok(None);
-    };
-    match read_reference(alloc, text) {
-        Ok(name) => Ok(Some(Value {
-            kind: Kind::Reference(name),
-        })),
-        Err(fault) => none_unless_memory(fault),
-    }
-}
-
-/// The scalar of the kind that stands at the place.
-fn build_scalar(alloc: Global, place: Place, json: &Json) -> Result<Option<Value>, NoMemory>
-    ensures found { IfOk result (λ found. MatchOption found ((v : ValueData) → ¬ (SpellsScalar place (view json.now) v)) (λ v. SpellsScalar place (view json.now) v)) }
-    ensures storable { IfOk result (λ found. IfSome found IsStorable) }
-{
-    match place {
-        Place::Null => Ok(build_null(json)),
-        Place::Boolean => Ok(build_boolean(json)),
-        Place::Integer => build_integer(alloc, json),
-        Place::Time => Ok(build_time(json)),
-        Place::Text => build_text(alloc, json),
-        Place::Bytes => build_bytes(alloc, json),
-        Place::Reference => build_reference(alloc, json),
-        _ => Ok(None),
-    }
-}
-
-fn is_field_name(name: &str) -> bool
-    ensures { IsTrue result ↔ IsFieldName name.now }
-{
-    match check_field_name(name) {
-        Ok(()) => true,
-        Err(_) => false,
-    }
-}
-
-/// The value that a tree spells, in which at most so many arrays and maps nest; or `None` where it spells none.
-#[cycle(build)]
-pub(crate) fn build_value(
+/// The scalar of that kind.
+fn build_scalar(
     alloc: Global,
-    side: Side,
-    limit: u64,
+    setting: &Setting<'_>,
+    leaf: Leaf,
     json: &Json,
-) -> Result<Option<Value>, NoMemory>
-    ensures found { IfOk result (λ found. MatchOption found ((v : ValueData) → ¬ (SpellsValue side limit (view json.now) v)) (λ v. SpellsValue side limit (view json.now) v)) }
-    ensures storable { IfOk result (λ found. IfSome found IsStorable) }
+) -> Result<Value, NoMemory>
+    requires scalar { is_scalar leaf ≡ true }
+    requires clean { IsClean setting.now (places.Leaf leaf) (view json.now) }
+    ensures found { IfOk result (λ v. SpellsScalar leaf (view json.now) v) }
+    ensures storable { IfOk result IsStorable }
 {
-    let Some(members) = json.as_object() else {
-        return Ok(None);
-    };
-    let Some((name, kind)) = only_kind(members) else {
-        return Ok(None);
-    };
-    if !are_known(side, Place::Value, members) {
-        return Ok(None);
+    match leaf {
+        Leaf::Null => Ok(build_null(setting, json)),
+        Leaf::Boolean => Ok(build_boolean(setting, json)),
+        Leaf::Integer => build_integer(alloc, setting, json),
+        Leaf::Time => Ok(build_time(setting, json)),
+        Leaf::Text => build_text(alloc, setting, json),
+        Leaf::Bytes => build_bytes(alloc, setting, json),
+        Leaf::Reference => build_reference(alloc, setting, json),
+        Leaf::Name | Leaf::Path | Leaf::ServerTime => unreachable!(),
     }
-    build_kind(alloc, side, limit, value_member(name), kind)
+}
+
+/// The value that a tree without faults spells.
+///
+/// # Errors
+/// `NoMemory`
+#[cycle(build)]
+pub fn clean_value(alloc: Global, setting: &Setting<'_>, json: &Json) -> Result<Value, NoMemory>
+    requires { IsClean setting.now (places.Object objects.Value) (view json.now) }
+    ensures value { IfOk result (λ v. SpellsValue (view json.now) v) }
+    ensures storable { IfOk result IsStorable }
+{
+    let members = clean_object(setting, Object::Value, json);
+    let (name, inner) = clean_choice(setting, Object::Value, members);
+    build_kind(alloc, setting, value_member(name), inner)
 }
 
 /// The value that stands under the name of its kind.
 #[cycle(build)]
 fn build_kind(
     alloc: Global,
-    side: Side,
-    limit: u64,
+    setting: &Setting<'_>,
     place: Place,
     json: &Json,
-) -> Result<Option<Value>, NoMemory>
-    ensures found { IfOk result (λ found. MatchOption found ((v : ValueData) → ¬ (SpellsKind side limit place (view json.now) v)) (λ v. SpellsKind side limit place (view json.now) v)) }
-    ensures storable { IfOk result (λ found. IfSome found IsStorable) }
+) -> Result<Value, NoMemory>
+    requires kind { is_kind place ≡ true }
+    requires clean { IsClean setting.now place (view json.now) }
+    ensures found { IfOk result (λ v. SpellsKind place (view json.now) v) }
+    ensures storable { IfOk result IsStorable }
 {
     match place {
-        Place::Array => build_array(alloc, side, limit, json),
-        Place::Map => build_map(alloc, side, limit, json),
-        _ => build_scalar(alloc, place, json),
+        Place::Object(object) => build_nested(alloc, setting, object, json),
+        Place::Leaf(leaf) => build_scalar(alloc, setting, leaf, json),
+        _ => unreachable!(),
+    }
+}
+
+/// The array or the map that stands under the name of its kind.
+#[cycle(build)]
+fn build_nested(
+    alloc: Global,
+    setting: &Setting<'_>,
+    object: Object,
+    json: &Json,
+) -> Result<Value, NoMemory>
+    requires kind { is_kind (places.Object object) ≡ true }
+    requires clean { IsClean setting.now (places.Object object) (view json.now) }
+    ensures found { IfOk result (λ v. SpellsKind (places.Object object) (view json.now) v) }
+    ensures storable { IfOk result IsStorable }
+{
+    match object {
+        Object::Array => build_array(alloc, setting, json),
+        Object::Map => build_map(alloc, setting, json),
+        _ => unreachable!(),
     }
 }
 
 /// The array that stands under `arrayValue`.
 #[cycle(build)]
-fn build_array(
-    alloc: Global,
-    side: Side,
-    limit: u64,
-    json: &Json,
-) -> Result<Option<Value>, NoMemory>
-    ensures found { IfOk result (λ found. MatchOption found ((v : ValueData) → ¬ (SpellsKind side limit places.Array (view json.now) v)) (λ v. SpellsKind side limit places.Array (view json.now) v)) }
-    ensures storable { IfOk result (λ found. IfSome found IsStorable) }
+fn build_array(alloc: Global, setting: &Setting<'_>, json: &Json) -> Result<Value, NoMemory>
+    requires { IsClean setting.now (places.Object objects.Array) (view json.now) }
+    ensures found { IfOk result (λ v. SpellsKind (places.Object objects.Array) (view json.now) v) }
+    ensures storable { IfOk result IsStorable }
 {
-    if limit == 0 {
-        return Ok(None);
-    }
-    let Some(members) = json.as_object() else {
-        return Ok(None);
+    let members = clean_object(setting, Object::Array, json);
+    let Some(list) = clean_member(setting, Object::Array, members, "values") else {
+        return Ok(Value::array(Vec::new(alloc)));
     };
-    if !are_known(side, Place::Array, members) {
-        return Ok(None);
-    }
-    let Some(list) = given(members, "values") else {
-        return Ok(Some(Value::array(Vec::new(alloc))));
-    };
-    let Some(items) = list.as_array() else {
-        return Ok(None);
-    };
-    let Some(values) = build_items(alloc, side, limit - 1, items)? else {
-        return Ok(None);
-    };
-    Ok(Some(Value::array(values)))
+    let values = clean_values(alloc, setting, list)?;
+    Ok(Value::array(values))
 }
 
-/// The values of a list.
+/// The values of a list without faults.
+///
+/// # Errors
+/// `NoMemory`
 #[cycle(build)]
-fn build_items(
+pub fn clean_values(
     alloc: Global,
-    side: Side,
-    limit: u64,
-    items: &Vec<Json>,
-) -> Result<Option<Vec<Value>>, NoMemory>
-    ensures found { IfOk result (λ found. MatchOption found ((vs : List ValueData) → ¬ (SpellsItems side limit (items_view items.now.items) vs)) (λ vs. SpellsItems side limit (items_view items.now.items) vs.items)) }
-    ensures storable { IfOk result (λ found. IfSome found (λ vs. AreStorableItems (items_of vs.items))) }
+    setting: &Setting<'_>,
+    json: &Json,
+) -> Result<Vec<Value>, NoMemory>
+    requires { IsClean setting.now (places.Series serieses.Values) (view json.now) }
+    ensures values { IfOk result (λ vs. SpellsList (Some (view json.now)) vs.items) }
+    ensures storable { IfOk result (λ vs. AreStorableItems (items_of vs.items)) }
 {
+    let items = clean_list(setting, Series::Values, json);
     let mut values = Vec::new(alloc);
     for item in items {
-        let Some(value) = build_value(alloc, side, limit, item)? else {
-            return Ok(None);
-        };
+        let value = clean_value(alloc, setting, item)?;
         values.push(value)?;
     }
-    Ok(Some(values))
+    Ok(values)
 }
 
 /// The map that stands under `mapValue`.
 #[cycle(build)]
-fn build_map(alloc: Global, side: Side, limit: u64, json: &Json) -> Result<Option<Value>, NoMemory>
-    ensures found { IfOk result (λ found. MatchOption found ((v : ValueData) → ¬ (SpellsKind side limit places.Map (view json.now) v)) (λ v. SpellsKind side limit places.Map (view json.now) v)) }
-    ensures storable { IfOk result (λ found. IfSome found IsStorable) }
+fn build_map(alloc: Global, setting: &Setting<'_>, json: &Json) -> Result<Value, NoMemory>
+    requires { IsClean setting.now (places.Object objects.Map) (view json.now) }
+    ensures found { IfOk result (λ v. SpellsKind (places.Object objects.Map) (view json.now) v) }
+    ensures storable { IfOk result IsStorable }
 {
-    if limit == 0 {
-        return Ok(None);
-    }
-    let Some(members) = json.as_object() else {
-        return Ok(None);
+    let members = clean_object(setting, Object::Map, json);
+    let Some(object) = clean_member(setting, Object::Map, members, "fields") else {
+        return Ok(Value::map(Fields::new(alloc)));
     };
-    if is_vector(members) {
-        return Ok(None);
-    }
-    if !are_known(side, Place::Map, members) {
-        return Ok(None);
-    }
-    let Some(object) = given(members, "fields") else {
-        return Ok(Some(Value::map(Fields::new(alloc))));
-    };
-    let Some(members) = object.as_object() else {
-        return Ok(None);
-    };
-    let Some(fields) = build_fields(alloc, side, limit - 1, members)? else {
-        return Ok(None);
-    };
-    Ok(Some(Value::map(fields)))
+    let fields = clean_fields(alloc, setting, object)?;
+    Ok(Value::map(fields))
 }
 
-/// The fields that the members of an object spell.
+/// The fields that a tree without faults spells.
+///
+/// # Errors
+/// `NoMemory`
 #[cycle(build)]
-pub(crate) fn build_fields(
-    alloc: Global,
-    side: Side,
-    limit: u64,
-    members: &Map<String, Json>,
-) -> Result<Option<Fields>, NoMemory>
-    ensures found { IfOk result (λ found. MatchOption found ((es : Entries) → ¬ (SpellsMembers side limit (members_view members.now.entries) [] es)) (λ es. SpellsMembers side limit (members_view members.now.entries) [] es)) }
-    ensures storable { IfOk result (λ found. IfSome found AreStorable) }
+pub fn clean_fields(alloc: Global, setting: &Setting<'_>, json: &Json) -> Result<Fields, NoMemory>
+    requires { IsClean setting.now (places.Object objects.Fields) (view json.now) }
+    ensures fields { IfOk result (λ fields. SpellsFields (view json.now) fields) }
+    ensures storable { IfOk result AreStorable }
 {
+    let members = clean_object(setting, Object::Fields, json);
     let mut fields = Fields::new(alloc);
     for (key, member) in members {
         if member.is_null() {
             continue;
         }
         let name = key.as_str();
-        if !is_field_name(name) {
-            return Ok(None);
-        }
-        let Some(value) = build_value(alloc, side, limit, member)? else {
-            return Ok(None);
-        };
+        let value = clean_value(alloc, setting, member)?;
         show_text(name);
         let name = Text::from_str(alloc, name)?;
         fields.put(alloc, name, value)?;
     }
     let _count = fields.len();
-    Ok(Some(fields))
-}
-
-/// The fields that a tree spells.
-fn build_tree(alloc: Global, side: Side, json: &Json) -> Result<Option<Fields>, NoMemory>
-    ensures found { IfOk result (λ found. MatchOption found ((es : Entries) → ¬ (SpellsFields side (view json.now) es)) (λ es. SpellsFields side (view json.now) es)) }
-    ensures storable { IfOk result (λ found. IfSome found AreStorable) }
-{
-    let Some(members) = json.as_object() else {
-        return Ok(None);
-    };
-    build_fields(alloc, side, MAX_NESTING, members)
+    Ok(fields)
 }
 
 /// The fields that the tree spells: an object of values, in each of which at most 20 arrays and maps nest. References name
-/// documents of any database. The tree then has no fault.
+/// documents of any database. The tree then has no fault. Of the printed tree of fields that can be stored, these.
 ///
 /// # Errors
 /// The first fault of the least kind, in the walk through the tree: members in byte order of their names, lists in order. A
-/// wrong shape of the tree itself names `fields`. Where each name stands once, as in every tree that is read from a text, a
-/// tree with a fault spells no fields. Or `NoMemory`.
+/// wrong shape of the tree itself names `fields`. Or `NoMemory`.
 pub fn read_fields(
     alloc: Global,
-    _root: &Database,
+    root: &Database,
     side: Side,
     json: &Json,
 ) -> Result<Fields, JsonFault>
-    ensures fields { IfOk result (λ fields. SpellsFields side (view json.now) fields) }
+    ensures fields { IfOk result (λ fields. SpellsFields (view json.now) fields) }
     ensures storable { IfOk result AreStorable }
     ensures deep { IfOk result (λ fields. entries_depth fields ≤ max_nesting) }
-    ensures fault { IfErr result (λ fault. IsFault (FieldsFaults side (view json.now)) fault) }
-    ensures clean { IfOk result (λ _. FieldsFaults side (view json.now) []) }
-    ensures spells_none { IfErr result (λ fault. fault ≢ json_fault.NoMemory → HasNamesOnce (view json.now) → (fields : Entries) → ¬ (SpellsFields side (view json.now) fields)) }
+    ensures clean { IfOk result (λ _. FieldsFaults (record { side = side; root = root.now }) (view json.now) []) }
+    ensures fault { IfErr result (λ fault. IsFault (FieldsFaults (record { side = side; root = root.now }) (view json.now)) fault) }
+    ensures printed { (fields : Entries) → AreStorable fields → entries_depth fields ≤ max_nesting → view json.now ≡ printed_fields fields → (result ≡ Ok fields) ⊎ (result ≡ Err json_fault.NoMemory) }
 {
-    let fault = find_fault(alloc, side, MAX_NESTING, Place::Fields, "fields", json)?;
-    if let Some(fault) = fault {
+    let setting = Setting { side, root };
+    let place = Place::Object(Object::Fields);
+    if let Err(fault) = check(alloc, &setting, MAX_NESTING, place, "fields", json) {
         return Err(fault);
     }
-    match build_tree(alloc, side, json)? {
-        Some(fields) => Ok(fields),
-        None => unreachable!(),
+    let fields = clean_fields(alloc, &setting, json)?;
+    Ok(fields)
+}
+
+/// The key of the document that the tree names under the root. Both sides write names alike. The tree then has no fault as a
+/// name.
+///
+/// # Errors
+/// `BadShape` of `name` where the tree is no text, `BadName` as `DocumentKey::read` says: the tree then names no document
+/// under the root. Or `NoMemory`.
+pub fn read_name(
+    alloc: Global,
+    root: &Database,
+    side: Side,
+    json: &Json,
+) -> Result<DocumentKey, JsonFault>
+    ensures name { IfOk result (λ key. SpellsName root.now (view json.now) key) }
+    ensures storable { IfOk result IsStorableKey }
+    ensures fault { IfErr result (λ fault. IsFault (NameFaults root.now (view json.now)) fault) }
+    ensures clean { IfOk result (λ _. NameFaults root.now (view json.now) []) }
+    ensures names_none { IfErr result (λ fault. fault ≢ json_fault.NoMemory → (key : List (List ℕ)) → ¬ (SpellsName root.now (view json.now) key)) }
+{
+    let setting = Setting { side, root };
+    if let Err(fault) = check(alloc, &setting, 0, Place::Leaf(Leaf::Name), "name", json) {
+        return Err(fault);
     }
+    let key = clean_name(alloc, &setting, json)?;
+    Ok(key)
 }

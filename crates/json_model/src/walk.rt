@@ -1,82 +1,103 @@
 //! The walk through a tree in search of the fault that is reported.
 
-ghost use Rattle.std.specs.Prelude.{◌≡◌, IfOk, [], List, Option};
+ghost use Rattle.std.specs.Prelude.{◌≡◌, map, IfOk, IfErr, OnOk, [], codes};
 ghost use Rattle.serde_json.specs.View.{view, items_view, members_view};
 ghost use Rattle.json_model.specs.Ranks.{first_of_least};
-ghost use Rattle.json_model.specs.Faults.{FirstOf, FaultsAt, ItemsFaults, MembersFaults, OwnName, own_faults, depth_faults, holds_object as holds_object_of, holds_list as holds_list_of, limit_inside as limit_inside_of};
+ghost use Rattle.json_model.specs.Faults.{FirstOf, IsFault, FaultsAt, ItemsFaults, MembersFaults, OwnName, Takes, CountsPath, own_faults, own_list_faults, depth_faults};
+ghost use Rattle.json_model.specs.Members.{given as given_of, lacks_only as lacks_only_of};
+ghost use Rattle.json_model.specs.Places.{required as required_of};
 
 use crate::fault::{JsonFault, better};
-use crate::kinds::{bad_shape_unless, find_in_kind};
-use crate::members::{is_vector, only_kind};
-use crate::names::find_in_field_name;
-use crate::place::{Place, member_place};
-use crate::side::Side;
+use crate::leaves::{bad_shape_unless, find_flat};
+use crate::members::{given, is_vector_map, lacks_choice, refined};
+use crate::names::{count_names, find_in_field_name};
+use crate::place::{Object, Place, Series};
+use crate::required::{find_missed, find_missing, later};
+use crate::setting::Setting;
+use crate::table::{item_place, member_place, required};
 use document_keys::{NoMemory, Text};
 use serde_json::{Map, Value as Json};
 use std::alloc::Global;
 
-fn holds_object(place: Place) -> bool
-    ensures { result ≡ holds_object_of place }
-{
-    match place {
-        Place::Value | Place::Array | Place::Map | Place::Fields => true,
-        _ => false,
-    }
-}
-
-fn holds_list(place: Place) -> bool
-    ensures { result ≡ holds_list_of place }
-{
-    match place {
-        Place::Values => true,
-        _ => false,
-    }
-}
-
 /// What an object has in place of what is inside it.
 fn own_fault(
     alloc: Global,
-    place: Place,
+    object: Object,
     name: &str,
     members: &Map<String, Json>,
 ) -> Result<Option<JsonFault>, NoMemory>
-    ensures { IfOk result (λ found. found ≡ first_of_least (own_faults place name.now (members_view members.now.entries))) }
+    ensures { IfOk result (λ found. found ≡ first_of_least (own_faults object name.now (members_view members.now.entries))) }
 {
-    match place {
-        Place::Value => bad_shape_unless(alloc, only_kind(members).is_some(), name),
-        Place::Map => {
-            if !is_vector(members) {
-                return Ok(None);
-            }
-            Ok(Some(JsonFault::Unsupported(Text::from_str(alloc, "vectorValue")?)))
-        }
-        _ => Ok(None),
+    if lacks_choice(object, members) {
+        return bad_shape_unless(alloc, false, name);
+    }
+    if is_vector_map(object, members) {
+        return Ok(Some(JsonFault::Unsupported(Text::from_str(alloc, "vectorValue")?)));
+    }
+    Ok(None)
+}
+
+/// Whether the list must have exactly one item, since more aren't built, and hasn't.
+fn lacks_only(series: Series, items: &Vec<Json>) -> bool
+    ensures { result ≡ lacks_only_of series (items_view items.now.items) }
+{
+    match series {
+        Series::PlainWrites => items.len() != 1,
+        _ => false,
     }
 }
 
-/// An array or a map where none may nest any more is too deep.
-fn depth_fault(place: Place, limit: u64) -> Option<JsonFault>
-    ensures { result ≡ first_of_least (depth_faults place limit) }
+/// What a list has in place of what is inside it.
+fn own_list_fault(
+    alloc: Global,
+    series: Series,
+    name: &str,
+    items: &Vec<Json>,
+) -> Result<Option<JsonFault>, NoMemory>
+    ensures { IfOk result (λ found. found ≡ first_of_least (own_list_faults series name.now (items_view items.now.items))) }
 {
-    match place {
-        Place::Array | Place::Map => {
-            if limit == 0 {
-                return Some(JsonFault::TooDeep);
-            }
-            None
-        }
-        _ => None,
+    if lacks_only(series, items) {
+        return Ok(Some(JsonFault::Unsupported(Text::from_str(alloc, name)?)));
+    }
+    Ok(None)
+}
+
+/// How many names the path under `fieldPath` has; none where it isn't a path.
+fn count_path(alloc: Global, members: &Map<String, Json>) -> Result<u64, NoMemory>
+    ensures { IfOk result (λ count. CountsPath (given_of (codes "fieldPath") (members_view members.now.entries)) count) }
+{
+    let Some(json) = given(members, "fieldPath") else {
+        return Ok(0);
+    };
+    let Some(text) = json.as_str() else {
+        return Ok(0);
+    };
+    let names = count_names(alloc, text)?;
+    match names {
+        Some(count) => Ok(count),
+        None => Ok(0),
     }
 }
 
-/// How many arrays and maps may nest inside.
-fn limit_inside(place: Place, limit: u64) -> u64
-    ensures { result ≡ limit_inside_of place limit }
+/// How many levels of nesting an object takes up.
+fn count_levels(alloc: Global, object: Object, members: &Map<String, Json>) -> Result<u64, NoMemory>
+    ensures { IfOk result (λ levels. Takes object (members_view members.now.entries) levels) }
 {
-    match place {
-        Place::Array | Place::Map => limit.saturating_sub(1),
-        _ => limit,
+    match object {
+        Object::Array | Object::Map => Ok(1),
+        Object::ArrayTransform => count_path(alloc, members),
+        _ => Ok(0),
     }
+}
+
+/// An object that takes up more levels than there are is too deep.
+fn depth_fault(limit: u64, levels: u64) -> Option<JsonFault>
+    ensures { result ≡ first_of_least (depth_faults limit levels) }
+{
+    if limit < levels {
+        return Some(JsonFault::TooDeep);
+    }
+    None
 }
 
 /// The first fault of the least kind of a tree at a place, under that name, where so many arrays and maps may nest; none when
@@ -87,88 +108,100 @@ fn limit_inside(place: Place, limit: u64) -> u64
 #[cycle(find)]
 pub fn find_fault(
     alloc: Global,
-    side: Side,
+    setting: &Setting<'_>,
     limit: u64,
     place: Place,
     name: &str,
     json: &Json,
 ) -> Result<Option<JsonFault>, NoMemory>
-    ensures { IfOk result (λ found. FirstOf (FaultsAt side limit place name.now (view json.now)) found) }
+    ensures { IfOk result (λ found. FirstOf (FaultsAt setting.now limit place name.now (view json.now)) found) }
 {
     match json {
         Json::Object(members) => {
-            if !holds_object(place) {
-                return find_in_kind(alloc, side, place, name, json);
-            }
-            if let Some(fault) = own_fault(alloc, place, name, members)? {
+            let Place::Object(object) = place else {
+                return find_flat(alloc, setting, place, name, json);
+            };
+            if let Some(fault) = own_fault(alloc, object, name, members)? {
                 return Ok(Some(fault));
             }
-            let deep = depth_fault(place, limit);
-            let inside = find_in_members(alloc, side, limit_inside(place, limit), place, members)?;
+            let object = refined(object, members);
+            let levels = count_levels(alloc, object, members)?;
+            let deep = depth_fault(limit, levels);
+            let inner = limit.saturating_sub(levels);
+            let inside = find_in_members(alloc, setting, inner, object, members)?;
             Ok(better(deep, inside))
         }
         Json::Array(items) => {
-            if !holds_list(place) {
-                return find_in_kind(alloc, side, place, name, json);
+            let Place::Series(series) = place else {
+                return find_flat(alloc, setting, place, name, json);
+            };
+            if let Some(fault) = own_list_fault(alloc, series, name, items)? {
+                return Ok(Some(fault));
             }
-            find_in_items(alloc, side, limit, name, items)
+            find_in_items(alloc, setting, limit, series, name, items)
         }
         Json::Null | Json::Bool(_) | Json::Number(_) | Json::String(_) => {
-            find_in_kind(alloc, side, place, name, json)
+            find_flat(alloc, setting, place, name, json)
         }
     }
 }
 
-/// The fault of the values of a list of that name.
+/// The fault of the items of a list of that name.
 #[cycle(find)]
 fn find_in_items(
     alloc: Global,
-    side: Side,
+    setting: &Setting<'_>,
     limit: u64,
+    series: Series,
     name: &str,
     items: &Vec<Json>,
 ) -> Result<Option<JsonFault>, NoMemory>
-    ensures { IfOk result (λ found. FirstOf (ItemsFaults side limit name.now (items_view items.now.items)) found) }
+    ensures { IfOk result (λ found. FirstOf (ItemsFaults setting.now limit series name.now (items_view items.now.items)) found) }
 {
     let mut first = None;
     for item in items {
-        let found = find_fault(alloc, side, limit, Place::Value, name, item)?;
+        let found = find_fault(alloc, setting, limit, item_place(series), name, item)?;
         first = better(first, found);
     }
     Ok(first)
 }
 
 /// The fault of a field's name, and none of other members' names.
-fn find_in_name(alloc: Global, place: Place, name: &str) -> Result<Option<JsonFault>, NoMemory>
-    ensures { IfOk result (λ found. FirstOf (OwnName place name.now) found) }
+fn find_in_name(alloc: Global, object: Object, name: &str) -> Result<Option<JsonFault>, NoMemory>
+    ensures { IfOk result (λ found. FirstOf (OwnName object name.now) found) }
 {
-    match place {
-        Place::Fields => find_in_field_name(alloc, name),
+    match object {
+        Object::Fields => find_in_field_name(alloc, name),
         _ => Ok(None),
     }
 }
 
-/// The fault of the members of an object at a place.
+/// The fault of the members of an object.
 #[cycle(find)]
 fn find_in_members(
     alloc: Global,
-    side: Side,
+    setting: &Setting<'_>,
     limit: u64,
-    place: Place,
+    object: Object,
     members: &Map<String, Json>,
 ) -> Result<Option<JsonFault>, NoMemory>
-    ensures { IfOk result (λ found. FirstOf (MembersFaults side limit place (members_view members.now.entries)) found) }
+    ensures { IfOk result (λ found. FirstOf (MembersFaults setting.now limit object (required_of object) (members_view members.now.entries)) found) }
 {
     let mut first = None;
+    let mut names = required(object);
     for (key, member) in members {
         let name = key.as_str();
-        let inside = member_place(place, name);
+        let missed = find_missed(alloc, names, name, member)?;
+        first = better(first, missed);
+        names = later(names, name);
+        let inside = member_place(object, name);
         if inside.is_left_out(member) {
             continue;
         }
-        let own = find_in_name(alloc, place, name)?;
-        let found = find_fault(alloc, side, limit, inside, name, member)?;
+        let own = find_in_name(alloc, object, name)?;
+        let found = find_fault(alloc, setting, limit, inside, name, member)?;
         first = better(first, better(own, found));
     }
-    Ok(first)
+    let last = find_missing(alloc, names)?;
+    Ok(better(first, last))
 }

@@ -1,5 +1,5 @@
 use Rattle.json_model.specs.declared.fault.NamingFault.TheVariants.{BadPath, ReservedField}
-use Rattle.json_model.proofs.Leaves.{field_fault}
+use Rattle.json_model.proofs.Naming.{field_fault}
 use Rattle.json_model.proofs.names.find_in_field_name.Goals as goal
 
 pub returns-in_ok-bad_name-in-Err-BadPath : goal.returns-in_ok-bad_name-in-Err-BadPath

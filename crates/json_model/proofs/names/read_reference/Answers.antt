@@ -1,4 +1,4 @@
-use Rattle.json_model.proofs.Leaves.{under_fault}
+use Rattle.json_model.proofs.Naming.{under_fault}
 use Rattle.json_model.proofs.names.read_reference.Goals as goal
 
 pub returns-in-Err-clause-fault : goal.returns-in-Err-clause-fault

@@ -1,0 +1,17 @@
+use Rattle.std.proofs.Common.{ap, sym, subst, ◌∙◌}
+use Rattle.serde_json.specs.Find.{as_str}
+use Rattle.json_model.specs.Leaves.{IsFieldPathText}
+use Rattle.json_model.proofs.Fine.{clean_leaf}
+use Rattle.json_model.proofs.Kinded.{same_text}
+use Rattle.json_model.proofs.OneLeaf.{no_path_fault}
+use Rattle.json_model.proofs.clean_leaves.clean_path.Goals as goal
+
+pub unreachable-requires : goal.unreachable-requires
+unreachable-requires c =
+    let f = clean_leaf _ _ _ c.requires in
+    let e = c.in_default.ensures ∙ ap as_str f.1.0 in cc
+
+pub want_of_memory-requires : goal.want_of_memory-requires
+want_of_memory-requires c =
+    let f = clean_leaf _ _ _ c.requires in
+    no_path_fault _ _ (subst IsFieldPathText (sym (same_text _ _ _ c.in-Some.ensures f.1.0)) f.1.1) c.in-Err.ensures.fault

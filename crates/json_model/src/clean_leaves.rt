@@ -1,0 +1,166 @@
+//! Leaves without faults, read.
+
+ghost use Rattle.std.specs.Prelude.{◌≡◌, ℤ, IfOk, IsTrue, codes};
+ghost use Rattle.serde_json.specs.Data.{boolean, string};
+ghost use Rattle.serde_json.specs.View.{view};
+ghost use Rattle.value_model.specs.Storable.{IsStorableKey, IsStorableName};
+ghost use Rattle.value_model.specs.Time.{IsMoment};
+ghost use Rattle.json_model.specs.declared.place.Place.TheVariants as places;
+ghost use Rattle.json_model.specs.declared.place.Leaf.TheVariants as leaves;
+ghost use Rattle.json_model.specs.declared.fault.JsonFault.TheVariants as json_fault;
+ghost use Rattle.json_model.specs.Clean.{IsClean};
+ghost use Rattle.json_model.specs.Grammar.{SpellsTime, SpellsName, SpellsText, SpellsBytesTree, SpellsReferenceTree, SpellsPathTree};
+ghost use Rattle.json_model.specs.Numbers.{SpellsWhole};
+
+use crate::bytes::read_bytes;
+use crate::fault::JsonFault;
+use crate::names::{read_key, read_path, read_reference};
+use crate::numbers::read_whole;
+use crate::setting::Setting;
+use crate::texts::show_key;
+use document_keys::{DocumentKey, FieldPath, NoMemory};
+use serde_json::Value as Json;
+use std::alloc::Global;
+use value_model::{RefName, Timestamp};
+
+/// A fault that is want of memory, as such.
+fn want_of_memory(fault: JsonFault) -> NoMemory
+    requires { fault ≡ json_fault.NoMemory }
+{
+    match fault {
+        JsonFault::NoMemory => NoMemory,
+        _ => unreachable!(),
+    }
+}
+
+/// true or false.
+pub fn clean_boolean(_setting: &Setting<'_>, json: &Json) -> bool
+    requires { IsClean _setting.now (places.Leaf leaves.Boolean) (view json.now) }
+    ensures { view json.now ≡ boolean result }
+{
+    match json.as_bool() {
+        Some(is) => is,
+        None => unreachable!(),
+    }
+}
+
+/// A whole number.
+///
+/// # Errors
+/// `NoMemory`
+pub fn clean_integer(alloc: Global, _setting: &Setting<'_>, json: &Json) -> Result<i64, NoMemory>
+    requires { IsClean _setting.now (places.Leaf leaves.Integer) (view json.now) }
+    ensures { IfOk result (λ z. SpellsWhole (view json.now) z) }
+{
+    match read_whole(alloc, json)? {
+        Some(number) => Ok(number),
+        None => unreachable!(),
+    }
+}
+
+/// A time.
+pub fn clean_time(_setting: &Setting<'_>, json: &Json) -> Timestamp
+    requires { IsClean _setting.now (places.Leaf leaves.Time) (view json.now) }
+    ensures time { SpellsTime (view json.now) result }
+    ensures moment { IsMoment result }
+{
+    let Some(text) = json.as_str() else {
+        unreachable!();
+    };
+    match Timestamp::read(text) {
+        Some(time) => time,
+        None => unreachable!(),
+    }
+}
+
+/// A text.
+pub fn clean_text<'a>(_setting: &Setting<'_>, json: &'a Json) -> &'a str
+    requires { IsClean _setting.now (places.Leaf leaves.Text) (view json.now) }
+    ensures { SpellsText (view json.now) result.now }
+{
+    match json.as_str() {
+        Some(text) => text,
+        None => unreachable!(),
+    }
+}
+
+/// Bytes.
+///
+/// # Errors
+/// `NoMemory`
+pub fn clean_bytes(alloc: Global, _setting: &Setting<'_>, json: &Json) -> Result<Vec<u8>, NoMemory>
+    requires { IsClean _setting.now (places.Leaf leaves.Bytes) (view json.now) }
+    ensures { IfOk result (λ bytes. SpellsBytesTree (view json.now) bytes.items) }
+{
+    let Some(text) = json.as_str() else {
+        unreachable!();
+    };
+    match read_bytes(alloc, text)? {
+        Some(bytes) => Ok(bytes),
+        None => unreachable!(),
+    }
+}
+
+/// The name of a document of any database.
+///
+/// # Errors
+/// `NoMemory`
+pub fn clean_reference(
+    alloc: Global,
+    _setting: &Setting<'_>,
+    json: &Json,
+) -> Result<RefName, NoMemory>
+    requires { IsClean _setting.now (places.Leaf leaves.Reference) (view json.now) }
+    ensures name { IfOk result (λ name. SpellsReferenceTree (view json.now) name) }
+    ensures storable { IfOk result IsStorableName }
+{
+    let Some(text) = json.as_str() else {
+        unreachable!();
+    };
+    match read_reference(alloc, text) {
+        Ok(name) => Ok(name),
+        Err(fault) => Err(want_of_memory(fault)),
+    }
+}
+
+/// The key of the document that the tree names.
+///
+/// # Errors
+/// `NoMemory`
+pub fn clean_name(
+    alloc: Global,
+    setting: &Setting<'_>,
+    json: &Json,
+) -> Result<DocumentKey, NoMemory>
+    requires { IsClean setting.now (places.Leaf leaves.Name) (view json.now) }
+    ensures name { IfOk result (λ key. SpellsName setting.now.root (view json.now) key) }
+    ensures storable { IfOk result IsStorableKey }
+{
+    let Some(text) = json.as_str() else {
+        unreachable!();
+    };
+    match read_key(alloc, setting.root, text) {
+        Ok(key) => {
+            show_key(&key);
+            Ok(key)
+        }
+        Err(fault) => Err(want_of_memory(fault)),
+    }
+}
+
+/// The path of a field.
+///
+/// # Errors
+/// `NoMemory`
+pub fn clean_path(alloc: Global, _setting: &Setting<'_>, json: &Json) -> Result<FieldPath, NoMemory>
+    requires { IsClean _setting.now (places.Leaf leaves.Path) (view json.now) }
+    ensures { IfOk result (λ path. SpellsPathTree (view json.now) path) }
+{
+    let Some(text) = json.as_str() else {
+        unreachable!();
+    };
+    match read_path(alloc, text) {
+        Ok(path) => Ok(path),
+        Err(fault) => Err(want_of_memory(fault)),
+    }
+}

@@ -1,0 +1,284 @@
+//! The tables: what is to stand under which name of which object. A new object is a row here, and in `specs/Places.antt`.
+
+ghost use Rattle.std.specs.Prelude.{◌≡◌, map};
+ghost use Rattle.json_model.specs.Places as table;
+
+use crate::place::{Leaf, Object, Place, Series};
+
+/// The kinds of a value.
+#[tactic(auto, unfolding(crate::specs::Places::value_rows))]
+pub fn value_member(name: &str) -> Place
+    ensures { result ≡ table.value_member name.now }
+{
+    match name {
+        "arrayValue" => Place::Object(Object::Array),
+        "booleanValue" => Place::Leaf(Leaf::Boolean),
+        "bytesValue" => Place::Leaf(Leaf::Bytes),
+        "doubleValue" => Place::Unsupported,
+        "geoPointValue" => Place::Unsupported,
+        "integerValue" => Place::Leaf(Leaf::Integer),
+        "mapValue" => Place::Object(Object::Map),
+        "nullValue" => Place::Leaf(Leaf::Null),
+        "referenceValue" => Place::Leaf(Leaf::Reference),
+        "stringValue" => Place::Leaf(Leaf::Text),
+        "timestampValue" => Place::Leaf(Leaf::Time),
+        _ => Place::Unknown,
+    }
+}
+
+/// The lines, by the name of their only member.
+#[tactic(auto, unfolding(crate::specs::Places::line_rows))]
+fn line_member(name: &str) -> Place
+    ensures { result ≡ table.placed table.line_rows name.now }
+{
+    match name {
+        "close" => Place::Unsupported,
+        "get" => Place::Object(Object::GetLine),
+        "listen" => Place::Unsupported,
+        "open" => Place::Unsupported,
+        "timer" => Place::Unsupported,
+        "unlisten" => Place::Unsupported,
+        "watch" => Place::Unsupported,
+        "write" => Place::Object(Object::WriteLine),
+        "written" => Place::Unsupported,
+        _ => Place::Unknown,
+    }
+}
+
+/// What `write` holds.
+#[tactic(auto, unfolding(crate::specs::Places::write_line_rows))]
+fn write_line_member(name: &str) -> Place
+    ensures { result ≡ table.placed table.write_line_rows name.now }
+{
+    match name {
+        "at" => Place::Leaf(Leaf::Time),
+        "writes" => Place::Series(Series::PlainWrites),
+        _ => Place::Unknown,
+    }
+}
+
+/// What `get` holds.
+#[tactic(auto, unfolding(crate::specs::Places::get_line_rows))]
+fn get_line_member(name: &str) -> Place
+    ensures { result ≡ table.placed table.get_line_rows name.now }
+{
+    match name {
+        "name" => Place::Leaf(Leaf::Name),
+        _ => Place::Unknown,
+    }
+}
+
+/// A write of which an update of all fields alone is built.
+#[tactic(auto, unfolding(crate::specs::Places::plain_write_rows))]
+fn plain_write_member(name: &str) -> Place
+    ensures { result ≡ table.placed table.plain_write_rows name.now }
+{
+    match name {
+        "currentDocument" => Place::Unsupported,
+        "delete" => Place::Unsupported,
+        "transform" => Place::Unsupported,
+        "update" => Place::Object(Object::Update),
+        "updateMask" => Place::Unsupported,
+        "updateTransforms" => Place::Unsupported,
+        _ => Place::Unknown,
+    }
+}
+
+/// A write.
+#[tactic(auto, unfolding(crate::specs::Places::write_rows))]
+fn write_member(name: &str) -> Place
+    ensures { result ≡ table.placed table.write_rows name.now }
+{
+    match name {
+        "currentDocument" => Place::Object(Object::Condition),
+        "delete" => Place::Leaf(Leaf::Name),
+        "transform" => Place::Unsupported,
+        "update" => Place::Object(Object::Update),
+        "updateMask" => Place::Object(Object::Mask),
+        "updateTransforms" => Place::Series(Series::Transforms),
+        _ => Place::Unknown,
+    }
+}
+
+/// A write whose alternative is `delete`: it has no mask and no transforms.
+#[tactic(auto, unfolding(crate::specs::Places::delete_write_rows))]
+fn delete_write_member(name: &str) -> Place
+    ensures { result ≡ table.placed table.delete_write_rows name.now }
+{
+    match name {
+        "currentDocument" => Place::Object(Object::Condition),
+        "delete" => Place::Leaf(Leaf::Name),
+        _ => Place::Unknown,
+    }
+}
+
+/// What `update` holds.
+#[tactic(auto, unfolding(crate::specs::Places::update_rows))]
+fn update_member(name: &str) -> Place
+    ensures { result ≡ table.placed table.update_rows name.now }
+{
+    match name {
+        "fields" => Place::Object(Object::Fields),
+        "name" => Place::Leaf(Leaf::Name),
+        _ => Place::Unknown,
+    }
+}
+
+/// What `updateMask` holds.
+#[tactic(auto, unfolding(crate::specs::Places::mask_rows))]
+fn mask_member(name: &str) -> Place
+    ensures { result ≡ table.placed table.mask_rows name.now }
+{
+    match name {
+        "fieldPaths" => Place::Series(Series::Paths),
+        _ => Place::Unknown,
+    }
+}
+
+/// What `currentDocument` holds.
+#[tactic(auto, unfolding(crate::specs::Places::condition_rows))]
+fn condition_member(name: &str) -> Place
+    ensures { result ≡ table.placed table.condition_rows name.now }
+{
+    match name {
+        "exists" => Place::Leaf(Leaf::Boolean),
+        "updateTime" => Place::Leaf(Leaf::Time),
+        _ => Place::Unknown,
+    }
+}
+
+/// A transform.
+#[tactic(auto, unfolding(crate::specs::Places::transform_rows))]
+fn transform_member(name: &str) -> Place
+    ensures { result ≡ table.placed table.transform_rows name.now }
+{
+    match name {
+        "appendMissingElements" => Place::Object(Object::Elements),
+        "fieldPath" => Place::Leaf(Leaf::Path),
+        "increment" => Place::Object(Object::Operand),
+        "maximum" => Place::Object(Object::Operand),
+        "minimum" => Place::Object(Object::Operand),
+        "removeAllFromArray" => Place::Object(Object::Elements),
+        "setToServerValue" => Place::Leaf(Leaf::ServerTime),
+        _ => Place::Unknown,
+    }
+}
+
+/// The operand of an arithmetic transform: a value that is a whole number.
+#[tactic(auto, unfolding(crate::specs::Places::operand_rows))]
+fn operand_member(name: &str) -> Place
+    ensures { result ≡ table.placed table.operand_rows name.now }
+{
+    match name {
+        "doubleValue" => Place::Unsupported,
+        "integerValue" => Place::Leaf(Leaf::Integer),
+        _ => Place::Unknown,
+    }
+}
+
+/// The place of the member of that name.
+pub fn member_place(object: Object, name: &str) -> Place
+    ensures { result ≡ table.member_place object name.now }
+{
+    match object {
+        Object::Value => value_member(name),
+        Object::Array if name == "values" => Place::Series(Series::Values),
+        Object::Map if name == "fields" => Place::Object(Object::Fields),
+        Object::Fields => Place::Object(Object::Value),
+        Object::Line => line_member(name),
+        Object::WriteLine => write_line_member(name),
+        Object::GetLine => get_line_member(name),
+        Object::PlainWrite => plain_write_member(name),
+        Object::Write => write_member(name),
+        Object::DeleteWrite => delete_write_member(name),
+        Object::Update => update_member(name),
+        Object::Mask => mask_member(name),
+        Object::Condition => condition_member(name),
+        Object::Transform => transform_member(name),
+        Object::ArrayTransform => transform_member(name),
+        Object::Operand => operand_member(name),
+        Object::Elements if name == "values" => Place::Series(Series::Values),
+        _ => Place::Unknown,
+    }
+}
+
+/// The place of a list's items.
+pub fn item_place(series: Series) -> Place
+    ensures { result ≡ table.item_place series }
+{
+    match series {
+        Series::Values => Place::Object(Object::Value),
+        Series::PlainWrites => Place::Object(Object::PlainWrite),
+        Series::Writes => Place::Object(Object::Write),
+        Series::Paths => Place::Leaf(Leaf::Path),
+        Series::Transforms => Place::Object(Object::Transform),
+    }
+}
+
+/// The members that an object must have, ascending.
+pub fn required(object: Object) -> &'static [&'static str]
+    ensures { map (λ name. name.now) result.now ≡ table.required object }
+{
+    match object {
+        Object::WriteLine => &["at"],
+        Object::GetLine => &["name"],
+        Object::Update => &["name"],
+        Object::Transform => &["fieldPath"],
+        Object::ArrayTransform => &["fieldPath"],
+        _ => &[],
+    }
+}
+
+/// Whether the object has exactly one of several members.
+pub fn chooses(object: Object) -> bool
+    ensures { result ≡ table.chooses object }
+{
+    match object {
+        Object::Value
+        | Object::Line
+        | Object::PlainWrite
+        | Object::Write
+        | Object::Condition
+        | Object::Transform
+        | Object::Operand => true,
+        _ => false,
+    }
+}
+
+/// The alternatives of a write.
+#[tactic(auto, unfolding(crate::specs::Places::is_write_choice))]
+fn is_write_choice(name: &str) -> bool
+    ensures { result ≡ table.is_write_choice name.now }
+{
+    match name {
+        "delete" => true,
+        "transform" => true,
+        "update" => true,
+        _ => false,
+    }
+}
+
+/// The alternatives of a transform.
+fn is_transform_choice(name: &str) -> bool
+    ensures { result ≡ table.is_choice Object.Transform name.now }
+{
+    if name == "fieldPath" {
+        return false;
+    }
+    !transform_member(name).is_unknown()
+}
+
+/// Whether the member is one of those that the object has exactly one of. What isn't supported counts, and in a line and an
+/// operand any that would be one elsewhere.
+pub fn is_choice(object: Object, name: &str) -> bool
+    ensures { result ≡ table.is_choice object name.now }
+{
+    match object {
+        Object::Value | Object::Operand => !value_member(name).is_unknown(),
+        Object::Line => true,
+        Object::PlainWrite | Object::Write => is_write_choice(name),
+        Object::Condition => !condition_member(name).is_unknown(),
+        Object::Transform => is_transform_choice(name),
+        _ => false,
+    }
+}
