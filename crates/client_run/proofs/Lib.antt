@@ -3,13 +3,11 @@ pub mod Breaks
 pub mod Committed
 pub mod Handled
 pub mod Honest
-pub mod Objects
-pub mod OneMember
 pub mod OneReading
 pub mod Opened
 pub mod Parsed
 pub mod Replayed
 pub mod Served
-pub mod ByNames
 pub mod Surviving
 pub mod Wording
+pub mod Lined

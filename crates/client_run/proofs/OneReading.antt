@@ -1,108 +1,38 @@
 -- An item has one reading.
 use Rattle.std.proofs.Common.{◌≡◌, ℕ, List, [], ◌∷◌, ◌++◌, Option, Some, None, codes, refl, sym, ap, subst, ◌∙◌}
-use Rattle.serde_json.specs.Data.{Data, Members, Items, no_items, item, string, array}
-use Rattle.serde_json.specs.Find.{as_object, as_array}
+use Rattle.serde_json.specs.Data.{Data, Members, no_items, item, array}
+use Rattle.serde_json.specs.Find.{as_object}
 use Rattle.document_keys.specs.Names.{Root}
 use Rattle.value_model.specs.Data.{Entries}
-use Rattle.value_model.specs.Time.{time_of}
 use Rattle.value_model.specs.declared.timestamp.Timestamp.{Timestamp}
-use Rattle.json_model.specs.declared.side.Side.TheVariants.{Caller}
+use Rattle.json_model.specs.declared.place.Place.{Place}
 use Rattle.json_model.specs.declared.place.Place.TheVariants as place
+use Rattle.json_model.specs.declared.place.Object.{Object}
+use Rattle.json_model.specs.declared.place.Object.TheVariants as object
 use Rattle.json_model.specs.declared.fault.JsonFault.{JsonFault}
-use Rattle.json_model.specs.Faults.{FirstOf, SpellsName}
-use Rattle.json_model.specs.Members.{given}
+use Rattle.json_model.specs.Faults.{FirstOf, max_nesting}
+use Rattle.json_model.specs.Grammar.{SpellsName, SpellsTime}
+use Rattle.json_model.specs.Members.{given, chosen}
+use Rattle.json_model.specs.Places.{member_place}
 use Rattle.json_model.specs.Ranks.{first_of_least}
 use Rattle.mutations.specs.declared.plain.PlainUpdate.{PlainUpdate as Write}
 use Rattle.host_api.specs.Items.{Item}
-use Rattle.client_run.specs.Faults.{InObject, Required, Optional, AroundOne, AroundTwo, UpdateFaults, AlternativeFaults, WriteFaults, ItemsFaults, WritesFaults, WriteLineFaults, GetLineFaults, NamedFaults, OnlyFaults, LineFaults, strays}
-use Rattle.client_run.specs.Grammar.{SpellsGiven, SpellsGivenName, SpellsUpdate, SpellsWrite, SpellsTime, SpellsWrites, SpellsWriteLine, SpellsGetLine, SpellsNamed, SpellsOnly, Spells, givens}
-use Rattle.client_run.specs.Shapes.{line_name}
+use Rattle.client_run.specs.Faults.{LineFaults, caller, unbuilt, write_members}
+use Rattle.client_run.specs.Grammar.{SpellsGiven, SpellsGivenName, SpellsUpdate, SpellsWrite, SpellsGivenTime, SpellsWrites, SpellsWriteLine, SpellsGetLine, SpellsNamed, Spells}
 use Rattle.client_run.specs.Reading.{IsJson, Reads, refusal_of, too_long, no_json, a_fault, an_event}
-use Rattle.client_run.specs.declared.shape.LineName.{LineName}
-use Rattle.client_run.specs.declared.shape.LineName.TheVariants as line
-use Rattle.client_run.specs.declared.shape.Shape.{Shape}
-use Rattle.client_run.specs.declared.shape.Shape.TheVariants.{WriteLine, GetLine, DeleteWrite, TransformWrite, UpdateWrite, Update}
 use Rattle.client_run.specs.declared.event.Event.{Event}
 use Rattle.client_run.specs.declared.event.Event.TheVariants as event
 use Rattle.client_run.specs.declared.refusal.Refusal.{Refusal}
 use Rattle.client_run.specs.declared.reading.Reading.{Reading}
 use Rattle.client_run.specs.declared.reading.Reading.TheVariants.{Line, Refused}
-use Rattle.json_model.proofs.OneList.{fields_faults_once, kind_one}
-use Rattle.json_model.proofs.Once.{spells_fields_once}
-use Rattle.json_model.proofs.OneName.{name_faults_one, spells_name_one}
+use Rattle.json_model.proofs.OneLeaf.{IsOne}
+use Rattle.json_model.proofs.OneList.{faults_one}
+use Rattle.json_model.proofs.Once.{spells_fields_once, time_once}
+use Rattle.json_model.proofs.OneName.{spells_name_one}
 
--- one list at most
-abbrev IsOne : (List JsonFault → Type 0) → Type 0
-IsOne Faults = (a b : List JsonFault) → Faults a → Faults b → a ≡ b
-
-one_is : (c : List JsonFault) → IsOne (λ faults. faults ≡ c)
-one_is c a b first second = first ∙ sym second
-
-one_object : (ms : Option Members) (name : List ℕ) (Inside : Members → List JsonFault → Type 0) → ((m : Members) → IsOne (Inside m)) → IsOne (InObject ms name Inside)
-one_object None name Inside one a b first second = first ∙ sym second
-one_object (Some m) name Inside one a b first second = one m a b first second
-
-one_required : (d : Option Data) (name : List ℕ) (Inside : Data → List JsonFault → Type 0) → ((e : Data) → IsOne (Inside e)) → IsOne (Required d name Inside)
-one_required None name Inside one a b first second = first ∙ sym second
-one_required (Some e) name Inside one a b first second = one e a b first second
-
-one_optional : (d : Option Data) (Inside : Data → List JsonFault → Type 0) → ((e : Data) → IsOne (Inside e)) → IsOne (Optional d Inside)
-one_optional None Inside one a b first second = first ∙ sym second
-one_optional (Some e) Inside one a b first second = one e a b first second
-
-around_one : (shape : Shape) (ms : Members) (Inside : List JsonFault → Type 0) → IsOne Inside → IsOne (AroundOne shape ms Inside)
-around_one shape ms Inside one a b first second =
-    first.2 ∙ ap (λ (own : List JsonFault). strays shape 0 ms ++ (own ++ strays shape 1 ms)) (one first.0 second.0 first.1 second.1) ∙ sym second.2
-
-around_two : (shape : Shape) (ms : Members) (A B : List JsonFault → Type 0) → IsOne A → IsOne B → IsOne (AroundTwo shape ms A B)
-around_two shape ms A B one other a b first second =
-    first.4 ∙ ap (λ (own : List JsonFault). strays shape 0 ms ++ (own ++ (strays shape 1 ms ++ (first.1 ++ strays shape 2 ms)))) (one first.0 second.0 first.2 second.2)
-    ∙ ap (λ (own : List JsonFault). strays shape 0 ms ++ (second.0 ++ (strays shape 1 ms ++ (own ++ strays shape 2 ms)))) (other first.1 second.1 first.3 second.3) ∙ sym second.4
-
-one_update : (root : Root) (d : Data) → IsOne (UpdateFaults root d)
-one_update root d = one_object (as_object d) _ _ (λ ms. around_two Update ms _ _ (one_optional _ _ (fields_faults_once Caller)) (one_required _ _ _ (name_faults_one root)))
-
-one_alternative : (root : Root) (ms : Members) (delete transform update : Option Data) → IsOne (AlternativeFaults root ms delete transform update)
-one_alternative root ms None None None a b first second = first ∙ sym second
-one_alternative root ms None None (Some d) a b first second = around_one UpdateWrite ms _ (one_update root d) a b first second
-one_alternative root ms (Some d) None None a b first second = around_one DeleteWrite ms _ (one_is _) a b first second
-one_alternative root ms None (Some d) None a b first second = around_one TransformWrite ms _ (one_is _) a b first second
-one_alternative root ms (Some d) (Some e) other a b first second = first ∙ sym second
-one_alternative root ms (Some d) None (Some e) a b first second = first ∙ sym second
-one_alternative root ms None (Some d) (Some e) a b first second = first ∙ sym second
-
-one_write : (root : Root) (d : Data) → IsOne (WriteFaults root d)
-one_write root d = one_object (as_object d) _ _ (λ ms. one_alternative root ms _ _ _)
-
-one_items : (root : Root) (ds : Option Items) → IsOne (ItemsFaults root ds)
-one_items root None a b first second = first ∙ sym second
-one_items root (Some no_items) a b first second = first ∙ sym second
-one_items root (Some (item d no_items)) a b first second = one_write root d a b first second
-one_items root (Some (item d (item e ds))) a b first second = first ∙ sym second
-
-one_writes : (root : Root) (d : Option Data) → IsOne (WritesFaults root d)
-one_writes root None a b first second = first ∙ sym second
-one_writes root (Some d) a b first second = one_items root (as_array d) a b first second
-
-one_write_line : (root : Root) (d : Data) → IsOne (WriteLineFaults root d)
-one_write_line root d = one_object (as_object d) _ _ (λ ms. around_two WriteLine ms _ _ (one_required _ _ _ (kind_one Caller place.Time (codes "at"))) (one_writes root (given (codes "writes") ms)))
-
-one_get_line : (root : Root) (d : Data) → IsOne (GetLineFaults root d)
-one_get_line root d = one_object (as_object d) _ _ (λ ms. around_one GetLine ms _ (one_required _ _ _ (name_faults_one root)))
-
-one_named : (root : Root) (how : LineName) (name : List ℕ) (d : Data) → IsOne (NamedFaults how root name d)
-one_named root line.Write name d a b first second = one_write_line root d a b first second
-one_named root line.Get name d a b first second = one_get_line root d a b first second
-one_named root line.Unbuilt name d a b first second = first ∙ sym second
-one_named root line.Unknown name d a b first second = first ∙ sym second
-
-one_only : (root : Root) (ms : List (List ℕ × Data)) → IsOne (OnlyFaults root ms)
-one_only root [] a b first second = first ∙ sym second
-one_only root (only ∷ []) a b first second = one_named root (line_name only.0) only.0 only.1 a b first second
-one_only root (x ∷ (y ∷ rest)) a b first second = first ∙ sym second
-
-one_line : (root : Root) (d : Data) → IsOne (LineFaults root d)
-one_line root d = one_object (as_object d) _ _ (λ ms. one_only root (givens ms))
+pub one_line : (root : Root) (d : Data) → IsOne (LineFaults root d)
+one_line root d a b first second =
+    first.2 ∙ ap (λ (l : List JsonFault). l ++ unbuilt (write_members d)) (faults_one (caller root) max_nesting (place.Object object.Line) [] d first.0 second.0 first.1 second.1) ∙ sym second.2
 
 -- ---- one event
 
@@ -114,7 +44,7 @@ write_is a b keys fields = λ i. record { key = keys i; fields = fields i }
 
 given_one : (d : Option Data) (a b : Entries) → SpellsGiven d a → SpellsGiven d b → a ≡ b
 given_one None a b first second = first ∙ sym second
-given_one (Some d) a b first second = spells_fields_once Caller d a b first second
+given_one (Some d) a b first second = spells_fields_once d a b first second
 
 key_one : (root : Root) (d : Option Data) (a b : List (List ℕ)) → SpellsGivenName root d a → SpellsGivenName root d b → a ≡ b
 key_one root d a b first second = spells_name_one root second.name a b (subst (λ (n : Data). SpellsName root n a) (some_one d first.name second.name first.is second.is) first.names) second.names
@@ -124,15 +54,17 @@ update_one root d a b first second =
     let s = subst (λ (m : Members). SpellsGiven (given (codes "fields") m) a.fields × SpellsGivenName root (given (codes "name") m) a.key) (some_one (as_object d) first.members second.members first.is second.is) (first.fields, first.key) in
     write_is a b (key_one root (given (codes "name") second.members) a.key b.key s.1 second.key) (given_one (given (codes "fields") second.members) a.fields b.fields s.0 second.fields)
 
+pair_one : (l : List (List ℕ × Data)) (a b : List ℕ × Data) → l ≡ a ∷ [] → l ≡ b ∷ [] → a ≡ b
+pair_one l a b first second = let e = sym first ∙ second in cc
+
 spells_write_one : (root : Root) (d : Data) (a b : Write) → SpellsWrite root d a → SpellsWrite root d b → a ≡ b
 spells_write_one root d a b first second =
-    let has : given (codes "update") second.members ≡ Some first.update = subst (λ (m : Members). given (codes "update") m ≡ Some first.update) (some_one (as_object d) first.members second.members first.is second.is) first.has_update in
-    update_one root second.update a b (subst (λ (u : Data). SpellsUpdate root u a) (some_one (given (codes "update") second.members) first.update second.update has second.has_update) first.updates) second.updates
+    let only = subst (λ (m : Members). chosen object.PlainWrite m ≡ (first.name, first.update) ∷ []) (some_one (as_object d) first.members second.members first.is second.is) first.only in
+    let same = ap (λ (x : List ℕ × Data). x.1) (pair_one _ (first.name, first.update) (second.name, second.update) only second.only) in
+    update_one root second.update a b (subst (λ (u : Data). SpellsUpdate root u a) same first.updates) second.updates
 
-time_one : (d : Option Data) (a b : Timestamp) → SpellsTime d a → SpellsTime d b → a ≡ b
-time_one d a b first second =
-    let texts : first.text ≡ second.text = let e : string first.text ≡ string second.text = some_one d (string first.text) (string second.text) first.is second.is in cc in
-    some_one (time_of second.text) a b (subst (λ (t : List ℕ). time_of t ≡ Some a) texts first.time) second.time
+time_one : (d : Option Data) (a b : Timestamp) → SpellsGivenTime d a → SpellsGivenTime d b → a ≡ b
+time_one d a b first second = time_once second.time a b (subst (λ (t : Data). SpellsTime t a) (some_one d first.time second.time first.is second.is) first.spells) second.spells
 
 writes_one : (root : Root) (d : Option Data) (a b : Write) → SpellsWrites root d a → SpellsWrites root d b → a ≡ b
 writes_one root d a b first second =
@@ -141,7 +73,7 @@ writes_one root d a b first second =
 
 write_line_one : (root : Root) (d : Data) (at time : Timestamp) (a b : Write) → SpellsWriteLine root d at a → SpellsWriteLine root d time b → event.Write at a ≡ event.Write time b
 write_line_one root d at time a b first second =
-    let s = subst (λ (m : Members). SpellsTime (given (codes "at") m) at × SpellsWrites root (given (codes "writes") m) a) (some_one (as_object d) first.members second.members first.is second.is) (first.times, first.writes) in
+    let s = subst (λ (m : Members). SpellsGivenTime (given (codes "at") m) at × SpellsWrites root (given (codes "writes") m) a) (some_one (as_object d) first.members second.members first.is second.is) (first.times, first.writes) in
     let times = time_one (given (codes "at") second.members) at time s.0 second.times in
     let writes = writes_one root (given (codes "writes") second.members) a b s.1 second.writes in
     λ i. event.Write (times i) (writes i)
@@ -150,24 +82,20 @@ get_line_one : (root : Root) (d : Data) (a b : List (List ℕ)) → SpellsGetLin
 get_line_one root d a b first second =
     key_one root (given (codes "name") second.members) a b (subst (λ (m : Members). SpellsGivenName root (given (codes "name") m) a) (some_one (as_object d) first.members second.members first.is second.is) first.names) second.names
 
-named_one : (root : Root) (how : LineName) (d : Data) (a b : Event) → SpellsNamed how root d a → SpellsNamed how root d b → a ≡ b
-named_one root line.Write d (event.Write at a) (event.Write time b) first second = write_line_one root d at time a b first second
-named_one root line.Write d (event.Write at a) (event.Get b) first second = absurd second
-named_one root line.Write d (event.Get a) b first second = absurd first
-named_one root line.Get d (event.Write at a) b first second = absurd first
-named_one root line.Get d (event.Get a) (event.Write time b) first second = absurd second
-named_one root line.Get d (event.Get a) (event.Get b) first second = ap event.Get (get_line_one root d a b first second)
-named_one root line.Unbuilt d a b first second = absurd first
-named_one root line.Unknown d a b first second = absurd first
-
-only_one : (root : Root) (ms : List (List ℕ × Data)) (a b : Event) → SpellsOnly root ms a → SpellsOnly root ms b → a ≡ b
-only_one root [] a b first second = absurd first
-only_one root (only ∷ []) a b first second = named_one root (line_name only.0) only.1 a b first second
-only_one root (x ∷ (y ∷ rest)) a b first second = absurd first
+named_one : (root : Root) (p : Place) (d : Data) (a b : Event) → SpellsNamed p root d a → SpellsNamed p root d b → a ≡ b
+named_one root (place.Object object.WriteLine) d (event.Write at a) (event.Write time b) first second = write_line_one root d at time a b first second
+named_one root (place.Object object.WriteLine) d (event.Write at a) (event.Get b) first second = absurd second
+named_one root (place.Object object.WriteLine) d (event.Get a) b first second = absurd first
+named_one root (place.Object object.GetLine) d (event.Write at a) b first second = absurd first
+named_one root (place.Object object.GetLine) d (event.Get a) (event.Write time b) first second = absurd second
+named_one root (place.Object object.GetLine) d (event.Get a) (event.Get b) first second = ap event.Get (get_line_one root d a b first second)
+named_one root _ d a b first second = absurd first
 
 event_one : (root : Root) (d : Data) (a b : Event) → Spells root d a → Spells root d b → a ≡ b
 event_one root d a b first second =
-    only_one root (givens second.members) a b (subst (λ (m : Members). SpellsOnly root (givens m) a) (some_one (as_object d) first.members second.members first.is second.is) first.spelled) second.spelled
+    let only = subst (λ (m : Members). chosen object.Line m ≡ (first.name, first.inner) ∷ []) (some_one (as_object d) first.members second.members first.is second.is) first.only in
+    let same = pair_one _ (first.name, first.inner) (second.name, second.inner) only second.only in
+    named_one root (member_place object.Line second.name) second.inner a b (subst (λ (x : List ℕ × Data). SpellsNamed (member_place object.Line x.0) root x.1 a) same first.spelled) second.spelled
 
 -- ---- one reading
 

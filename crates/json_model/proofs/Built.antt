@@ -42,7 +42,7 @@ kind_known name known = by (is_kind (value_member name)) (ap (λ b. is_kind (val
     by true h = refl
     by false h = h
 
-unsupported : (o : Origin) (limit : ℕ) (name : List ℕ) (d : json.Data) → FaultsAt o limit place.Unsupported name d [] → ⊥
+pub unsupported : (o : Origin) (limit : ℕ) (name : List ℕ) (d : json.Data) → FaultsAt o limit place.Unsupported name d [] → ⊥
 unfolding FaultsAt
 unsupported o limit name json.null h = cc
 unsupported o limit name (json.boolean b) h = cc
@@ -55,7 +55,7 @@ pub no_other_kind : (o : Origin) (p : Place) (d : json.Data) → is_kind p ≡ t
 no_other_kind o (place.Object kind) d is clean objects leaves = objects kind refl
 no_other_kind o (place.Series kind) d is clean objects leaves = cc
 no_other_kind o (place.Leaf kind) d is clean objects leaves = leaves kind refl
-no_other_kind o place.Unsupported d is clean objects leaves = unsupported o clean.0 clean.1 d clean.2
+no_other_kind o place.Unsupported d is clean objects leaves = unsupported o clean.0 clean.1 d clean.3
 no_other_kind o place.Unknown d is clean objects leaves = cc
 no_other_kind o place.Ignored d is clean objects leaves = cc
 
@@ -102,7 +102,7 @@ item_sound o limit kind name (x ∷ items) zero one below is clean = subst (λ j
 item_sound o limit kind name (x ∷ items) (suc i) one below is clean = item_sound o limit kind name items i one (omega arith) is (item_faults o limit kind name (view x) (items_view items) clean).1
 
 pub item_clean : (o : Origin) (kind : Series) (items : List Json) (i : ℕ) (one : Json) → i < length items → one ≡ get_or items i one → ItemsAreClean o kind (items_view items) → IsClean o (item_place kind) (view one)
-item_clean o kind items i one below is (limit, name, clean) = (limit, name, item_sound o limit kind name items i one below is clean)
+item_clean o kind items i one below is (limit, name, room, clean) = (limit, name, room, item_sound o limit kind name items i one below is clean)
 
 abbrev pub Entry : Type 0
 Entry = String Global × Json
@@ -122,11 +122,11 @@ fields_sound o limit names (x ∷ done) rest e clean some =
     fields_sound o limit (later (string_bytes x.0) names) done rest e here.rest some
 
 pub field_clean : (o : Origin) (done rest : List Entry) (all : List Entry) (e : Entry) → all ≡ done ++ e ∷ rest → AreClean o object.Fields (members_view all) → is_null (view e.1) ≡ false → IsFieldName (string_bytes e.0) × IsClean o (place.Object object.Value) (view e.1)
-field_clean o done rest all e is (limit, name, clean) some =
+field_clean o done rest all e is (limit, name, room, clean) some =
     let inside = sound o limit object.Fields name (members_view all) clean in
     let left = limit - inside.levels in
     let here = fields_sound o left (required object.Fields) done rest e (subst (λ (l : List Entry). MembersFaults o left object.Fields (required object.Fields) (members_view l) []) is inside.inside) some in
-    (here.0, (left, string_bytes e.0, here.1))
+    (here.0, (left, string_bytes e.0, omega arith, here.1))
 
 -- ---- fields
 

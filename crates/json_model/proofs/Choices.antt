@@ -1,5 +1,5 @@
 -- The one alternative of an object without faults.
-use Rattle.std.proofs.Common.{◌≡◌, ℕ, ◌-◌, List, [], ◌∷◌, Bool, true, false, not, ◌&&◌, cond, codes, refl, sym, ap, subst, ◌∙◌}
+use Rattle.std.proofs.Common.{◌≡◌, ℕ, ◌-◌, List, [], ◌∷◌, Bool, true, false, not, ◌&&◌, cond, codes, refl, sym, ap, subst, ◌∙◌, arith}
 use Rattle.std.specs.Bool.{if◌then◌else◌}
 use Rattle.serde_json.specs.Data.{Data as Json, Members, no_members, member}
 use Rattle.json_model.specs.declared.place.Object.{Object}
@@ -21,7 +21,7 @@ lacks_none kind name ms none = by (lacks_choice kind ms) none
     by false h = refl
 
 pub choice_there : (o : Origin) (kind : Object) (ms : Members) → AreClean o kind ms → chooses kind ≡ true → is_one_known kind (chosen kind ms) ≡ false → ⊥
-choice_there o kind ms (limit, name, clean) must none =
+choice_there o kind ms (limit, name, room, clean) must none =
     let lacks = lacks_none kind name ms (sound o limit kind name ms clean).own in
     let e : lacks_choice kind ms ≡ true = λ i. must i && not (none i) in
     cc
@@ -76,6 +76,6 @@ chosen_clean o limit kind whole names (member l e ms) k d clean is =
         subst (λ n. FaultsAt o limit (member_place (refined kind whole) n) n d []) names_are (subst (λ t. FaultsAt o limit (member_place (refined kind whole) l) l t []) trees inside.1)
 
 pub choice_clean : (o : Origin) (kind : Object) (ms : Members) (k : List ℕ) (d : Json) → AreClean o kind ms → chosen kind ms ≡ (k, d) ∷ [] → IsClean o (member_place (refined kind ms) k) d
-choice_clean o kind ms k d (limit, name, clean) is =
+choice_clean o kind ms k d (limit, name, room, clean) is =
     let inside = sound o limit kind name ms clean in
-    (limit - inside.levels, k, chosen_clean o (limit - inside.levels) kind ms (required (refined kind ms)) ms k d inside.inside is)
+    (limit - inside.levels, k, omega arith, chosen_clean o (limit - inside.levels) kind ms (required (refined kind ms)) ms k d inside.inside is)

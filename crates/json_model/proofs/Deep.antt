@@ -12,7 +12,8 @@ use Rattle.json_model.specs.declared.place.Object.TheVariants as object
 use Rattle.json_model.specs.declared.place.Leaf.{Leaf}
 use Rattle.json_model.specs.declared.place.Leaf.TheVariants as leaf
 use Rattle.json_model.specs.declared.place.Series.TheVariants as series
-use Rattle.json_model.specs.Faults.{FaultsAt, ItemsFaults, MembersFaults}
+use Rattle.json_model.specs.Clean.{AreClean}
+use Rattle.json_model.specs.Faults.{FaultsAt, ItemsFaults, MembersFaults, max_nesting}
 use Rattle.json_model.specs.Grammar.{SpellsScalar, SpellsValue, of_kind, SpellsKind, as_scalar, as_array as by_array, as_map as by_map, SpellsList, no_list, a_list, SpellsItems, no_item, an_item, SpellsMap, no_map, a_map, SpellsMembers, no_member, left_out, a_member, SpellsFields}
 use Rattle.json_model.specs.Members.{given}
 use Rattle.json_model.specs.Origin.{Origin}
@@ -110,4 +111,10 @@ fields_deep o limit name d es clean spelled =
     let inside = sound o limit object.Fields here.0 spelled.members here.1 in
     let e : 0 ≡ inside.levels = sym inside.takes in
     let more = members_deep o (limit - inside.levels) spelled.members [] es inside.inside (omega arith) spelled.spelled in
+    omega arith
+
+pub clean_deep : (o : Origin) (ms : json.Members) (es : Entries) → AreClean o object.Fields ms → SpellsMembers ms [] es → entries_depth es ≤ max_nesting
+clean_deep o ms es (limit, name, room, clean) spelled =
+    let inside = sound o limit object.Fields name ms clean in
+    let more = members_deep o (limit - inside.levels) ms [] es inside.inside (omega arith) spelled in
     omega arith

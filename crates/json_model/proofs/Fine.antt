@@ -51,7 +51,7 @@ leaf_fits root leaf.ServerTime name d h = fine _ _ h
 
 -- what a reader of leaves knows
 pub clean_leaf : (o : Origin) (kind : Leaf) (d : Json) → IsClean o (place.Leaf kind) d → FitsLeaf o.root kind d
-clean_leaf o kind d (limit, name, h) = leaf_fits o.root kind name d (leaf_faults o limit kind name d [] h)
+clean_leaf o kind d (limit, name, room, h) = leaf_fits o.root kind name d (leaf_faults o limit kind name d [] h)
 
 pub not_many : (text : List ℕ) → IsFieldPathText text → HasManyNames text → ⊥
 not_many text (names, is) (others, spelled, many) =

@@ -56,7 +56,7 @@ own_choice kind name ms none = by (lacks_choice kind ms) (is_vector_map kind ms)
 choice_own : (kind : Object) (name : List ℕ) (ms : Members) → lacks_choice kind ms ≡ false → is_vector_map kind ms ≡ false → own_faults kind name ms ≡ []
 choice_own kind name ms chooses plain = λ i. if chooses i then json_fault.BadShape name ∷ [] else if plain i then json_fault.Unsupported (codes "vectorValue") ∷ [] else []
 
-own_only : (kind : Series) (name : List ℕ) (ds : Items) → own_list_faults kind name ds ≡ [] → lacks_only kind ds ≡ false
+pub own_only : (kind : Series) (name : List ℕ) (ds : Items) → own_list_faults kind name ds ≡ [] → lacks_only kind ds ≡ false
 own_only kind name ds none = by (lacks_only kind ds) none
   where
     by : (b : Bool) → (if b then json_fault.Unsupported name ∷ [] else []) ≡ [] → b ≡ false

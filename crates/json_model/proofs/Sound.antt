@@ -1,5 +1,5 @@
 -- What stands in a tree without faults.
-use Rattle.std.proofs.Common.{rules, ◌≡◌, ◌⊎◌, ℕ, ◌-◌, ◌≤◌, List, [], ◌∷◌, ◌++◌, Bool, true, false, not, ◌&&◌, ◌||◌, cond, nat_lt, Option, Some, None, refl, sym, ap, subst, inl, inr, ◌∙◌, Bor, IfSome, IsSome, option_map, Ordering, Less, Equal, Greater}
+use Rattle.std.proofs.Common.{rules, ◌≡◌, ◌⊎◌, ℕ, ◌-◌, ◌≤◌, List, [], ◌∷◌, ◌++◌, Bool, true, false, not, ◌&&◌, ◌||◌, cond, nat_lt, Option, Some, None, refl, sym, ap, subst, inl, inr, ◌∙◌, Bor, IfSome, IsSome, option_map, Ordering, Less, Equal, Greater, arith}
 use borrow.Author.Tests.{ltb-false}
 use Rattle.std.specs.Bool.{if◌then◌else◌}
 use Rattle.std.specs.Option.{option_and_then}
@@ -97,7 +97,7 @@ unfolding FaultsAt
 sound_list o limit kind name ds h = no_own (own_list_faults kind name ds) (ItemsFaults o limit kind name ds) h
 
 pub clean_items : (o : Origin) (kind : Series) (d : Json) (ds : Items) → d ≡ array ds → IsClean o (place.Series kind) d → ItemsAreClean o kind ds
-clean_items o kind d ds is (limit, name, h) = (limit, name, (sound_list o limit kind name ds (subst (λ e. FaultsAt o limit (place.Series kind) name e []) is h)).1)
+clean_items o kind d ds is (limit, name, room, h) = (limit, name, room, (sound_list o limit kind name ds (subst (λ e. FaultsAt o limit (place.Series kind) name e []) is h)).1)
 
 -- ---- members
 
@@ -159,10 +159,10 @@ given_some (Some e) d is = by (is_null e) refl is
     by false n same = let trees : e ≡ d = cc in (same, ap is_null (sym trees) ∙ n)
 
 pub given_clean : (o : Origin) (kind : Object) (ms : Members) (k : List ℕ) (d : Json) → AreClean o kind ms → given k ms ≡ Some d → IsClean o (member_place (refined kind ms) k) d
-given_clean o kind ms k d (limit, name, clean) is =
+given_clean o kind ms k d (limit, name, room, clean) is =
     let there = given_some (get_member k ms) d is in
     let inside = sound o limit kind name ms clean in
-    (limit - inside.levels, k, member_clean o (limit - inside.levels) (refined kind ms) (required (refined kind ms)) ms k d inside.inside there.0 there.1)
+    (limit - inside.levels, k, omega arith, member_clean o (limit - inside.levels) (refined kind ms) (required (refined kind ms)) ms k d inside.inside there.0 there.1)
 
 pub given_all : (o : Origin) (kind : Object) (ms : Members) (k : List ℕ) (found : Option (Bor Value)) → AreClean o kind ms → option_map (λ v. view v.now) found ≡ given k ms → IfSome found (λ v. IsClean o (member_place (refined kind ms) k) (view v.now))
 given_all o kind ms k None clean is = tt
@@ -266,7 +266,7 @@ there_from o limit kind names (member l e ms) k up clean among =
     by Equal cmp (inr more) behind = absurd (more.0 (sym (texts_compute.exact k l cmp)))
 
 pub required_there : (o : Origin) (kind : Object) (ms : Members) (k : List ℕ) (found : Option (Bor Value)) → AreClean o kind ms → option_map (λ v. view v.now) found ≡ given k ms → is_among k (required (refined kind ms)) ≡ true → IsSome found
-required_there o kind ms k found (limit, name, clean) is among =
+required_there o kind ms k found (limit, name, room, clean) is among =
     let inside = sound o limit kind name ms clean in
     shown found (subst IsSome (sym is) (there_from o (limit - inside.levels) (refined kind ms) (required (refined kind ms)) ms k (required_ascending (refined kind ms)) inside.inside among))
   where

@@ -48,5 +48,5 @@ pub use printing::{print_fields, print_value};
 pub use reading::{MAX_NESTING, clean_fields, clean_value, clean_values, read_fields, read_name};
 pub use setting::Setting;
 pub use side::Side;
-pub use table::value_member;
+pub use table::{member_place, value_member};
 pub use walk::find_fault;

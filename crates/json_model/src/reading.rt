@@ -249,6 +249,7 @@ pub fn clean_fields(alloc: Global, setting: &Setting<'_>, json: &Json) -> Result
     requires { IsClean setting.now (places.Object objects.Fields) (view json.now) }
     ensures fields { IfOk result (λ fields. SpellsFields (view json.now) fields) }
     ensures storable { IfOk result AreStorable }
+    ensures deep { IfOk result (λ fields. entries_depth fields ≤ max_nesting) }
 {
     let members = clean_object(setting, Object::Fields, json);
     let mut fields = Fields::new(alloc);

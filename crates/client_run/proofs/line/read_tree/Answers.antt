@@ -1,5 +1,5 @@
 use Rattle.client_run.specs.Reading.{an_event}
-use Rattle.client_run.proofs.Objects.{refused}
+use Rattle.client_run.proofs.Lined.{refused}
 use Rattle.client_run.proofs.line.read_tree.Goals as goal
 
 pub returns-in-Ok-clause-is : goal.returns-in-Ok-clause-is

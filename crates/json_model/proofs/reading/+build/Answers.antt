@@ -3,15 +3,16 @@ use Rattle.std.specs.Map.Iter.{deref_pair}
 use Rattle.std.specs.Str.{IsUtf8}
 use Rattle.std.proofs.lemmas.List.{map-append}
 use Rattle.std.proofs.lemmas.List.Elements.{All-nil}
-use Rattle.std.proofs.lemmas.Map.Iter.{rest_so_far, rest_more}
+use Rattle.std.proofs.lemmas.Map.Iter.{rest_so_far, rest_more, iter_end}
 use Rattle.std.proofs.lemmas.Result.{IfOk-weaker}
 use Rattle.document_keys.specs.Paths.{IsFieldName}
 use Rattle.serde_json.specs.Data.{members_depth}
 use Rattle.serde_json.specs.View.{view, items_view, members_view}
 use Rattle.json_model.specs.declared.place.Series.TheVariants as series
 use Rattle.json_model.specs.Clean.{ItemsAreClean}
-use Rattle.json_model.specs.Grammar.{SpellsKind, SpellsItems, as_scalar, no_member}
+use Rattle.json_model.specs.Grammar.{SpellsKind, SpellsItems, SpellsMembers, as_scalar, no_member}
 use Rattle.json_model.proofs.Built.{kind_known, no_other_kind, no_other_object, whole_list, no_items, one_more, item_clean, field_clean, member_skip, member_more, empty_array, full_array, empty_map, full_map, a_value, a_full_list}
+use Rattle.json_model.proofs.Deep.{clean_deep}
 use Rattle.json_model.proofs.Stored.{keys_put, members_put, array_stored, map_stored}
 use Rattle.json_model.proofs.Trees.{null_test, item_depth, entry_depth}
 use Rattle.json_model.proofs.reading.+build.Goals as goal
@@ -116,3 +117,8 @@ pub clean_values-returns-clause-values : goal.clean_values-returns-clause-values
 clean_values-returns-clause-values t c =
     let all = whole_list _ c.loop-item.item-index c.loop-item-test.false c.loop-item.auto.item-index-end ∙ c.deref-item-items.ensures.value in
     a_full_list _ _ _ c.clean_list-items.ensures.is (subst (λ l. SpellsItems (items_view l) c.loop-item.values.items) all c.loop-item.invariant.spelled)
+
+pub clean_fields-returns-clause-deep : goal.clean_fields-returns-clause-deep
+clean_fields-returns-clause-deep t c =
+    let all : map deref_pair c.loop-key.yielded ≡ c.clean_object-members.result.now.entries = search (rules, iter_end) in
+    clean_deep _ _ _ c.clean_object-members.ensures.clean (subst (λ l. SpellsMembers (members_view l) [] c.loop-key.fields) all c.loop-key.invariant.2)
