@@ -1,4 +1,5 @@
 pub mod ByRank
+pub mod Changing
 pub mod Checked
 pub mod Counted
 pub mod Dates
@@ -16,6 +17,7 @@ pub mod Parts
 pub mod Places
 pub mod ReadBack
 pub mod RefNames
+pub mod Removing
 pub mod Scalars
 pub mod Sizes
 pub mod UnderRoot

@@ -17,13 +17,13 @@ apart_by m n Equal is other = absurd (other (texts_compute.exact m n is))
 apart_by m n Greater is other = refl
 
 -- a field of another name is passed by
-passed : (e : List ℕ × Data) (es : Entries) (m : List ℕ) → m ≢ e.0 → field (e ∷ es) m ≡ field es m
+pub passed : (e : List ℕ × Data) (es : Entries) (m : List ℕ) → m ≢ e.0 → field (e ∷ es) m ≡ field es m
 passed e es m other = ap (λ b. cond b (Some e.1) (field es m)) (apart_by m e.0 (slice_cmp nat_cmp m e.0) refl other)
 
-first : (e : List ℕ × Data) (es : Entries) (n : List ℕ) → n ≡ e.0 → field (e ∷ es) n ≡ Some e.1
+pub first : (e : List ℕ × Data) (es : Entries) (n : List ℕ) → n ≡ e.0 → field (e ∷ es) n ≡ Some e.1
 first e es n same = ap (λ o. cond (is_eq o) (Some e.1) (field es n)) (compared_same e.0 n (sym same))
 
-put_here : (es : Entries) (n : List ℕ) (v : Data) → field (with_field es n v) n ≡ Some v
+pub put_here : (es : Entries) (n : List ℕ) (v : Data) → field (with_field es n v) n ≡ Some v
 put_here [] n v = first (n, v) [] n refl
 put_here (e ∷ es) n v = by (slice_cmp nat_cmp n e.0) refl (put_here es n v)
   where
@@ -32,7 +32,7 @@ put_here (e ∷ es) n v = by (slice_cmp nat_cmp n e.0) refl (put_here es n v)
     by Equal is rest = first (e.0, v) es n (texts_compute.exact n e.0 is)
     by Greater is rest = ap (λ o. cond (is_eq o) (Some e.1) (field (with_field es n v) n)) is ∙ rest
 
-put_elsewhere : (es : Entries) (n : List ℕ) (v : Data) (m : List ℕ) → m ≢ n → field (with_field es n v) m ≡ field es m
+pub put_elsewhere : (es : Entries) (n : List ℕ) (v : Data) (m : List ℕ) → m ≢ n → field (with_field es n v) m ≡ field es m
 put_elsewhere [] n v m other = passed (n, v) [] m other
 put_elsewhere (e ∷ es) n v m other = by (slice_cmp nat_cmp n e.0) refl (put_elsewhere es n v m other)
   where
@@ -43,10 +43,10 @@ put_elsewhere (e ∷ es) n v m other = by (slice_cmp nat_cmp n e.0) refl (put_el
         passed (e.0, v) es m apart ∙ sym (passed e es m apart)
     by Greater is rest = ap (λ r. cond (is_eq (slice_cmp nat_cmp m e.0)) (Some e.1) r) rest
 
-tail_pairs : (n : List ℕ) (ns : List (List ℕ)) → AllPairs TextBefore (n ∷ ns) → AllPairs TextBefore ns
+pub tail_pairs : (n : List ℕ) (ns : List (List ℕ)) → AllPairs TextBefore (n ∷ ns) → AllPairs TextBefore ns
 tail_pairs n ns all i j d before below = all (suc i) (suc j) d (omega arith) (omega arith)
 
-gap_after : (n : List ℕ) (ns : List (List ℕ)) → AllPairs TextBefore (n ∷ ns) → IsGapFor ns n 0
+pub gap_after : (n : List ℕ) (ns : List (List ℕ)) → AllPairs TextBefore (n ∷ ns) → IsGapFor ns n 0
 gap_after n ns all = record {
   inside = omega arith;
   below = λ k d low high. absurd (omega arith);
@@ -58,14 +58,14 @@ above_all m n ns before all zero d below = before
 above_all m n ns before all (suc k) d below =
     texts_compute.below m (get_or ns k d) (texts_compute.total.trans m n (get_or ns k d) (texts_compute.less m n before) (texts_compute.less n (get_or ns k d) (all 0 (suc k) d (omega arith) below)))
 
-gap_under : (m n : List ℕ) (ns : List (List ℕ)) → TextBefore m n → AllPairs TextBefore (n ∷ ns) → IsGapFor (n ∷ ns) m 0
+pub gap_under : (m n : List ℕ) (ns : List (List ℕ)) → TextBefore m n → AllPairs TextBefore (n ∷ ns) → IsGapFor (n ∷ ns) m 0
 gap_under m n ns before all = record {
   inside = omega arith;
   below = λ k d low high. absurd (omega arith);
   above = λ k d low high. above_all m n ns before all k d high;
 }
 
-removed_here : (es : Entries) (n : List ℕ) → AllPairs TextBefore (keys_of es) → field (without_field es n) n ≡ None
+pub removed_here : (es : Entries) (n : List ℕ) → AllPairs TextBefore (keys_of es) → field (without_field es n) n ≡ None
 removed_here [] n all = refl
 removed_here (e ∷ es) n all = by (slice_cmp nat_cmp n e.0) refl (removed_here es n (tail_pairs e.0 (keys_of es) all))
   where
@@ -74,7 +74,7 @@ removed_here (e ∷ es) n all = by (slice_cmp nat_cmp n e.0) refl (removed_here 
     by Equal is rest = no_field es n 0 (subst (λ k. IsGapFor (keys_of es) k 0) (sym (texts_compute.exact n e.0 is)) (gap_after e.0 (keys_of es) all))
     by Greater is rest = ap (λ o. cond (is_eq o) (Some e.1) (field (without_field es n) n)) is ∙ rest
 
-removed_elsewhere : (es : Entries) (n m : List ℕ) → m ≢ n → field (without_field es n) m ≡ field es m
+pub removed_elsewhere : (es : Entries) (n m : List ℕ) → m ≢ n → field (without_field es n) m ≡ field es m
 removed_elsewhere [] n m other = refl
 removed_elsewhere (e ∷ es) n m other = by (slice_cmp nat_cmp n e.0) refl (removed_elsewhere es n m other)
   where

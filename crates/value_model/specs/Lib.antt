@@ -1,4 +1,5 @@
 pub mod Arrays
+pub mod Changes
 pub mod Codes
 pub mod Data
 pub mod Documents

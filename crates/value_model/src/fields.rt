@@ -1,7 +1,7 @@
-ghost use Rattle.std.specs.Prelude.{◌≡◌, ◌↔◌, [], length, IsTrue, IfOk, IfSome, IfNone, OnOk, OnErr, option_map};
+ghost use Rattle.std.specs.Prelude.{◌≡◌, ◌↔◌, [], length, IsTrue, IfOk, IfSome, IfNone, OnOk, OnErr, OnSome, option_map};
 ghost use Rattle.std.specs.List.{slice_get};
 
-use crate::entries::{set_value, take_out};
+use crate::entries::{set_value, swap_value, take_out};
 use crate::names::{are_fields, place};
 use crate::value::Value;
 use document_keys::{NoMemory, Text};
@@ -148,6 +148,19 @@ impl Fields {
                 self.entries.insert(at, Field { name, value })?;
                 Ok(())
             }
+        }
+    }
+
+    /// Puts the value in place of the one at the name, which it gives back; where there is none, it does nothing.
+    pub fn replace(&mut self, name: &str, value: Value) -> Option<Value>
+        ensures before { result ≡ field self.old name.now }
+        ensures there { OnSome result (self.new ≡ with_field self.old name.now value) }
+        ensures missing { IfNone result (self.new ≡ self.old) }
+        ensures fields { AreFields self.new }
+    {
+        match place(self.entries.as_slice(), name) {
+            Ok(at) => Some(swap_value(&mut self.entries, at, value)),
+            Err(_) => None,
         }
     }
 

@@ -8,6 +8,7 @@
 
 mod at;
 mod bytes;
+mod changes;
 mod document;
 mod documents;
 mod entries;

@@ -1,0 +1,10 @@
+use Rattle.std.proofs.Common.{◌∙◌, sym, ap}
+use Rattle.value_model.specs.Changes.{members_in}
+use Rattle.value_model.specs.Paths.{value_in}
+use Rattle.value_model.proofs.Parts.{entries_members}
+use Rattle.value_model.proofs.fields.Fields.with_at.Goals as goal
+
+pub returns-clause-same : goal.returns-clause-same
+returns-clause-same c there =
+    let whole = c.in_ok-whole.ensures.same (ap (λ d. value_in d c.args.path.now) c.map.ensures ∙ there) in
+    c.members.ensures ∙ ap members_in (whole ∙ c.map.ensures) ∙ entries_members c.args.self

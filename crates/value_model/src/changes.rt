@@ -1,0 +1,120 @@
+//! Fields with another value at a path, by moving what stands in them.
+
+ghost use Rattle.std.specs.Prelude.{◌≡◌, ◌≢◌, [], ◌∷◌, codes, ◌<◌, length, drop, Option, None, IfOk, unwrap_or};
+ghost use Rattle.value_model.specs.Changes.{members_in, with_value, with_value_at, on_members, without_value_at};
+ghost use Rattle.value_model.specs.Data as Data;
+ghost use Rattle.value_model.specs.Paths.{value_in, value_at};
+
+use crate::fields::Fields;
+use crate::value::{Kind, Value};
+use document_keys::{FieldPath, NoMemory, Text};
+use std::alloc::Global;
+
+/// The members of a map; of another value, no fields.
+fn members(alloc: Global, value: Value) -> Fields
+    ensures { result ≡ members_in value }
+{
+    let Value { kind } = value;
+    match kind {
+        Kind::Map(fields) => fields,
+        _ => Fields::new(alloc),
+    }
+}
+
+/// The value, or null.
+fn or_null(value: Option<Value>) -> Value
+    ensures { result ≡ unwrap_or value Data.null }
+{
+    match value {
+        Some(value) => value,
+        None => Value { kind: Kind::Null },
+    }
+}
+
+/// The value with another inside it, at the names of the path from this index on.
+fn with_inner(
+    alloc: Global,
+    value: Value,
+    path: &FieldPath,
+    from: u64,
+    new: Value,
+) -> Result<Value, NoMemory>
+    requires { path.now ≢ codes "__name__" ∷ [] }
+    ensures done { IfOk result (λ changed. changed ≡ with_value value (drop from path.now) new) }
+    ensures same { IfOk result (λ d. value_in value (drop from path.now) ≡ Option.Some new → d ≡ value) }
+{
+    let _names = path.len();
+    let Some(name) = path.segment(from) else {
+        return Ok(new);
+    };
+    let mut fields = members(alloc, value);
+    let _count = fields.len();
+    let inner = or_null(fields.replace(name, Value { kind: Kind::Null }));
+    let changed = with_inner(alloc, inner, path, from + 1, new)?;
+    fields.put(alloc, Text::from_str(alloc, name)?, changed)?;
+    Ok(Value::map(fields))
+}
+
+/// The value without what stands inside it, at the names of the path from this index on.
+#[cycle(without)]
+fn without_inner(value: Value, path: &FieldPath, from: u64) -> Value
+    requires { from < length path.now }
+    ensures done { result ≡ on_members (λ fields. without_value_at fields (drop from path.now)) value }
+    ensures gone { value_in result (drop from path.now) ≡ None }
+    ensures missing { value_in value (drop from path.now) ≡ None → result ≡ value }
+{
+    let Value { kind } = value;
+    match kind {
+        Kind::Map(fields) => Value::map(without_member(fields, path, from)),
+        kind => Value { kind },
+    }
+}
+
+/// The fields without what stands in them, at the names of the path from this index on.
+#[cycle(without)]
+fn without_member(mut fields: Fields, path: &FieldPath, from: u64) -> Fields
+    requires { from < length path.now }
+    ensures done { result ≡ without_value_at fields (drop from path.now) }
+    ensures gone { value_at result (drop from path.now) ≡ None }
+    ensures missing { value_at fields (drop from path.now) ≡ None → result ≡ fields }
+{
+    let _count = fields.len();
+    let names = path.len();
+    let Some(name) = path.segment(from) else {
+        return fields;
+    };
+    if from + 1 == names {
+        fields.remove(name);
+        return fields;
+    }
+    if let Some(inner) = fields.replace(name, Value { kind: Kind::Null }) {
+        fields.replace(name, without_inner(inner, path, from + 1));
+    }
+    fields
+}
+
+impl Fields {
+    /// The fields with the value at the path: the maps above it are made, in place of what isn't one. The path isn't
+    /// `__name__`.
+    ///
+    /// # Errors
+    /// `NoMemory`: the fields are then gone.
+    pub fn with_at(self, alloc: Global, path: &FieldPath, value: Value) -> Result<Fields, NoMemory>
+        requires { path.now ≢ codes "__name__" ∷ [] }
+        ensures done { IfOk result (λ fields. fields ≡ with_value_at self path.now value) }
+        ensures same { IfOk result (λ f. value_at self path.now ≡ Option.Some value → f ≡ self) }
+    {
+        let whole = with_inner(alloc, Value::map(self), path, 0, value)?;
+        Ok(members(alloc, whole))
+    }
+
+    /// The fields without what stands at the path. Nothing is made on the way to it.
+    pub fn without_at(self, path: &FieldPath) -> Fields
+        ensures done { result ≡ without_value_at self path.now }
+        ensures gone { value_at result path.now ≡ None }
+        ensures missing { value_at self path.now ≡ None → result ≡ self }
+    {
+        let _names = path.len();
+        without_member(self, path, 0)
+    }
+}
