@@ -10,6 +10,7 @@ pub mod Fractions
 pub mod Inner
 pub mod Instants
 pub mod Lawful
+pub mod Lookups
 pub mod Loops
 pub mod Mapped
 pub mod Named

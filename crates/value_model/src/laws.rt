@@ -1,6 +1,6 @@
 //! Laws of values, their order, and fields. Nothing is done when they run.
 
-ghost use Rattle.value_model.specs.Laws.{ValuesAreOrdered, TiesAreEqual, PendingTimesStand, FieldsAreAMap};
+ghost use Rattle.value_model.specs.Laws.{ValuesAreOrdered, TiesAreEqual, PendingTimesStand, FieldsAreAMap, PathsHold};
 
 /// Values are in a strict total order.
 pub fn values_are_ordered()
@@ -20,4 +20,9 @@ pub fn pending_times_stand()
 /// Fields are a finite map from names to values.
 pub fn fields_are_a_map()
     ensures { FieldsAreAMap }
+{}
+
+/// What stands at each path after a change at one path.
+pub fn paths_hold()
+    ensures { PathsHold }
 {}

@@ -28,7 +28,9 @@ pub use bytes::Bytes;
 pub use document::{DocState, Document, Entry, RpcStatus, Seal};
 pub use documents::{DocRef, Documents};
 pub use fields::{Field, Fields};
-pub use laws::{fields_are_a_map, pending_times_stand, ties_are_equal, values_are_ordered};
+pub use laws::{
+    fields_are_a_map, paths_hold, pending_times_stand, ties_are_equal, values_are_ordered,
+};
 pub use message::{
     ChangeKind, DocumentChange, DocumentDelete, DocumentRemove, ExistenceFilter, ListenResponse,
     TargetChange,
