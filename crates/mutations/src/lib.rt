@@ -7,12 +7,16 @@
 #![tactic(auto)]
 
 mod batch;
+mod change;
+mod effect;
 mod lists;
+mod mask;
 mod plain;
 mod transform;
 mod write;
 
 pub use batch::{Batch, Writes};
+pub use effect::apply_local;
 pub use lists::{Mask, Values};
 pub use plain::{PlainBatch, PlainUpdate};
 pub use transform::{Change, Transform, Transforms};
