@@ -17,7 +17,7 @@ use Rattle.mutations.specs.Masks.{Extends, LeadsTo, PartsFrom, IsMasked, IsAbove
 
 -- ---- how a path stands to another
 
-name_cases : (m n : List ℕ) → (n ≡ m) ⊎ (n ≢ m)
+pub name_cases : (m n : List ℕ) → (n ≡ m) ⊎ (n ≢ m)
 name_cases m n = by (slice_cmp nat_cmp n m) refl
   where
     by : (o : Ordering) → slice_cmp nat_cmp n m ≡ o → (n ≡ m) ⊎ (n ≢ m)

@@ -1,3 +1,4 @@
 pub mod Changes
 pub mod Effect
+pub mod Laws
 pub mod Masks

@@ -9,6 +9,7 @@
 mod batch;
 mod change;
 mod effect;
+mod laws;
 mod lists;
 mod mask;
 mod plain;
@@ -17,6 +18,7 @@ mod write;
 
 pub use batch::{Batch, Writes};
 pub use effect::apply_local;
+pub use laws::masks_hold;
 pub use lists::{Mask, Values};
 pub use plain::{PlainBatch, PlainUpdate};
 pub use transform::{Change, Transform, Transforms};
