@@ -1,3 +1,4 @@
+pub mod Changing
 pub mod Masking
 pub mod Steps
 pub mod Taking

@@ -1,11 +1,11 @@
 -- a mask leaves one result, whatever the order of its paths
-use Rattle.std.proofs.Common.{◌≡◌, ◌≢◌, ◌∙◌, ◌↔◌, ◌⊎◌, inl, inr, ℕ, zero, suc, ◌+◌, ◌<◌, ◌≤◌, true, false, cond, Bool, Ordering, Less, Equal, Greater, Option, Some, None, List, [], ◌∷◌, ◌++◌, length, get_or, option_and_then, refl, sym, ap, subst, arith}
+use Rattle.std.proofs.Common.{◌≡◌, ◌≢◌, ◌∙◌, ◌↔◌, ◌⊎◌, inl, inr, ℕ, zero, suc, ◌<◌, ◌≤◌, true, false, cond, Bool, Option, Some, None, List, [], ◌∷◌, length, get_or, option_and_then, refl, sym, ap, subst, arith}
 use Rattle.std.specs.Prelude.{IsSome}
 use Rattle.std.specs.Cmp.Lexicographic.{slice_cmp}
 use Rattle.std.specs.List.{Contains}
 use Rattle.std.specs.Ordering.{nat_cmp, is_eq}
 use Rattle.value_model.specs.Changes.{members_in}
-use Rattle.value_model.specs.Data.{Data, map, Members, no_members, member, Entries, entries_of, members_of, map_of, depth, entries_depth}
+use Rattle.value_model.specs.Data.{Data, map, Entries, entries_of, members_of, map_of, depth, entries_depth}
 use Rattle.value_model.specs.Fields.{AreFields, field}
 use Rattle.value_model.specs.Laws.{IsMap}
 use Rattle.value_model.specs.Paths.{value_at, value_in}
@@ -13,7 +13,7 @@ use Rattle.value_model.proofs.Mapped.{map_laws}
 use Rattle.value_model.proofs.Parts.{entries_members, members_entries}
 use Rattle.value_model.proofs.Removing.{at_first}
 use Rattle.mutations.specs.Laws.{IsOrderly, AreOrderly, HasOrder, MasksHold}
-use Rattle.mutations.specs.Masks.{Extends, LeadsTo, IsMasked, IsAboveMask, IsFilledBelow, Masked}
+use Rattle.mutations.specs.Masks.{Extends, LeadsTo, IsMasked, IsFilledBelow, Masked}
 use Rattle.mutations.proofs.Taking.{name_cases}
 
 -- ---- values that are alike at each path
@@ -56,7 +56,7 @@ module _ (k : ℕ) (inner : (d e : Data) → depth d ≤ k → IsOrderly d → I
   maps_alike n xs ys this that =
       let deep = depth_at ds n (map_of xs) this in
       let same : map_of xs ≡ map_of ys = inner (map_of xs) (map_of ys) (omega arith) (orderly_at ds n (map_of xs) wholly.1 this) (orderly_at es n (map_of ys) also.1 that)
-        (λ q. subst (λ o. Alike o (value_in (map_of ys) q)) (at_name ds n q (map_of xs) this) (subst (λ o. Alike (value_at ds (n ∷ q)) o) (at_name es n q (map_of ys) that) (alike (n ∷ q)))) in
+      (λ q. subst (λ o. Alike o (value_in (map_of ys) q)) (at_name ds n q (map_of xs) this) (subst (λ o. Alike (value_at ds (n ∷ q)) o) (at_name es n q (map_of ys) that) (alike (n ∷ q)))) in
       this ∙ ap Some same ∙ sym that
 
   field_alike : (n : List ℕ) → Alike (value_at ds (n ∷ [])) (value_at es (n ∷ [])) → field ds n ≡ field es n
@@ -87,7 +87,7 @@ same_data (suc k) d e small wholly also alike = by (alike []) (same_data k)
         let that : e ≡ map_of maps.1.0 = some_same e (map_of maps.1.0) maps.1.1 in
         let deep : depth (map_of maps.0.0) ≤ suc k = subst (λ x. depth x ≤ suc k) this small in
         this ∙ ap map_of (fields_alike k inner maps.0.0 maps.1.0 (omega arith) (subst IsOrderly this wholly) (subst IsOrderly that also)
-          (λ q. subst (λ x. Alike (value_in x q) (value_at maps.1.0 q)) this (subst (λ x. Alike (value_in d q) (value_in x q)) that (alike q)))) ∙ sym that
+        (λ q. subst (λ x. Alike (value_in x q) (value_at maps.1.0 q)) this (subst (λ x. Alike (value_in d q) (value_in x q)) that (alike q)))) ∙ sym that
 
 -- ---- which clause a path falls under
 

@@ -18,7 +18,7 @@ mod write;
 
 pub use batch::{Batch, Writes};
 pub use effect::apply_local;
-pub use laws::masks_hold;
+pub use laws::{appends_hold, changes_hold, masks_hold, removes_hold};
 pub use lists::{Mask, Values};
 pub use plain::{PlainBatch, PlainUpdate};
 pub use transform::{Change, Transform, Transforms};
