@@ -1,14 +1,15 @@
 //! What a write makes of a document before the backend has answered.
 
 ghost use Rattle.std.specs.Prelude.{◌≡◌, ◌↔◌, IsTrue, IfOk, OnOk, OnErr};
-ghost use Rattle.mutations.specs.Effect.{HasEffect, HasMaskOfFields, HavePathsOfFields, Holds, IsOfFieldsOnly, SetsFields, Updates, fields_of, update_time_of};
+ghost use Rattle.std.specs.List.{All};
+ghost use Rattle.mutations.specs.Effect.{HasEffect, HasMaskOfFields, HavePathsOfFields, Holds, IsOfFields, IsOfFieldsOnly, SetsFields, Updates, fields_of, update_time_of};
 
 use crate::change::transformed;
 use crate::lists::Mask;
 use crate::mask::masked;
-use crate::transform::Transforms;
+use crate::transform::{Transform, Transforms};
 use crate::write::{Precondition, Write};
-use document_keys::NoMemory;
+use document_keys::{FieldPath, NoMemory};
 use std::alloc::Global;
 use value_model::{Document, Fields, Timestamp};
 
@@ -124,4 +125,59 @@ pub fn apply_local(
         }
     }
     Ok(())
+}
+
+/// Whether none of the paths is `__name__`.
+fn are_of_fields(paths: &[FieldPath]) -> bool
+    ensures { IsTrue result ↔ All IsOfFields paths.now }
+{
+    for path in paths {
+        if path.is_document_name() {
+            return false;
+        }
+    }
+    true
+}
+
+/// Whether none of the transforms is at `__name__`.
+fn have_paths_of_fields(transforms: &[Transform]) -> bool
+    ensures { IsTrue result ↔ HavePathsOfFields transforms.now }
+{
+    for transform in transforms {
+        if transform.path.is_document_name() {
+            return false;
+        }
+    }
+    true
+}
+
+/// Whether no path of the mask is `__name__`.
+fn has_mask_of_fields(mask: &Option<Mask>) -> bool
+    ensures { IsTrue result ↔ HasMaskOfFields mask.now }
+{
+    match mask {
+        None => true,
+        Some(mask) => are_of_fields(mask.as_slice()),
+    }
+}
+
+impl Write {
+    /// Whether no path of the write is `__name__`.
+    pub fn is_of_fields_only(&self) -> bool
+        ensures { IsTrue result ↔ IsOfFieldsOnly self.now }
+    {
+        match self {
+            Write::Update {
+                key: _,
+                fields: _,
+                mask,
+                transforms,
+                condition: _,
+            } => has_mask_of_fields(mask) && have_paths_of_fields(transforms.as_slice()),
+            Write::Delete {
+                key: _,
+                condition: _,
+            } => true,
+        }
+    }
 }
