@@ -69,11 +69,7 @@ fn apply(alloc: Global, document: &mut Option<Document>, write: &Write) -> Resul
 }
 
 /// The number at the path, if there is one.
-fn number_at(
-    alloc: Global,
-    document: &Option<Document>,
-    path: &str,
-) -> Result<Option<i64>, Fail> {
+fn number_at(alloc: Global, document: &Option<Document>, path: &str) -> Result<Option<i64>, Fail> {
     let path = FieldPath::read(alloc, path)?;
     let Some(document) = document else {
         return Ok(None);
@@ -95,7 +91,10 @@ fn increment(alloc: Global, by: i64) -> Result<Write, Fail> {
 fn check_sum(rt: &(impl Abort + AllocGlobal), from: i64, by: i64, to: i64) -> Result<(), Fail> {
     let mut document = document(one(rt.alloc(), "n", number(from))?);
     apply(rt.alloc(), &mut document, &increment(rt.alloc(), by)?)?;
-    assert!(rt; number_at(rt.alloc(), &document, "n")? == Some(to), "{from} and {by}");
+    assert!(rt;
+        number_at(rt.alloc(), &document, "n")? == Some(to),
+        "{from} and {by}"
+    );
     Ok(())
 }
 
@@ -125,10 +124,7 @@ fn masked_update(alloc: Global) -> Result<Write, Fail> {
     update(alloc, input, masked(alloc, &["a.x", "b"])?, Vec::new(alloc))
 }
 
-fn check_masked(
-    rt: &(impl Abort + AllocGlobal),
-    document: &Option<Document>,
-) -> Result<(), Fail> {
+fn check_masked(rt: &(impl Abort + AllocGlobal), document: &Option<Document>) -> Result<(), Fail> {
     assert!(rt; number_at(rt.alloc(), document, "a.x")? == Some(9));
     assert!(rt; number_at(rt.alloc(), document, "a.y")? == Some(2));
     assert!(rt; number_at(rt.alloc(), document, "b")? == None);
