@@ -3,7 +3,7 @@
 //! It has tests and nothing else. They stand apart since a crate with tests is proved twice, so `document_keys`,
 //! `value_model`, `mutations`, `json_model`, `record_codec` and `queries` have none, and are tried through what they export.
 //! A module for each of them, cut where one grew long: `names`, `times`, `order`, `fields`, `messages`, `stores`,
-//! `writes`, `effects`, `paths`, `queries`, `records`, `trees`. What several need to make a value stands in `fixtures`.
+//! `writes`, `effects`, `matching`, `paths`, `records`, `trees`. What several need to make a value stands in `fixtures`.
 //! A test function owns one value, and hands it on by reference.
 #![tactic(auto)]
 
@@ -14,6 +14,8 @@ mod fields;
 #[cfg(test)]
 mod fixtures;
 #[cfg(test)]
+mod matching;
+#[cfg(test)]
 mod messages;
 #[cfg(test)]
 mod names;
@@ -21,8 +23,6 @@ mod names;
 mod order;
 #[cfg(test)]
 mod paths;
-#[cfg(test)]
-mod queries;
 #[cfg(test)]
 mod records;
 #[cfg(test)]

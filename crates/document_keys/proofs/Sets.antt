@@ -184,9 +184,9 @@ module _ {A : Type 0} {R : A → A → Ordering} {Below : A → A → Type 0} (r
       elim (first_or_rest y ys x ((same x).0 (at_first x xs))) [
         | inl e ↦ sym e
         | inr in_ys ↦ elim (first_or_rest x xs y ((same y).1 (at_first y ys))) [
-            | inl e ↦ e
-            | inr in_xs ↦ absurd (not_itself x x refl (chain x y x (above_first x xs y ax in_xs) (above_first y ys x ay in_ys)))
-          ]
+          | inl e ↦ e
+          | inr in_xs ↦ absurd (not_itself x x refl (chain x y x (above_first x xs y ax in_xs) (above_first y ys x ay in_ys)))
+        ]
       ]
 
   moved : (x y : A) (xs ys : List A) (k : A) → x ≡ y → AllPairs Below (x ∷ xs) → (Contains (x ∷ xs) k → Contains (y ∷ ys) k) → Contains xs k → Contains ys k

@@ -168,13 +168,6 @@ impl FieldPath {
         self.names.as_slice().cmp(other.names.as_slice())
     }
 
-    /// Whether it is `__name__`, which stands for the document's own name.
-    pub fn is_document_name(&self) -> bool
-        ensures { IsTrue result ↔ (self.now ≡ codes "__name__" ∷ []) }
-    {
-        is_document_name(self.names.as_slice())
-    }
-
     /// The number of names.
     pub fn len(&self) -> u64
         ensures count { result ≡ length self.now }
