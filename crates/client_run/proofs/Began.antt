@@ -1,6 +1,5 @@
 -- A run whose store was opened, or wasn't.
-use Rattle.std.proofs.Common.{◌≡◌, ◌⊎◌, inl, inr, ⊎_elim, ℕ, ◌≤◌, ◌<◌, ◌++◌, Bool, IsTrue, List, [], length, append-nil, refl, sym, ap, subst, ◌∙◌, arith}
-use Rattle.host_api.specs.Counts.{RisesAt}
+use Rattle.std.proofs.Common.{◌≡◌, ◌⊎◌, inl, inr, ⊎_elim, ℕ, ◌≤◌, ◌<◌, Bool, List, [], length, append-nil, refl, sym, ap, subst, ◌∙◌, arith}
 use Rattle.host_api.specs.Host.{Files, View, Stays, Spans}
 use Rattle.host_api.proofs.Spans.{spans_then, spans_weaker}
 use Rattle.disk_journal.specs.Steps.{GiveSame, IsOrGivesSame, Opens, Settled}
@@ -8,7 +7,7 @@ use Rattle.disk_journal.proofs.Pairs.{gives_once}
 use Rattle.document_keys.specs.Names.{Root}
 use Rattle.client_run.specs.Causes.{Causes, NoFaults}
 use Rattle.client_run.specs.Crash.{Keeps, Survives, FindsHandled, FindsAtEnd, Crashes}
-use Rattle.client_run.specs.Output.{Call, called, EndsAs, TookNothing}
+use Rattle.client_run.specs.Output.{Call, called, TookNothing}
 use Rattle.client_run.specs.Run.{Ran}
 use Rattle.client_run.specs.State.{State, LeadsTo, FindsState}
 use Rattle.client_run.specs.Store.{IsNoStore, state_of}

@@ -1,10 +1,10 @@
 -- What one line does to the files, call by call.
-use Rattle.std.proofs.Common.{◌≡◌, ℕ, ◌⊎◌, inl, inr, ⊎_elim, List, ◌++◌, append-nil, sym, subst, ◌∙◌}
+use Rattle.std.proofs.Common.{◌≡◌, ℕ, ◌⊎◌, inl, inr, ⊎_elim, List, append-nil, sym, subst, ◌∙◌}
 use Rattle.host_api.specs.Host.{Files, View, IsPart, Emits}
 use Rattle.host_api.proofs.Spans.{spans_then, spans_weaker}
 use Rattle.disk_journal.proofs.Held.{open_emits}
 use Rattle.client_run.specs.State.{State, FindsState}
-use Rattle.client_run.specs.Store.{IsStored, Moves, state_of}
+use Rattle.client_run.specs.Store.{IsStored, Moves}
 use Rattle.client_run.specs.Turned.{Turned, InTurn}
 use Rattle.client_run.specs.declared.local_store.LocalStore.{LocalStore}
 

@@ -18,15 +18,15 @@ use Rattle.client_run.specs.Run.{Ran, LeavesAll, Kept}
 use Rattle.client_run.specs.State.{State, FindsState}
 use Rattle.client_run.specs.Store.{IsStored, state_of}
 use Rattle.client_run.specs.Turn.{Past, run, one_more, next_turn, turn, heard, now, after, printed, output_of, commits_of, after_all}
-use Rattle.client_run.specs.Turned.{StandsFor, Turned, IsSpelledReading, Writes, TurnCounts, state_then, heard_then, status_of}
+use Rattle.client_run.specs.Turned.{StandsFor, Turned, Writes, TurnCounts, state_then, heard_then, status_of}
 use Rattle.client_run.specs.declared.local_store.LocalStore.{LocalStore}
 use Rattle.client_run.specs.declared.reading.Reading.{Reading}
 use Rattle.client_run.specs.declared.turn_fault.TurnFault.{TurnFault}
 use Rattle.client_run.specs.declared.turn_fault.TurnFault.TheVariants as fault
 use Rattle.client_run.specs.declared.status.Status.{Status}
-use Rattle.client_run.specs.declared.status.Status.TheVariants.{Done, Usage, SourceFault, DiskFault, SinkFault, NoMemory, NotAStore, Budget}
+use Rattle.client_run.specs.declared.status.Status.TheVariants.{DiskFault, SinkFault, NoMemory}
 use Rattle.client_run.proofs.Committed.{stored_finds}
-use Rattle.client_run.proofs.Honest.{IsHonest, turn_honest}
+use Rattle.client_run.proofs.Honest.{turn_honest}
 use Rattle.client_run.proofs.Surviving.{IsFine, fine_none, fine_more, survives_at, survives_part}
 
 run_more : (root : Root) (first : State) (past : Past) (xs : List Reading) (x : Reading) → run root first past (xs ++ x ∷ []) ≡ one_more root first (run root first past xs) x

@@ -1,5 +1,5 @@
 -- What a call that handles one line does to the output and to the files.
-use Rattle.std.specs.Prelude.{◌≡◌, ◌⊎◌, ℕ, List, [], ◌∷◌, ◌++◌, map, Option, Some, None, Result, Ok, Err, IsErrOf}
+use Rattle.std.specs.Prelude.{◌≡◌, ◌⊎◌, ℕ, List, [], ◌++◌, map, Some, None, Result, Ok, Err, IsErrOf}
 use Rattle.host_api.specs.Counts.{RisesAt}
 use Rattle.host_api.specs.Host.{Files, View, IsPart, Spans}
 use Rattle.document_keys.specs.Names.{Root}

@@ -1,4 +1,4 @@
-ghost use Rattle.std.specs.Prelude.{◌≡◌, ◌≢◌, ◌⊎◌, ℕ, List, map, IsTrue};
+ghost use Rattle.std.specs.Prelude.{◌≡◌, ◌≢◌, ◌⊎◌, map, IsTrue};
 ghost use Rattle.std.specs.String.{string_bytes};
 ghost use Rattle.document_keys.specs.Names.{Root};
 ghost use Rattle.host_api.specs.Items.{split};

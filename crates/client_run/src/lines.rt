@@ -1,4 +1,4 @@
-ghost use Rattle.std.specs.Prelude.{◌≡◌, ℕ, ◌++◌, List, [], ◌∷◌, map, true, false, IfOk, Option, Some, None, codes, option_copied};
+ghost use Rattle.std.specs.Prelude.{◌≡◌, ℕ, List, map, true, false, IfOk, Option, Some, option_copied};
 ghost use Rattle.std.specs.String.{string_bytes};
 ghost use Rattle.serde_json.specs.View.{view};
 ghost use Rattle.serde_json.specs.Written.{has_float};

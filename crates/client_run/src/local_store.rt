@@ -1,10 +1,9 @@
-ghost use Rattle.std.specs.Prelude.{◌≡◌, ℕ, ◌+◌, ◌^◌, ◌≤◌, ◌<◌, List, length, map, IsTrue, IfOk, IfErr, IsErrOf, MatchOption, option_copied};
-ghost use Rattle.std.specs.Vec.{vec_len, vec_capacity};
+ghost use Rattle.std.specs.Prelude.{◌≡◌, ◌+◌, ◌^◌, ◌≤◌, ◌<◌, length, map, IsTrue, IfOk, IfErr, IsErrOf, MatchOption, option_copied};
 ghost use Rattle.host_api.specs.Counts.{RisesAt};
 ghost use Rattle.host_api.specs.Host.{KeepsOut};
 ghost use Rattle.disk_journal.specs.Steps.{Opens, SettlesFirst};
 ghost use Rattle.record_codec.specs.Spelling.{spelling, HasSpelling};
-ghost use Rattle.client_run.specs.State.{State, start, most_commits, Fits, committed, Replays, FindsState, local_document};
+ghost use Rattle.client_run.specs.State.{State, start, Fits, committed, Replays, FindsState, local_document};
 
 use disk_journal::{Frame, Journal, OpenFault};
 use document_keys::{DocumentKey, NoMemory};

@@ -1,4 +1,4 @@
-ghost use Rattle.std.specs.Prelude.{◌≡◌, ◌≢◌, ℕ, ◌≤◌, [], length, IsTrue};
+ghost use Rattle.std.specs.Prelude.{◌≡◌, ◌≢◌, ◌≤◌, [], IsTrue};
 ghost use Rattle.host_api.specs.Items.{split};
 ghost use Rattle.client_run.specs.Causes.{Causes, Completes, IsForeign, LeavesForeign, IsServed};
 ghost use Rattle.client_run.specs.Crash.{Keeps};

@@ -1,11 +1,11 @@
-ghost use Rattle.std.specs.Prelude.{◌≡◌, ℕ, ◌+◌, List, length, None, IsTrue, IfOk, IsErrOf};
+ghost use Rattle.std.specs.Prelude.{◌≡◌, ◌+◌, IsTrue, IfOk, IsErrOf};
 ghost use Rattle.document_keys.specs.Names.{Root};
 ghost use Rattle.host_api.specs.Counts.{RisesAt};
 ghost use Rattle.host_api.specs.Host.{KeepsOut};
 ghost use Rattle.value_model.specs.Time.{IsMoment};
 ghost use Rattle.record_codec.specs.Spelling.{IsSpelledWrite};
 ghost use Rattle.client_run.specs.State.{State};
-ghost use Rattle.client_run.specs.Store.{IsStored, Moves, state_of};
+ghost use Rattle.client_run.specs.Store.{IsStored, Moves};
 ghost use Rattle.client_run.specs.Turn.{Past, turn, printed};
 ghost use Rattle.client_run.specs.Turned.{IsSpelledReading, StandsFor, HandsOut, Turned, Writes, TurnCounts, state_then, heard_then};
 ghost use Rattle.client_run.specs.declared.event.Event.TheVariants as event;

@@ -1,4 +1,4 @@
-use Rattle.std.proofs.Common.{arith, refl, inl, subst, sym}
+use Rattle.std.proofs.Common.{arith, refl, inl, subst}
 use Rattle.client_run.specs.Output.{called}
 use Rattle.client_run.specs.Run.{Ran, Kept}
 use Rattle.document_keys.specs.Names.{Root}

@@ -1,4 +1,4 @@
-use Rattle.std.proofs.Common.{inr, refl, subst, sym, List, ℕ}
+use Rattle.std.proofs.Common.{inr, refl, subst, List, ℕ}
 use Rattle.client_run.specs.Output.{called}
 use Rattle.client_run.specs.Run.{Ran, Kept}
 use Rattle.client_run.proofs.Began.{disk_first, memory_first, ran_from, opened_stands, opens_keeps, kept_is_store, causes_from, completed}

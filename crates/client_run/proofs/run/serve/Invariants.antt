@@ -1,4 +1,4 @@
-use Rattle.std.proofs.Common.{◌≡◌, ℕ, List, [], IsTrue}
+use Rattle.std.proofs.Common.{◌≡◌, [], IsTrue}
 use Rattle.host_api.specs.Items.{split}
 use Rattle.client_run.specs.Output.{called}
 use Rattle.client_run.specs.State.{State}

@@ -1,4 +1,4 @@
-use Rattle.std.proofs.Common.{◌≡◌, ℕ, map, IsTrue, rules, ◌∙◌, sym}
+use Rattle.std.proofs.Common.{◌≡◌, map, IsTrue, rules, ◌∙◌, sym}
 use Rattle.client_run.proofs.Opened.{journal_refuses, stuck_refuses, none_found, some_found}
 use Rattle.client_run.proofs.local_store.LocalStore.open.Goals as goal
 
