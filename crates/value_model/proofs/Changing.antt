@@ -1,12 +1,11 @@
 -- values with another at a path, one name at a time
-use Rattle.std.proofs.Common.{◌≡◌, ◌≢◌, ◌∙◌, ◌⊎◌, inl, inr, ℕ, zero, suc, ◌+◌, ◌<◌, ◌≤◌, Ordering, Less, Equal, Greater, Option, Some, None, List, [], ◌∷◌, length, get_or, drop, codes, unwrap_or, refl, sym, ap, subst, arith}
+use Rattle.std.proofs.Common.{◌≡◌, ◌≢◌, ◌∙◌, inl, inr, ℕ, zero, suc, ◌+◌, ◌<◌, Ordering, Less, Equal, Greater, Option, Some, None, List, [], ◌∷◌, length, get_or, drop, codes, unwrap_or, refl, sym, ap, subst, arith}
 use Rattle.std.specs.Prelude.{OnSome, IfNone}
 use Rattle.std.specs.Cmp.{tied_itself}
 use Rattle.std.specs.Cmp.Lexicographic.{slice_cmp}
 use Rattle.std.specs.List.{slice_get}
 use Rattle.std.specs.Map.{keys_of}
 use Rattle.std.specs.Ordering.{nat_cmp, match_ordering}
-use Rattle.std.proofs.lemmas.Bool.{cases_lt}
 use Rattle.std.proofs.lemmas.List.{drop_all}
 use Rattle.std.proofs.lemmas.Option.{slice_get_within, get_or_from_slice_get, slice_get_cases}
 use Rattle.document_keys.specs.Names.{HasNameLength}

@@ -2,12 +2,12 @@
 use Rattle.std.proofs.Common.{◌≡◌, ◌≢◌, ◌∙◌, ℕ, Option, Some, None, List, [], ◌∷◌, ◌++◌, option_and_then, option_map, unwrap_or, refl, sym, ap, subst}
 use Rattle.value_model.specs.Changes.{members_in, with_value, with_value_at, on_members, without_value_at}
 use Rattle.value_model.specs.Data.{Data, null, map, Members, Entries, entries_of, map_of}
-use Rattle.value_model.specs.Fields.{AreFields, field, with_field, without_field}
+use Rattle.value_model.specs.Fields.{field, with_field, without_field}
 use Rattle.value_model.specs.Laws.{IsMap, PathsHold}
 use Rattle.value_model.specs.Paths.{value_in, value_at, member_at}
 use Rattle.value_model.proofs.Mapped.{put_here, put_elsewhere, removed_elsewhere}
 use Rattle.value_model.proofs.Parts.{entries_members, members_entries}
-use Rattle.value_model.proofs.Removing.{at_first, on_map}
+use Rattle.value_model.proofs.Removing.{at_first}
 
 member_field : (d : Data) (n : List ℕ) → member_at d n ≡ field (members_in d) n
 member_field (map ms) n = refl

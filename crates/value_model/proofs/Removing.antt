@@ -1,6 +1,6 @@
 -- values without what stands at a path, one name at a time
-use Rattle.std.proofs.Common.{◌≡◌, ◌≢◌, ◌∙◌, ℕ, zero, suc, ◌+◌, ◌<◌, ◌≤◌, cond, Ordering, Less, Equal, Greater, Option, Some, None, List, [], ◌∷◌, length, get_or, drop, option_and_then, option_map, unwrap_or, refl, sym, ap, subst, arith}
-use Rattle.std.specs.Prelude.{OnSome, IfNone}
+use Rattle.std.proofs.Common.{◌≡◌, ◌≢◌, ◌∙◌, ℕ, ◌+◌, ◌<◌, ◌≤◌, cond, Ordering, Less, Equal, Greater, Option, Some, None, List, [], ◌∷◌, length, get_or, drop, option_and_then, option_map, unwrap_or, refl, sym, ap, subst}
+use Rattle.std.specs.Prelude.{OnSome}
 use Rattle.std.specs.Cmp.Lexicographic.{slice_cmp}
 use Rattle.std.specs.List.{AllPairs, slice_get}
 use Rattle.std.specs.Map.{keys_of}
@@ -14,12 +14,12 @@ use Rattle.value_model.specs.Fields.{AreFields, field, with_field, without_field
 use Rattle.value_model.specs.Paths.{value_in, value_at, member_at}
 use Rattle.value_model.specs.View.{kind_data}
 use Rattle.value_model.specs.declared.value.Kind.{Kind}
-use Rattle.value_model.specs.declared.value.Kind.TheVariants.{Null, Boolean, Integer, Time, Pending, Text, Bytes, Reference, Array, Map}
+use Rattle.value_model.specs.declared.value.Kind.TheVariants.{Map}
 use Rattle.value_model.proofs.Changing.{put_twice}
 use Rattle.value_model.proofs.Inner.{member_of_map, names_from}
 use Rattle.value_model.proofs.Mapped.{tail_pairs, gap_under, removed_here, put_here, first}
 use Rattle.value_model.proofs.Parts.{entries_members, members_entries}
-use Rattle.value_model.proofs.Places.{no_field, below_from}
+use Rattle.value_model.proofs.Places.{no_field}
 
 -- what isn't a map has no members
 pub unmapped : (k : Kind) → ((fields : Entries) → k ≢ Map fields) → (change : Entries → Entries) → on_members change (kind_data k) ≡ kind_data k

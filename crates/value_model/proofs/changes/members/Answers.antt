@@ -1,6 +1,5 @@
-use Rattle.std.proofs.Common.{◌∙◌, sym, ap, refl}
+use Rattle.std.proofs.Common.{◌∙◌, sym, ap}
 use Rattle.value_model.specs.Changes.{members_in}
-use Rattle.value_model.specs.Data.{map_of}
 use Rattle.value_model.specs.View.{kind_data}
 use Rattle.value_model.proofs.Parts.{entries_members}
 use Rattle.value_model.proofs.changes.members.Goals as goal

@@ -1,4 +1,4 @@
-use Rattle.std.proofs.Common.{◌∙◌, sym, ap}
+use Rattle.std.proofs.Common.{◌∙◌, ap}
 use Rattle.value_model.specs.Changes.{members_in}
 use Rattle.value_model.specs.Paths.{value_in}
 use Rattle.value_model.proofs.Parts.{entries_members}
