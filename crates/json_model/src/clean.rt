@@ -8,7 +8,7 @@ ghost use Rattle.json_model.specs.declared.place.Place.TheVariants as places;
 ghost use Rattle.json_model.specs.Clean.{IsClean, AreClean, ItemsAreClean};
 ghost use Rattle.json_model.specs.Faults.{FaultsAt, IsFault};
 ghost use Rattle.json_model.specs.Members.{given as given_of, chosen, refined as refined_of};
-ghost use Rattle.json_model.specs.Places.{chooses, is_among, is_unknown, required, member_place as member_place_of};
+ghost use Rattle.json_model.specs.Places.{chooses, is_among, is_choice, is_unknown, required, member_place as member_place_of};
 
 use crate::fault::JsonFault;
 use crate::members::{given, only_choice};
@@ -96,6 +96,7 @@ pub fn clean_choice<'a>(
     requires chooses { chooses object ≡ true }
     requires clean { AreClean _setting.now object (members_view members.now.entries) }
     ensures known { is_unknown (member_place_of object result.0.now) ≡ false }
+    ensures choice { is_choice object result.0.now ≡ true }
     ensures only { chosen object (members_view members.now.entries) ≡ (result.0.now, view result.1.now) ∷ [] }
     ensures clean { IsClean _setting.now (member_place_of (refined_of object (members_view members.now.entries)) result.0.now) (view result.1.now) }
     ensures depth { depth (view result.1.now) ≤ members_depth (members_view members.now.entries) }

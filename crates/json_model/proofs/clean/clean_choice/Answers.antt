@@ -1,4 +1,4 @@
-use Rattle.json_model.proofs.Choices.{choice_there, choice_clean}
+use Rattle.json_model.proofs.Choices.{choice_there, choice_clean, chosen_choice}
 use Rattle.json_model.proofs.Trees.{choice_depth}
 use Rattle.json_model.proofs.clean.clean_choice.Goals as goal
 
@@ -14,3 +14,8 @@ pub returns-clause-depth : goal.returns-clause-depth
 returns-clause-depth c =
     let only = rw c.in-Some.is at c.only_choice.ensures in
     choice_depth _ _ _ _ only.0
+
+pub returns-clause-choice : goal.returns-clause-choice
+returns-clause-choice c =
+    let only = rw c.in-Some.is at c.only_choice.ensures in
+    chosen_choice _ _ _ _ only.0
