@@ -27,7 +27,7 @@ is_not_in _ = false
 
 -- an OR, or a filter that asks for one of several operands
 abbrev pub is_disjunction : FilterData → Bool
-is_disjunction (composite Or filters) = true
+is_disjunction (composite Or joined) = true
 is_disjunction (field path IsIn operand) = true
 is_disjunction (field path ArrayContainsAny operand) = true
 is_disjunction _ = false
