@@ -9,7 +9,8 @@ use Rattle.client_run.specs.Store.{IsRefused, IsNoStore}
 use Rattle.client_run.specs.declared.status.Status.{Status}
 use Rattle.client_run.specs.declared.status.Status.TheVariants as ended
 
--- Each count rose just where the run ended with its fault: that of the source, that of the disk and that of the output.
+-- Each count rose just where the run ended with its fault: that of the source, that of the disk and
+-- that of the output.
 pub record Causes (status : Status) (before after : ℕ) (old new : View) : Type 0 where
   pub source : RisesAt (status ≡ ended.SourceFault) before after
   pub disk : RisesAt (status ≡ ended.DiskFault) old.disk_faults new.disk_faults
@@ -21,8 +22,8 @@ pub record NoFaults (before after : ℕ) (old new : View) : Type 0 where
   pub disk : ¬ Rises old.disk_faults new.disk_faults
   pub sink : ¬ Rises old.sink_faults new.sink_faults
 
--- A run over files that are a store's, of fewer items than the budget, in which no count of faults rose, comes to the
--- end of its source, or to want of memory.
+-- A run over files that are a store's, of fewer items than the budget, in which no count of faults
+-- rose, comes to the end of its source, or to want of memory.
 abbrev pub Completes : List Item → ℕ → Status → ℕ → ℕ → View → View → Type 0
 Completes items budget status before after old new = Keeps old → length items < budget → NoFaults before after old new
     → (status ≡ ended.Done) ⊎ (status ≡ ended.NoMemory)
@@ -41,8 +42,8 @@ IsRefusal ended.DiskFault = Unit {0}
 IsRefusal ended.NoMemory = Unit {0}
 IsRefusal _ = ⊥
 
--- A run over files that are no store: whatever it answers, nothing was written, and a crash leaves no pair of files that it
--- couldn't leave before.
+-- A run over files that are no store: whatever it answers, nothing was written, and a crash leaves
+-- no pair of files that it couldn't leave before.
 pub record LeavesForeign (status : Status) (old new : View) : Type 0 where
   pub answer : IsRefusal status
   pub stays : Stays old new

@@ -10,7 +10,8 @@ use Rattle.client_run.specs.declared.reading.Reading.{Reading}
 use Rattle.client_run.specs.declared.status.Status.{Status}
 use Rattle.client_run.specs.declared.status.Status.TheVariants as ended
 
--- Every pair of files that a crash now may leave finds some state; what the files read is one of these pairs.
+-- Every pair of files that a crash now may leave finds some state; what the files read is one of
+-- these pairs.
 pub record Keeps (v : View) : Type 0 where
   pub finds : (c : Files) → v.may_leave c → (s : State) × FindsState c s
   pub reads : v.may_leave v.bytes
@@ -23,9 +24,9 @@ state_after call readings = after_all call.first (commits_of (past_of call readi
 abbrev pub commits_in : Call → List Reading → ℕ
 commits_in call readings = length (commits_of (past_of call readings))
 
--- What a crash leaves at one moment, with this output standing then: the files find the state after the commits of the
--- first items, i in number, and its number is i more than at the start; and no whole line that was written since the run
--- began reports a number above it.
+-- What a crash leaves at one moment, with this output standing then: the files find the state after
+-- the commits of the first items, i in number, and its number is i more than at the start; and no
+-- whole line that was written since the run began reports a number above it.
 pub record Survives (call : Call) (out : List ℕ) (files : Files) : Type 0 where
   pub readings : List Reading
   pub read : AreRead call.root call.items readings
@@ -45,7 +46,8 @@ pub record FindsNext (call : Call) (readings : List Reading) (files : Files) : T
   pub read : AreRead call.root call.items (readings ++ reading ∷ [])
   pub finds : FindsHandled call (readings ++ reading ∷ []) files
 
--- What a crash finds at the end: every commit of the handled items, and besides them at most that of an item that met a fault.
+-- What a crash finds at the end: every commit of the handled items, and besides them at most that
+-- of an item that met a fault.
 abbrev pub FindsAtEnd : Status → Call → List Reading → Files → Type 0
 FindsAtEnd ended.DiskFault call rs files = FindsHandled call rs files ⊎ FindsNext call rs files
 FindsAtEnd ended.SinkFault call rs files = FindsHandled call rs files ⊎ FindsNext call rs files
@@ -56,8 +58,8 @@ FindsAtEnd _ call rs files = FindsHandled call rs files
 abbrev pub IsAsBefore : View → List ℕ → Files → Type 0
 IsAsBefore old out files = (out ≡ old.out) × old.may_leave files
 
--- The two opening syncs were done at this time, from the start to the end. Up to it a crash left a pair that it could leave
--- at the start; at each moment from it on it leaves what `Survives` says.
+-- The two opening syncs were done at this time, from the start to the end. Up to it a crash left a
+-- pair that it could leave at the start; at each moment from it on it leaves what `Survives` says.
 pub record Synced (status : Status) (call : Call) (rs : List Reading) (old new : View) : Type 0 where
   pub time : ℕ
   pub from : old.moment ≤ time
@@ -66,8 +68,8 @@ pub record Synced (status : Status) (call : Call) (rs : List Reading) (old new :
   pub later : (o : List ℕ) (c : Files) → new.left_since time o c → Survives call o c
   pub at_end : (c : Files) → new.may_leave c → FindsAtEnd status call rs c
 
--- An opening sync failed, or there was no memory before it: nothing was handled or taken, and a crash leaves a pair that it
--- could leave at the start.
+-- An opening sync failed, or there was no memory before it: nothing was handled or taken, and a
+-- crash leaves a pair that it could leave at the start.
 pub record Unsynced (status : Status) (call : Call) (rs : List Reading) (left : List ℕ) (old new : View) : Type 0 where
   pub stopped : (status ≡ ended.DiskFault) ⊎ (status ≡ ended.NoMemory)
   pub nothing : TookNothing call rs left

@@ -1,4 +1,5 @@
--- Clause *Output* of a run over the files of a store: which items of the source it handled and took, and what it wrote.
+-- Clause *Output* of a run over the files of a store: which items of the source it handled and
+-- took, and what it wrote.
 use Rattle.std.specs.Prelude.{◌≡◌, ◌⊎◌, ℕ, ◌+◌, ◌<◌, List, [], ◌∷◌, ◌++◌, length, drop, IsTrue, Bool}
 use Rattle.host_api.specs.Host.{IsPart}
 use Rattle.host_api.specs.Items.{Item, split, IsSuffix}
@@ -10,8 +11,8 @@ use Rattle.client_run.specs.declared.reading.Reading.{Reading}
 use Rattle.client_run.specs.declared.status.Status.{Status}
 use Rattle.client_run.specs.declared.status.Status.TheVariants as ended
 
--- A run as it begins: its database, the items of the source, the state that the files found, how many items it may handle,
--- and the output, if the host tells it.
+-- A run as it begins: its database, the items of the source, the state that the files found, how
+-- many items it may handle, and the output, if the host tells it.
 pub record Call : Type 0 where
   pub root : Root
   pub items : List Item
