@@ -6,6 +6,7 @@ use crate::sequence::Replicate;
 use crate::text::Text;
 use std::alloc::Global;
 use std::cmp::Ordering;
+use std::hash::{Hash, Hasher};
 use std::marker::Model;
 
 /// A segment of a name: 1 to 1,500 bytes of UTF-8 without `/`, other than `.` and `..`, and not of the form `__.*__`.
@@ -156,5 +157,19 @@ impl Ord for Segment {
 impl Replicate for Segment {
     fn replicate(&self, alloc: Global) -> Result<Segment, NoMemory> {
         self.copy(alloc)
+    }
+}
+
+impl Hash for Segment {
+    ghost use Rattle.std.specs.Hash as fed;
+    ghost use Rattle.std.specs.Cmp.Rules.{hashing};
+    ghost use Rattle.std.proofs.Common.{rules};
+
+    ghost hash_input = { fed.str };
+
+    ghost respects_eq = { Prim.search (hashing, rules) };
+
+    fn hash<H: Hasher>(&self, state: &mut H) {
+        self.text.as_str().hash(state);
     }
 }

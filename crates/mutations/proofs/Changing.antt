@@ -17,20 +17,20 @@ use Rattle.mutations.specs.Laws.{AppendsHold, RemovesHold, IsRepeatable, Changes
 
 -- ---- items of a list
 
-behind : (first : Data) (items : List Data) (value : Data) → Contains items value → Contains (first ∷ items) value
+pub behind : (first : Data) (items : List Data) (value : Data) → Contains items value → Contains (first ∷ items) value
 behind first items value is = let below = is.1 in (suc is.0, omega arith, is.2)
 
-in_front : (first : Data) (items : List Data) → Contains (first ∷ items) first
+pub in_front : (first : Data) (items : List Data) → Contains (first ∷ items) first
 in_front first items = (0, omega arith, refl)
 
-either : (first : Data) (items : List Data) (value : Data) → Contains (first ∷ items) value → (first ≡ value) ⊎ Contains items value
+pub either : (first : Data) (items : List Data) (value : Data) → Contains (first ∷ items) value → (first ≡ value) ⊎ Contains items value
 either first items value is = at is.0 is.1 is.2
   where
     at : (k : ℕ) → k < length (first ∷ items) → get_or (first ∷ items) k value ≡ value → (first ≡ value) ⊎ Contains items value
     at zero below same = inl same
     at (suc k) below same = inr (k, omega arith, same)
 
-empty : (value : Data) → ¬ (Contains [] value)
+pub empty : (value : Data) → ¬ (Contains [] value)
 empty value is = let below = is.1 in omega arith
 
 -- ---- appending

@@ -1,4 +1,5 @@
 pub mod Changing
+pub mod Locally
 pub mod Masking
 pub mod Steps
 pub mod Taking

@@ -15,7 +15,7 @@ is_true = search rules
 not_true : IsTrue false → ⊥
 not_true h = search rules
 
-from : {X : Type 0} (xs : List X) (i : ℕ) (x : X) → i < length xs → x ≡ get_or xs i x → x ∷ drop (i + 1) xs ≡ drop i xs
+pub from : {X : Type 0} (xs : List X) (i : ℕ) (x : X) → i < length xs → x ≡ get_or xs i x → x ∷ drop (i + 1) xs ≡ drop i xs
 from xs i x below is = ap (λ y. y ∷ drop (i + 1) xs) is ∙ sym (drop_more xs i x below)
 
 -- whether it is held, by what the code told

@@ -1,4 +1,5 @@
 pub mod Changes
 pub mod Effect
 pub mod Laws
+pub mod Local
 pub mod Masks

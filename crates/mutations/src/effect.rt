@@ -1,8 +1,9 @@
 //! What a write makes of a document before the backend has answered.
 
-ghost use Rattle.std.specs.Prelude.{◌≡◌, ◌↔◌, IsTrue, IfOk, OnOk, OnErr};
+ghost use Rattle.std.specs.Prelude.{◌≡◌, ◌↔◌, IsTrue, IfOk, OnOk, OnErr, Some};
 ghost use Rattle.std.specs.List.{All};
 ghost use Rattle.mutations.specs.Effect.{HasEffect, HasMaskOfFields, HavePathsOfFields, Holds, IsOfFields, IsOfFieldsOnly, SetsFields, Updates, fields_of, update_time_of};
+ghost use Rattle.mutations.specs.Local as function;
 
 use crate::change::transformed;
 use crate::lists::Mask;
@@ -13,16 +14,30 @@ use document_keys::{FieldPath, NoMemory};
 use std::alloc::Global;
 use value_model::{Document, Fields, Timestamp};
 
+/// Whether the document was last changed at the time.
+fn is_of_time(update_time: Option<Timestamp>, time: Timestamp) -> bool
+    ensures exact { result ≡ function.is_of_time update_time time }
+    ensures says { IsTrue result ↔ (update_time ≡ Some time) }
+{
+    match update_time {
+        None => false,
+        Some(other) => other.seconds == time.seconds && other.nanos == time.nanos,
+    }
+}
+
 impl Precondition {
     /// Whether it holds of the document, or of there being none.
     fn holds(&self, document: &Option<Document>) -> bool
-        ensures { IsTrue result ↔ Holds self.now document.now }
+        ensures exact { result ≡ function.holds self.now document.now }
+        ensures says { IsTrue result ↔ Holds self.now document.now }
     {
         match (self, document) {
             (Precondition::Free, _) => true,
             (Precondition::Exists(there), Some(_)) => *there,
             (Precondition::Exists(there), None) => !*there,
-            (Precondition::UpdateTime(time), Some(document)) => document.update_time == Some(*time),
+            (Precondition::UpdateTime(time), Some(document)) => {
+                is_of_time(document.update_time, *time)
+            }
             (Precondition::UpdateTime(_), None) => false,
         }
     }
@@ -56,7 +71,8 @@ fn set(
     mask: &Option<Mask>,
 ) -> Result<Fields, NoMemory>
     requires { HasMaskOfFields mask.now }
-    ensures { IfOk result (λ fields. SetsFields (fields_of document.now) input.now mask.now fields) }
+    ensures sets { IfOk result (λ fields. SetsFields (fields_of document.now) input.now mask.now fields) }
+    ensures exact { IfOk result (λ fields. fields ≡ function.set (fields_of document.now) input.now mask.now) }
 {
     match mask {
         None => input.copy(alloc),
@@ -80,7 +96,11 @@ fn updated(
 ) -> Result<Option<Document>, NoMemory>
     requires mask { HasMaskOfFields mask.now }
     requires transforms { HavePathsOfFields transforms.now }
-    ensures { IfOk result (λ new. Updates document.now input.now mask.now transforms.now at new) }
+    ensures updates { IfOk result (λ new. Updates document.now input.now mask.now transforms.now at new) }
+    ensures exact { IfOk result (λ new. new ≡ Some (record {
+      fields = function.transformed at (function.set (fields_of document.now) input.now mask.now) transforms.now;
+      update_time = update_time_of document.now;
+    })) }
 {
     let fields = set(alloc, document, input, mask)?;
     let fields = transformed(alloc, fields, transforms.as_slice(), at)?;
@@ -96,6 +116,7 @@ fn updated(
 ///
 /// # Errors
 /// `NoMemory`: the document is then as before.
+#[tactic(auto, unfolding(crate::specs::Local::effect))]
 pub fn apply_local(
     alloc: Global,
     doc: &mut Option<Document>,
@@ -104,6 +125,7 @@ pub fn apply_local(
 ) -> Result<(), NoMemory>
     requires { IsOfFieldsOnly write.now }
     ensures done { OnOk result (HasEffect doc.old write.now at doc.new) }
+    ensures exact { OnOk result (doc.new ≡ function.effect doc.old write.now at) }
     ensures undone { OnErr result (doc.new ≡ doc.old) }
 {
     match write {

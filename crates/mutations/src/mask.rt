@@ -1,8 +1,9 @@
 //! What a mask makes of fields.
 
-ghost use Rattle.std.specs.Prelude.{IfOk};
+ghost use Rattle.std.specs.Prelude.{◌≡◌, IfOk};
 ghost use Rattle.std.specs.List.{All};
 ghost use Rattle.mutations.specs.Effect.{IsOfFields};
+ghost use Rattle.mutations.specs.Local as function;
 ghost use Rattle.mutations.specs.Masks.{Masked, TakesOver};
 
 use document_keys::{FieldPath, NoMemory};
@@ -17,7 +18,8 @@ fn taken_over(
     path: &FieldPath,
 ) -> Result<Fields, NoMemory>
     requires { IsOfFields path.now }
-    ensures { IfOk result (λ after. TakesOver fields input.now path.now after) }
+    ensures takes { IfOk result (λ after. TakesOver fields input.now path.now after) }
+    ensures exact { IfOk result (λ after. after ≡ function.taken_over input.now fields path.now) }
 {
     let _names = path.len();
     match input.at(path) {
@@ -34,7 +36,8 @@ pub(crate) fn masked(
     mask: &[FieldPath],
 ) -> Result<Fields, NoMemory>
     requires { All IsOfFields mask.now }
-    ensures { IfOk result (λ after. Masked fields input.now mask.now after) }
+    ensures says { IfOk result (λ after. Masked fields input.now mask.now after) }
+    ensures exact { IfOk result (λ after. after ≡ function.masked fields input.now mask.now) }
 {
     for path in mask {
         fields = taken_over(alloc, fields, input, path)?;

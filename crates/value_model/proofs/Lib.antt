@@ -19,6 +19,7 @@ pub mod Places
 pub mod ReadBack
 pub mod RefNames
 pub mod Removing
+pub mod Same
 pub mod Scalars
 pub mod Sizes
 pub mod UnderRoot

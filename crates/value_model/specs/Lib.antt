@@ -10,6 +10,7 @@ pub mod Lent
 pub mod Named
 pub mod Order
 pub mod Paths
+pub mod Same
 pub mod Storable
 pub mod Time
 pub mod View

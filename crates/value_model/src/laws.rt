@@ -1,6 +1,7 @@
 //! Laws of values, their order, and fields. Nothing is done when they run.
 
 ghost use Rattle.value_model.specs.Laws.{ValuesAreOrdered, TiesAreEqual, PendingTimesStand, FieldsAreAMap, PathsHold};
+ghost use Rattle.value_model.specs.Same.{SameValuesAreEqual};
 
 /// Values are in a strict total order.
 pub fn values_are_ordered()
@@ -25,4 +26,9 @@ pub fn fields_are_a_map()
 /// What stands at each path after a change at one path.
 pub fn paths_hold()
     ensures { PathsHold }
+{}
+
+/// Whether two values are the same is a function.
+pub fn same_values_are_equal()
+    ensures { SameValuesAreEqual }
 {}

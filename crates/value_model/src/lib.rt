@@ -29,7 +29,8 @@ pub use document::{DocState, Document, Entry, RpcStatus, Seal};
 pub use documents::{DocRef, Documents};
 pub use fields::{Field, Fields};
 pub use laws::{
-    fields_are_a_map, paths_hold, pending_times_stand, ties_are_equal, values_are_ordered,
+    fields_are_a_map, paths_hold, pending_times_stand, same_values_are_equal, ties_are_equal,
+    values_are_ordered,
 };
 pub use message::{
     ChangeKind, DocumentChange, DocumentDelete, DocumentRemove, ExistenceFilter, ListenResponse,

@@ -2,7 +2,6 @@ use Rattle.std.proofs.Common.{◌∙◌, ap, sym}
 use Rattle.std.specs.Ordering.{nat_cmp}
 use Rattle.value_model.specs.Data.{reference}
 use Rattle.value_model.specs.Lent.{lent_name}
-use Rattle.value_model.specs.View.{kind_data}
 use Rattle.value_model.proofs.ByRank.{reference_apart}
 use Rattle.value_model.proofs.Exact.{ranks_values, ranked_paths}
 use Rattle.value_model.proofs.reference.NameRef.compare_value.Goals as goal
