@@ -1,7 +1,7 @@
 -- the functions of an effect give what its relations say
-use Rattle.std.proofs.Common.{◌≡◌, ◌∙◌, ◌↔◌, ◌||◌, ◌&&◌, not, inl, inr, zero, suc, ℕ, ◌+◌, ◌<◌, ◌≤◌, Bool, true, false, cond, IsTrue, Option, Some, None, List, [], ◌∷◌, ◌++◌, length, get_or, fold, drop, filter, refl, sym, ap, subst, rules, arith}
-use Rattle.std.proofs.lemmas.List.{drop_more, drop_all}
-use Rattle.std.specs.List.{Contains, list_any}
+use Rattle.std.proofs.Common.{◌≡◌, ◌∙◌, ◌||◌, not, inl, inr, ℕ, ◌+◌, ◌<◌, ◌≤◌, Bool, true, false, cond, Option, Some, None, List, [], ◌∷◌, ◌++◌, length, get_or, fold, drop, refl, sym, ap, subst}
+use Rattle.std.proofs.lemmas.List.{drop_all}
+use Rattle.std.specs.List.{Contains}
 use Rattle.value_model.specs.Changes.{with_value_at, without_value_at}
 use Rattle.value_model.specs.Data.{Data, Entries, array_of}
 use Rattle.value_model.specs.Paths.{value_at}
@@ -12,7 +12,7 @@ use Rattle.mutations.specs.declared.transform.Change.{Change}
 use Rattle.mutations.specs.declared.transform.Change.TheVariants.{ServerTime, Increment, Maximum, Minimum, Append, RemoveAll}
 use Rattle.mutations.specs.declared.transform.Transform.{Transform}
 use Rattle.mutations.specs.Changes.{Appends, all_added, there, added, Removes, none_left, taken, kept, Changed, Transformed, all_made, made, items_at}
-use Rattle.mutations.specs.Local.{is_among, appended, others, changed, transformed, transformed_by, taken_over, masked}
+use Rattle.mutations.specs.Local.{is_among, appended, others, changed, transformed, taken_over, masked}
 use Rattle.mutations.proofs.Changing.{append_laws, remove_laws, behind, in_front, either, empty}
 use Rattle.mutations.proofs.Steps.{from}
 

@@ -1,6 +1,6 @@
 -- What a write makes of a document before the backend has answered, as functions of what was there. `HasEffect` says the same
 -- in the words of the reference, `Masked` of each path; `apply_local` gives both.
-use Rattle.std.specs.Prelude.{◌≡◌, ◌+ℤ◌, Bool, true, false, not, ◌&&◌, if◌then◌else◌, List, [], ◌∷◌, ◌++◌, fold, nat_eq, Option, Some, None, option_map, unwrap_or, ℕ}
+use Rattle.std.specs.Prelude.{◌+ℤ◌, Bool, true, false, not, ◌&&◌, if◌then◌else◌, List, [], ◌∷◌, ◌++◌, fold, nat_eq, Option, Some, None, option_map, unwrap_or, ℕ}
 use Rattle.std.specs.Int.{w64, saturate_signed, int_max, int_min}
 use Rattle.std.specs.List.{filter, list_any}
 use Rattle.std.specs.Ordering.{int_eq}
