@@ -1,17 +1,20 @@
 -- the laws of names, paths and their order
-use Rattle.std.proofs.Common.{◌≡◌, ◌≢◌, ◌∙◌, ◌⊎◌, inl, inr, ℕ, ◌%◌, Ordering, Less, Equal, Greater, List, [], ◌∷◌, ◌++◌, length, refl, sym, ap, subst, arith}
+use Rattle.std.proofs.Common.{◌≡◌, ◌≢◌, ◌∙◌, ◌⊎◌, inl, inr, ℕ, ◌%◌, Ordering, Less, Equal, Greater, List, [], ◌∷◌, ◌++◌, length, append-nil, refl, sym, ap, subst, arith}
 use Rattle.std.specs.Cmp.{tied_itself}
 use Rattle.std.specs.Cmp.Lexicographic.{slice_cmp}
 use Rattle.std.specs.List.{All}
 use Rattle.std.specs.Ordering.{nat_cmp}
 use Rattle.std.proofs.lemmas.List.{append_cancel_left}
 use Rattle.std.proofs.lemmas.List.Elements.{All-head, All-tail, All-weaker}
+use Rattle.document_keys.specs.declared.faults.FieldFault.{FieldFault}
+use Rattle.document_keys.specs.declared.faults.FieldFault.TheVariants as field
 use Rattle.document_keys.specs.declared.faults.NameFault.{NameFault}
 use Rattle.document_keys.specs.declared.faults.NameFault.TheVariants.{WrongRoot, BadSegment, OddLength, NoMemory}
-use Rattle.document_keys.specs.Faults.{HasKeyFault, IsNameOfParts}
-use Rattle.document_keys.specs.Laws.{KeyFaultsExclude, NamesOnePath, PathsAreOrdered, PathsReadBack}
+use Rattle.document_keys.specs.Faults.{HasCollectionFault, of_parent, of_id, of_memory, HasKeyFault, HasRootFault, IsNameOfParts, IsParent}
+use Rattle.document_keys.specs.Laws.{FaultsExclude, KeyFaultsExclude, NamesOnePath, PathsAreOrdered, PathsReadBack}
 use Rattle.document_keys.specs.Names.{IsKey, IsPart, IsSegment, Root, documents_text, name_text, path_text}
 use Rattle.document_keys.specs.Order.{PathBefore}
+use Rattle.document_keys.specs.Paths.{HasPathFault}
 use Rattle.document_keys.proofs.Fields.{printed_spells}
 use Rattle.document_keys.proofs.Order.{paths_compute, ranks_from}
 use Rattle.document_keys.proofs.Spelled.{spells_one}
@@ -94,3 +97,44 @@ excluded = record { one = only; none = none }
 
 pub read_back : PathsReadBack
 read_back = record { one = spells_one; printed = printed_spells }
+
+-- ---- databases, collections and field paths
+
+root_once : (text : List ℕ) (e f : NameFault) → e ≢ NoMemory → f ≢ NoMemory → HasRootFault text e → HasRootFault text f → e ≡ f
+root_once text NoMemory f a b x y = absurd (a refl)
+root_once text OddLength f a b x y = absurd x
+root_once text WrongRoot WrongRoot a b x y = refl
+root_once text WrongRoot BadSegment a b x y = absurd (x y.0 y.1)
+root_once text WrongRoot OddLength a b x y = absurd y
+root_once text WrongRoot NoMemory a b x y = absurd (b refl)
+root_once text BadSegment WrongRoot a b x y = absurd (y x.0 x.1)
+root_once text BadSegment BadSegment a b x y = refl
+root_once text BadSegment OddLength a b x y = absurd y
+root_once text BadSegment NoMemory a b x y = absurd (b refl)
+
+-- a parent is the root's `documents`, or has no fault as a document name
+parent_clean : (root : Root) (parent : List ℕ) (path : List (List ℕ)) (e : NameFault) → IsParent root parent path → parent ≢ documents_text root → HasKeyFault root parent e → e ≡ NoMemory
+parent_clean root parent [] e is apart x = absurd (apart (is.text_is ∙ append-nil (documents_text root)))
+parent_clean root parent (s ∷ path) e is apart x =
+    none root (s ∷ path) e (record { some = omega arith; even = is.even; segments = is.segments }) (subst (λ t. HasKeyFault root t e) is.text_is x)
+
+collection_once : (root : Root) (parent id : List ℕ) (e f : NameFault) → e ≢ NoMemory → f ≢ NoMemory → HasCollectionFault root parent id e → HasCollectionFault root parent id f → e ≡ f
+collection_once root parent id e f a b (of_memory) y = absurd (a refl)
+collection_once root parent id e f a b (of_parent apart x) (of_memory) = absurd (b refl)
+collection_once root parent id e f a b (of_parent apart x) (of_parent also y) = only root parent e f a b x y
+collection_once root parent id e f a b (of_parent apart x) (of_id path is not) = absurd (a (parent_clean root parent path e is apart x))
+collection_once root parent id e f a b (of_id path is not) (of_memory) = absurd (b refl)
+collection_once root parent id e f a b (of_id path is not) (of_parent apart y) = absurd (b (parent_clean root parent path f is apart y))
+collection_once root parent id e f a b (of_id path is not) (of_id other also none) = refl
+
+path_once : (text : List ℕ) (e f : FieldFault) → e ≢ field.NoMemory → f ≢ field.NoMemory → HasPathFault text e → HasPathFault text f → e ≡ f
+path_once text field.NoMemory f a b x y = absurd (a refl)
+path_once text field.BadPath field.BadPath a b x y = refl
+path_once text field.BadPath field.ReservedField a b x y = absurd (x y.0 y.1 y.2)
+path_once text field.BadPath field.NoMemory a b x y = absurd (b refl)
+path_once text field.ReservedField field.BadPath a b x y = absurd (y x.0 x.1 x.2)
+path_once text field.ReservedField field.ReservedField a b x y = refl
+path_once text field.ReservedField field.NoMemory a b x y = absurd (b refl)
+
+pub one_fault : FaultsExclude
+one_fault = record { root = root_once; collection = collection_once; path = path_once }

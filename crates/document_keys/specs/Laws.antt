@@ -1,12 +1,15 @@
 -- Laws of names, paths and their order.
-use Rattle.std.specs.Prelude.{◌≡◌, ◌≢◌, ◌⊎◌, ℕ, ◌<◌, List, length}
-use Rattle.std.specs.List.{All}
+use Rattle.std.specs.Prelude.{◌≡◌, ◌≢◌, ◌↔◌, ◌⊎◌, ℕ, ◌<◌, List, length}
+use Rattle.std.specs.List.{All, Contains}
+use Rattle.document_keys.specs.declared.faults.FieldFault.{FieldFault}
+use Rattle.document_keys.specs.declared.faults.FieldFault.TheVariants as field
 use Rattle.document_keys.specs.declared.faults.NameFault.{NameFault}
 use Rattle.document_keys.specs.declared.faults.NameFault.TheVariants.{NoMemory}
 use Rattle.document_keys.specs.Names.{IsKey, IsPart, Root, name_text}
-use Rattle.document_keys.specs.Faults.{HasKeyFault}
+use Rattle.document_keys.specs.Faults.{HasCollectionFault, HasKeyFault, HasRootFault}
+use Rattle.document_keys.specs.KeySet.{IsAscending}
 use Rattle.document_keys.specs.Order.{PathBefore}
-use Rattle.document_keys.specs.Paths.{SpellsPath, printed_path}
+use Rattle.document_keys.specs.Paths.{HasPathFault, SpellsPath, printed_path}
 
 -- paths are in a strict order, in which of two paths one is before the other or they are equal
 pub record PathsAreOrdered : Type 0 where
@@ -27,3 +30,14 @@ pub record KeyFaultsExclude : Type 0 where
 pub record PathsReadBack : Type 0 where
   pub one : (text : List ℕ) (p q : List (List ℕ)) → SpellsPath text p → SpellsPath text q → p ≡ q
   pub printed : (path : List (List ℕ)) → 0 < length path → SpellsPath (printed_path path) path
+
+-- a text has at most one fault as the name of a database, a parent and an id at most one as a collection, and a text at most
+-- one as a field path
+pub record FaultsExclude : Type 0 where
+  pub root : (text : List ℕ) (e f : NameFault) → e ≢ NoMemory → f ≢ NoMemory → HasRootFault text e → HasRootFault text f → e ≡ f
+  pub collection : (root : Root) (parent id : List ℕ) (e f : NameFault) → e ≢ NoMemory → f ≢ NoMemory → HasCollectionFault root parent id e → HasCollectionFault root parent id f → e ≡ f
+  pub path : (text : List ℕ) (e f : FieldFault) → e ≢ field.NoMemory → f ≢ field.NoMemory → HasPathFault text e → HasPathFault text f → e ≡ f
+
+-- ascending lists with the same members are one list
+abbrev pub SameMembersAreOneSet : Type 0
+SameMembersAreOneSet = (a b : List (List (List ℕ))) → IsAscending a → IsAscending b → ((key : List (List ℕ)) → Contains a key ↔ Contains b key) → a ≡ b

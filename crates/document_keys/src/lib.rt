@@ -26,7 +26,10 @@ pub use faults::{FieldFault, NameFault, NoMemory};
 pub use field::{FieldPath, check_field_name};
 pub use key::DocumentKey;
 pub use key_set::KeySet;
-pub use laws::{field_paths_read_back, key_faults_exclude, names_one_path, paths_are_ordered};
+pub use laws::{
+    faults_exclude, field_paths_read_back, key_faults_exclude, names_one_path, paths_are_ordered,
+    same_members_are_one_set,
+};
 pub use path_set::PathSet;
 pub use segment::Segment;
 pub use sequence::{Replicate, Sequence};

@@ -13,4 +13,5 @@ pub mod Paths
 pub mod Same
 pub mod Storable
 pub mod Time
+pub mod Versions
 pub mod View

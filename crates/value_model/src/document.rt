@@ -1,4 +1,5 @@
 ghost use Rattle.std.specs.Prelude.{◌≡◌, IfOk};
+ghost use Rattle.value_model.specs.Versions.{version_of};
 
 use crate::fields::Fields;
 use crate::timestamp::Timestamp;
@@ -63,6 +64,17 @@ impl Document {
 }
 
 impl Entry {
+    /// The version as of which the entry is known.
+    pub fn version(&self) -> Timestamp
+        ensures { result ≡ version_of self.now }
+    {
+        match self {
+            Entry::Found(_, version) => *version,
+            Entry::Missing(version) => *version,
+            Entry::Unknown(version) => *version,
+        }
+    }
+
     /// A copy.
     ///
     /// # Errors

@@ -2,6 +2,7 @@
 
 ghost use Rattle.value_model.specs.Laws.{ValuesAreOrdered, TiesAreEqual, PendingTimesStand, FieldsAreAMap, PathsHold};
 ghost use Rattle.value_model.specs.Same.{SameValuesAreEqual};
+ghost use Rattle.value_model.specs.Versions.{TimesAreOrdered};
 
 /// Values are in a strict total order.
 pub fn values_are_ordered()
@@ -31,4 +32,9 @@ pub fn paths_hold()
 /// Whether two values are the same is a function.
 pub fn same_values_are_equal()
     ensures { SameValuesAreEqual }
+{}
+
+/// The two orders of moments are one.
+pub fn times_are_ordered()
+    ensures { TimesAreOrdered }
 {}

@@ -10,6 +10,15 @@ use crate::timestamp::Timestamp;
 use document_keys::{DocumentKey, NoMemory};
 use std::alloc::Global;
 
+/// A stream of messages between the client and the backend.
+#[derive(Clone, Copy, Debug, PartialEq, Eq)]
+pub enum StreamName {
+    /// The calls of Listen: which targets the client watches, and what the backend tells of them.
+    Watch,
+    /// The calls of Write: the batches that are sent, and their results.
+    Write,
+}
+
 /// A message of a watch stream.
 #[derive(Debug, Drop)]
 pub enum ListenResponse {
