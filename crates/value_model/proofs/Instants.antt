@@ -1,5 +1,5 @@
 -- The order of moments.
-use Rattle.std.proofs.Common.{◌≡◌, ◌∙◌, ◌⊎◌, inl, inr, ap, ℕ, ◌<◌, Ordering, Less, Equal, Greater, arith, ℤ, ◌<ℤ◌}
+use Rattle.std.proofs.Common.{◌≡◌, ◌∙◌, inl, inr, ap, ℕ, ◌<◌, Ordering, Less, Equal, Greater, arith, ℤ, ◌<ℤ◌}
 use Rattle.std.specs.Ordering.{MatchOrdering, ordering_then, int_cmp, nat_cmp}
 use Rattle.std.specs.Cmp.{int_ranks}
 use Rattle.std.proofs.lemmas.Bool.Decides.{nat_tests}

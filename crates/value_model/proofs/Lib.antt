@@ -6,6 +6,7 @@ pub mod Dates
 pub mod Days
 pub mod Depths
 pub mod Exact
+pub mod Formed
 pub mod Fractions
 pub mod Inner
 pub mod Instants

@@ -38,7 +38,7 @@ front_of : (n : ℕ) (xs ys : List ℕ) → n ≡ length xs → take n (xs ++ ys
 front_of n xs ys is = rw is (take-append_seam xs ys)
 
 -- the parts of a text that is written so
-shape_marks : (a b c d e f g h i j k l m n : ℕ) (fraction : List ℕ)
+pub shape_marks : (a b c d e f g h i j k l m n : ℕ) (fraction : List ℕ)
     → has_marks (a ∷ b ∷ c ∷ d ∷ 45 ∷ e ∷ f ∷ 45 ∷ g ∷ h ∷ 84 ∷ i ∷ j ∷ 58 ∷ k ∷ l ∷ 58 ∷ m ∷ n ∷ (fraction ++ 90 ∷ [])) ≡ true
 shape_marks a b c d e f g h i j k l m n fraction =
     let text = a ∷ b ∷ c ∷ d ∷ 45 ∷ e ∷ f ∷ 45 ∷ g ∷ h ∷ 84 ∷ i ∷ j ∷ 58 ∷ k ∷ l ∷ 58 ∷ m ∷ n ∷ (fraction ++ 90 ∷ []) in
@@ -47,17 +47,17 @@ shape_marks a b c d e f g h i j k l m n fraction =
     let last : get_or text (length text - 1) 0 ≡ 90 = last_of front 90 in
     marked text long refl refl refl refl refl last
 
-shape_fraction : (a b c d e f g h i j k l m n : ℕ) (fraction : List ℕ)
+pub shape_fraction : (a b c d e f g h i j k l m n : ℕ) (fraction : List ℕ)
     → fraction_in (a ∷ b ∷ c ∷ d ∷ 45 ∷ e ∷ f ∷ 45 ∷ g ∷ h ∷ 84 ∷ i ∷ j ∷ 58 ∷ k ∷ l ∷ 58 ∷ m ∷ n ∷ (fraction ++ 90 ∷ [])) ≡ fraction
 shape_fraction a b c d e f g h i j k l m n fraction =
     front_of _ fraction (90 ∷ []) (omega (arith, length-append fraction (90 ∷ [])))
 
-shape_day : (century year m d : ℕ) (rest : List ℕ) → century < 100 → year < 100 → m < 100 → d < 100
+pub shape_day : (century year m d : ℕ) (rest : List ℕ) → century < 100 → year < 100 → m < 100 → d < 100
     → day_of (two century ++ (two year ++ 45 ∷ (two m ++ 45 ∷ (two d ++ rest)))) ≡ date_of (100 * century + year) m d
 unfolding day_of
 shape_day century year m d rest c_small y_small m_small d_small = rw (pair_is century c_small, pair_is year y_small, pair_is m m_small, pair_is d d_small) refl
 
-shape_second : (a b c d e f g h hour minute second : ℕ) (rest : List ℕ) → hour < 100 → minute < 100 → second < 100
+pub shape_second : (a b c d e f g h hour minute second : ℕ) (rest : List ℕ) → hour < 100 → minute < 100 → second < 100
     → second_of (a ∷ b ∷ c ∷ d ∷ 45 ∷ e ∷ f ∷ 45 ∷ g ∷ h ∷ 84 ∷ (two hour ++ 58 ∷ (two minute ++ 58 ∷ (two second ++ rest)))) ≡ clock_of hour minute second
 unfolding second_of
 shape_second a b c d e f g h hour minute second rest h_small m_small s_small = rw (pair_is hour h_small, pair_is minute m_small, pair_is second s_small) refl

@@ -13,5 +13,6 @@ pub mod Paths
 pub mod Same
 pub mod Storable
 pub mod Time
+pub mod TimeForm
 pub mod Versions
 pub mod View

@@ -2,6 +2,7 @@
 
 ghost use Rattle.value_model.specs.Laws.{ValuesAreOrdered, TiesAreEqual, PendingTimesStand, FieldsAreAMap, PathsHold};
 ghost use Rattle.value_model.specs.Same.{SameValuesAreEqual};
+ghost use Rattle.value_model.specs.TimeForm.{TimesHaveTheirForm};
 ghost use Rattle.value_model.specs.Versions.{TimesAreOrdered};
 
 /// Values are in a strict total order.
@@ -37,4 +38,9 @@ pub fn same_values_are_equal()
 /// The two orders of moments are one.
 pub fn times_are_ordered()
     ensures { TimesAreOrdered }
+{}
+
+/// A text is read as a time exactly where it is of the form.
+pub fn times_have_their_form()
+    ensures { TimesHaveTheirForm }
 {}

@@ -30,7 +30,7 @@ pub use documents::{DocRef, Documents};
 pub use fields::{Field, Fields};
 pub use laws::{
     fields_are_a_map, paths_hold, pending_times_stand, same_values_are_equal, ties_are_equal,
-    times_are_ordered, values_are_ordered,
+    times_are_ordered, times_have_their_form, values_are_ordered,
 };
 pub use message::{
     ChangeKind, DocumentChange, DocumentDelete, DocumentRemove, ExistenceFilter, ListenResponse,
