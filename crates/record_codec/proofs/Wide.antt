@@ -7,7 +7,7 @@ use Rattle.std.proofs.lemmas.List.{take_at, take-append-drop, length-append, len
 use Rattle.std.proofs.lemmas.Nat.{be_bytes_4, be_bytes_8, from_be_bytes-to_be_bytes_4, from_be_bytes-to_be_bytes_8}
 use Rattle.record_codec.specs.declared.fault.ReadError.{ReadError}
 use Rattle.record_codec.specs.declared.fault.ReadError.TheVariants.{Memory, NotSpelled}
-use Rattle.record_codec.specs.Spelling.{number}
+use Rattle.record_codec.specs.Spelling.{number, signed}
 use Rattle.record_codec.specs.Reading.{Begins, Fails}
 
 abbrev pub IsBytes : List ℕ → Type 0
@@ -81,9 +81,6 @@ fails_always Memory h = tt
 fails_always NotSpelled h = h
 
 -- ---- numbers with a sign
-
-abbrev pub signed : ℤ → List ℕ
-signed z = number (cast_unsigned w64 z)
 
 signed_back : (z : ℤ) → FitsSigned w64 z → cast_signed w64 (cast_unsigned w64 z) ≡ z
 signed_back z fits = to_z-of_z w64 z fits

@@ -2,11 +2,10 @@ ghost use Rattle.std.specs.Prelude.{◌≡◌, IfOk, IfSome, IfNone};
 ghost use Rattle.record_codec.specs.declared.commit.Commit.{Commit as CommitData};
 ghost use Rattle.record_codec.specs.Spelling.{spelling, HasSpelling};
 
-use crate::commits::commit_of;
+use crate::commits::{commit_of, put_commit};
 use crate::fault::ReadError;
-use crate::writing::put_commit;
 use document_keys::NoMemory;
-use mutations::PlainBatch as Batch;
+use mutations::Batch;
 use std::alloc::Global;
 
 /// One step of the durable state.

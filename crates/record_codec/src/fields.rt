@@ -16,6 +16,9 @@ pub(crate) const ARRAY: u8 = 8;
 /// The byte that begins a map.
 pub(crate) const MAP: u8 = 9;
 
+/// How deep the values of a document may be nested.
+pub(crate) const DEPTH: u32 = 20;
+
 /// A value that is nested at most so deep, and what follows it.
 #[cycle(values)]
 fn value_of(alloc: Global, limit: u32, bytes: &[u8]) -> Result<(Value, &[u8]), ReadError>
@@ -33,7 +36,7 @@ fn value_of(alloc: Global, limit: u32, bytes: &[u8]) -> Result<(Value, &[u8]), R
 
 /// So many values, and what follows them.
 #[cycle(values)]
-fn values_of(
+pub(crate) fn values_of(
     alloc: Global,
     limit: u32,
     count: u64,

@@ -13,8 +13,11 @@ mod fields;
 mod laws;
 mod names;
 mod numbers;
+mod paths;
 mod scalars;
 mod times;
+mod transforms;
+mod writes;
 mod writing;
 
 pub use commit::{Commit, decode, encode};

@@ -1,11 +1,9 @@
-ghost use Rattle.std.specs.Prelude.{◌≡◌, ◌≢◌, ◌<◌, ◌^◌, List, ℕ, ◌++◌, MatchResult, FitsSigned};
-ghost use Rattle.std.specs.Int.{w32, w64, to_be_bytes, cast_unsigned};
-ghost use Rattle.value_model.specs.Time.{IsMoment};
-ghost use Rattle.record_codec.specs.Spelling.{number, time};
+ghost use Rattle.std.specs.Prelude.{◌≡◌, ◌≢◌, ◌<◌, ◌^◌, List, [], ◌∷◌, ℕ, ◌++◌, MatchResult, FitsSigned};
+ghost use Rattle.std.specs.Int.{w32, w64, to_be_bytes};
+ghost use Rattle.record_codec.specs.Spelling.{number, signed, boolean};
 ghost use Rattle.record_codec.specs.Reading.{Reads};
 
 use crate::fault::ReadError;
-use value_model::Timestamp;
 
 /// What follows the front, if the bytes begin with it.
 pub(crate) fn after<'a>(bytes: &'a [u8], front: &[u8]) -> Result<&'a [u8], ReadError>
@@ -14,6 +12,28 @@ pub(crate) fn after<'a>(bytes: &'a [u8], front: &[u8]) -> Result<&'a [u8], ReadE
     match bytes.strip_prefix(front) {
         Some(rest) => Ok(rest),
         None => Err(ReadError::NotSpelled),
+    }
+}
+
+/// A byte, and what follows it.
+pub(crate) fn byte_of(bytes: &[u8]) -> Result<(u8, &[u8]), ReadError>
+    ensures { MatchResult result (λ x. bytes.now ≡ x.0 ∷ x.1.now) (λ _. bytes.now ≡ []) }
+{
+    match bytes.split_first() {
+        Some((byte, rest)) => Ok((*byte, rest)),
+        None => Err(ReadError::NotSpelled),
+    }
+}
+
+/// A byte of 0 or 1, and what follows it.
+pub(crate) fn flag_of(bytes: &[u8]) -> Result<(bool, &[u8]), ReadError>
+    ensures { Reads boolean (λ _. Unit {0}) bytes.now (λ x. (x.0, x.1.now)) result }
+{
+    let (byte, rest) = byte_of(bytes)?;
+    match byte {
+        0 => Ok((false, rest)),
+        1 => Ok((true, rest)),
+        _ => Err(ReadError::NotSpelled),
     }
 }
 
@@ -39,7 +59,7 @@ pub(crate) fn u32_of(bytes: &[u8]) -> Result<(u32, &[u8]), ReadError>
 
 /// A number of eight bytes with a sign, and what follows it.
 pub(crate) fn i64_of(bytes: &[u8]) -> Result<(i64, &[u8]), ReadError>
-    ensures { Reads (λ z. number (cast_unsigned w64 z)) (FitsSigned w64) bytes.now (λ x. (x.0, x.1.now)) result }
+    ensures { Reads signed (FitsSigned w64) bytes.now (λ x. (x.0, x.1.now)) result }
 {
     let (n, rest) = u64_of(bytes)?;
     Ok((n.cast_signed(), rest))

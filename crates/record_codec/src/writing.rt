@@ -1,31 +1,27 @@
 ghost use Rattle.std.specs.Prelude.{◌≡◌, ◌++◌, length, flat_map, OnOk};
-ghost use Rattle.std.specs.Int.{w64, cast_unsigned};
-ghost use Rattle.record_codec.specs.Spelling.{number, text, key, time, name, value, fields, write, batch, spelling};
+ghost use Rattle.record_codec.specs.Spelling.{number, signed, text, key, time, name, value, fields};
 
-use crate::commit::Commit;
-use crate::commits::{ENQUEUE, FORMAT, PLAIN, UPDATE};
 use crate::fields::{ARRAY, MAP};
 use crate::scalars::{BOOLEAN, BYTES, INTEGER, NULL, PENDING, REFERENCE, TEXT, TIME};
 use document_keys::{DocumentKey, NoMemory};
-use mutations::{PlainBatch as Batch, PlainUpdate as Write};
 use value_model::{Fields, Kind, RefName, Timestamp, Value};
 
-fn put_number(out: &mut Vec<u8>, n: u64) -> Result<(), NoMemory>
+pub(crate) fn put_number(out: &mut Vec<u8>, n: u64) -> Result<(), NoMemory>
     ensures { OnOk result (out.new.items ≡ out.old.items ++ number n) }
 {
     out.extend_from_slice(&n.to_be_bytes())?;
     Ok(())
 }
 
-fn put_signed(out: &mut Vec<u8>, n: i64) -> Result<(), NoMemory>
-    ensures { OnOk result (out.new.items ≡ out.old.items ++ number (cast_unsigned w64 n)) }
+pub(crate) fn put_signed(out: &mut Vec<u8>, n: i64) -> Result<(), NoMemory>
+    ensures { OnOk result (out.new.items ≡ out.old.items ++ signed n) }
 {
     out.extend_from_slice(&n.to_be_bytes())?;
     Ok(())
 }
 
 #[tactic(auto, unfolding(crate::specs::Spelling::text))]
-fn put_text(out: &mut Vec<u8>, content: &str) -> Result<(), NoMemory>
+pub(crate) fn put_text(out: &mut Vec<u8>, content: &str) -> Result<(), NoMemory>
     ensures { OnOk result (out.new.items ≡ out.old.items ++ text content.now) }
 {
     put_number(out, content.len() as u64)?;
@@ -34,7 +30,7 @@ fn put_text(out: &mut Vec<u8>, content: &str) -> Result<(), NoMemory>
 }
 
 #[tactic(auto, unfolding(crate::specs::Spelling::key))]
-fn put_key(out: &mut Vec<u8>, name: &DocumentKey) -> Result<(), NoMemory>
+pub(crate) fn put_key(out: &mut Vec<u8>, name: &DocumentKey) -> Result<(), NoMemory>
     ensures { OnOk result (out.new.items ≡ out.old.items ++ key name.now) }
 {
     let count = name.len();
@@ -48,7 +44,7 @@ fn put_key(out: &mut Vec<u8>, name: &DocumentKey) -> Result<(), NoMemory>
 }
 
 #[tactic(auto, unfolding(crate::specs::Spelling::time))]
-fn put_time(out: &mut Vec<u8>, at: Timestamp) -> Result<(), NoMemory>
+pub(crate) fn put_time(out: &mut Vec<u8>, at: Timestamp) -> Result<(), NoMemory>
     ensures { OnOk result (out.new.items ≡ out.old.items ++ time at) }
 {
     put_signed(out, at.seconds)?;
@@ -76,7 +72,7 @@ fn put_name(out: &mut Vec<u8>, content: &RefName) -> Result<(), NoMemory>
 
 #[cycle(putting)]
 #[tactic(auto, unfolding(crate::specs::Spelling::value))]
-fn put_value(out: &mut Vec<u8>, content: &Value) -> Result<(), NoMemory>
+pub(crate) fn put_value(out: &mut Vec<u8>, content: &Value) -> Result<(), NoMemory>
     ensures { OnOk result (out.new.items ≡ out.old.items ++ value content.now) }
 {
     match &content.kind {
@@ -131,7 +127,7 @@ fn put_values(out: &mut Vec<u8>, values: &Vec<Value>) -> Result<(), NoMemory>
 
 #[cycle(putting)]
 #[tactic(auto, unfolding(crate::specs::Spelling::fields))]
-fn put_fields(out: &mut Vec<u8>, content: &Fields) -> Result<(), NoMemory>
+pub(crate) fn put_fields(out: &mut Vec<u8>, content: &Fields) -> Result<(), NoMemory>
     ensures { OnOk result (out.new.items ≡ out.old.items ++ fields content.now) }
 {
     let entries = content.as_slice();
@@ -141,39 +137,4 @@ fn put_fields(out: &mut Vec<u8>, content: &Fields) -> Result<(), NoMemory>
         put_value(out, &entry.value)?;
     }
     Ok(())
-}
-
-#[tactic(auto, unfolding(crate::specs::Spelling::write))]
-fn put_write(out: &mut Vec<u8>, update: &Write) -> Result<(), NoMemory>
-    ensures { OnOk result (out.new.items ≡ out.old.items ++ write update.now) }
-{
-    out.push(UPDATE)?;
-    put_key(out, &update.key)?;
-    put_fields(out, &update.fields)?;
-    out.extend_from_slice(&PLAIN)?;
-    Ok(())
-}
-
-#[tactic(auto, unfolding(crate::specs::Spelling::batch))]
-fn put_batch(out: &mut Vec<u8>, pending: &Batch) -> Result<(), NoMemory>
-    ensures { OnOk result (out.new.items ≡ out.old.items ++ batch pending.now) }
-{
-    put_number(out, pending.id)?;
-    put_time(out, pending.at)?;
-    put_number(out, 1)?;
-    put_write(out, &pending.write)
-}
-
-/// Appends the commit's spelling.
-#[tactic(auto, unfolding(crate::specs::Spelling::spelling))]
-pub(crate) fn put_commit(out: &mut Vec<u8>, commit: &Commit) -> Result<(), NoMemory>
-    ensures { OnOk result (out.new.items ≡ out.old.items ++ spelling commit.now) }
-{
-    out.push(FORMAT)?;
-    match commit {
-        Commit::Enqueue(pending) => {
-            out.push(ENQUEUE)?;
-            put_batch(out, pending)
-        }
-    }
 }
