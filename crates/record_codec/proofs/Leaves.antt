@@ -8,9 +8,9 @@ use Rattle.value_model.specs.Data.{Data, depth}
 use Rattle.value_model.specs.Storable.{IsStorable, IsStorableText, AreStorableBytes, IsStorableSegment, IsStorableKey, IsStorableName}
 use Rattle.value_model.specs.Time.{IsMoment}
 use Rattle.value_model.specs.declared.reference.RefName.{RefName}
-use Rattle.record_codec.specs.Spelling.{number, text, key, time, name, value, IsText, IsSegmentText, IsSpelledKey, IsSpelledValue}
+use Rattle.record_codec.specs.Spelling.{signed, number, text, key, time, name, value, IsText, IsSegmentText, IsSpelledKey, IsSpelledValue}
 use Rattle.record_codec.specs.Reading.{Begins, BeginsNone}
-use Rattle.record_codec.proofs.Wide.{IsUnique, IsBytes, signed, unique_number}
+use Rattle.record_codec.proofs.Wide.{IsUnique, IsBytes, unique_number}
 use Rattle.record_codec.proofs.Tags.{tag_first, boolean_is, integer_is, time_is, text_is, bytes_is, reference_is}
 use Rattle.record_codec.proofs.Tagged.{IsKind, behind}
 use Rattle.record_codec.proofs.Unique.{text_on, unique_text, unique_segment, unique_key}

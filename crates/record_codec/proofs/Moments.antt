@@ -3,9 +3,9 @@ use Rattle.std.proofs.Common.{◌≡◌, ℕ, ◌^◌, ◌<◌, List, ◌++◌, 
 use Rattle.std.specs.Int.{w32, w64, to_be_bytes}
 use Rattle.value_model.specs.Time.{IsMoment}
 use Rattle.value_model.specs.declared.timestamp.Timestamp.{Timestamp}
-use Rattle.record_codec.specs.Spelling.{time}
+use Rattle.record_codec.specs.Spelling.{signed, time}
 use Rattle.record_codec.specs.Reading.{Begins, BeginsNone}
-use Rattle.record_codec.proofs.Wide.{unique_signed, unique_wide, wide32, signed}
+use Rattle.record_codec.proofs.Wide.{unique_signed, unique_wide, wide32}
 use Rattle.record_codec.proofs.Unique.{time_on, moment_fits, nanos_below}
 use Rattle.record_codec.proofs.Forms.{next}
 

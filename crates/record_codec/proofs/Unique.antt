@@ -6,9 +6,7 @@ use Rattle.std.proofs.lemmas.Int.{ints}
 use Rattle.std.proofs.lemmas.List.Elements.{recursion_from_All}
 use Rattle.value_model.specs.Time.{IsMoment}
 use Rattle.value_model.specs.declared.timestamp.Timestamp.{Timestamp}
-use Rattle.mutations.specs.declared.plain.PlainUpdate.{PlainUpdate as Write}
-use Rattle.mutations.specs.declared.plain.PlainBatch.{PlainBatch as Batch}
-use Rattle.record_codec.specs.Spelling.{number, text, key, time, fields, write, batch, IsNameText, IsSegmentText, IsSpelledKey}
+use Rattle.record_codec.specs.Spelling.{number, text, key, time, IsNameText, IsSegmentText, IsSpelledKey}
 use Rattle.record_codec.proofs.Wide.{IsUnique, fronts, unique_wide, wide32, unique_number, unique_signed}
 
 -- ---- how a spelling goes on
@@ -24,21 +22,6 @@ key_on k s = append_assoc (number (length k)) (flat_map text k) s
 pub time_on : (t : Timestamp) (s : List ℕ) → time t ++ s ≡ number (cast_unsigned w64 t.seconds) ++ (to_be_bytes w32 t.nanos ++ s)
 unfolding time
 time_on t s = append_assoc (number (cast_unsigned w64 t.seconds)) (to_be_bytes w32 t.nanos) s
-
--- no mask, no transform and no precondition
-abbrev pub plain : List ℕ
-plain = 0 ∷ (number 0 ++ 0 ∷ [])
-
-pub write_on : (w : Write) (s : List ℕ) → write w ++ s ≡ 1 ∷ (key w.key ++ (fields w.fields ++ (plain ++ s)))
-unfolding write
-write_on w s = ap (λ (r : List ℕ). 1 ∷ r) (append_assoc (key w.key) (fields w.fields ++ plain) s ∙ ap (λ (r : List ℕ). key w.key ++ r) (append_assoc (fields w.fields) plain s))
-
-pub batch_on : (b : Batch) (s : List ℕ) → batch b ++ s ≡ number b.id ++ (time b.at ++ (number 1 ++ (write b.write ++ s)))
-unfolding batch
-batch_on b s =
-    append_assoc (number b.id) (time b.at ++ (number 1 ++ write b.write)) s
-    ∙ ap (λ (r : List ℕ). number b.id ++ r) (append_assoc (time b.at) (number 1 ++ write b.write) s
-    ∙ ap (λ (r : List ℕ). time b.at ++ r) (append_assoc (number 1) (write b.write) s))
 
 -- ---- texts, and what follows one another
 

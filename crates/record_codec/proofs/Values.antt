@@ -9,9 +9,9 @@ use Rattle.value_model.specs.Data as kind
 use Rattle.value_model.specs.Data.{Data, Items, Members, Entries, items_of, list_of, members_of, entries_of, array_of, map_of, depth, items_depth, members_depth, entries_depth}
 use Rattle.value_model.specs.Storable.{AreStorableItems, AreStorableMembers, IsCountable}
 use Rattle.value_model.proofs.Parts.{list_items, items_list, entries_members, members_entries}
-use Rattle.record_codec.specs.Spelling.{number, text, time, name, value, items, members, entry, fields, IsNameText, IsSpelledValue, AreSpelledFields}
+use Rattle.record_codec.specs.Spelling.{signed, number, text, time, name, value, items, members, entry, fields, IsNameText, IsSpelledValue, AreSpelledFields}
 use Rattle.record_codec.specs.Reading.{BeginsNone}
-use Rattle.record_codec.proofs.Wide.{IsUnique, signed, unique_number, unique_signed}
+use Rattle.record_codec.proofs.Wide.{IsUnique, unique_number, unique_signed}
 use Rattle.record_codec.proofs.Tags.{tag_first, null_is, array_is, map_is}
 use Rattle.record_codec.proofs.Unique.{unique_text, unique_time, unique_name}
 use Rattle.record_codec.proofs.Tagged.{IsKind, kind_same, behind}

@@ -122,9 +122,13 @@ write (Delete k condition) = 2 ∷ (key k ++ precondition condition)
 unfoldable pub batch : Batch → List ℕ
 batch b = number b.id ++ (time b.at ++ many write b.writes)
 
--- 1 for the format, the kind, and its members
+-- a byte for the kind of commit, and its members
+unfoldable pub step : Commit → List ℕ
+step (Enqueue b) = 1 ∷ batch b
+
+-- 1 for the format, and what is committed
 unfoldable pub spelling : Commit → List ℕ
-spelling (Enqueue b) = 1 ∷ (1 ∷ batch b)
+spelling c = 1 ∷ step c
 
 -- a text whose length eight bytes have
 pub record IsText (bytes : List ℕ) : Type 0 where
@@ -194,12 +198,12 @@ pub record IsSpelledTransform (t : Transform) : Type 0 where
   pub change : IsSpelledChange (length t.path) t.change
 
 -- an update that has a spelling: its values are nested at most 20 deep
-pub record IsSpelledUpdate (k : List (List ℕ)) (fs : Entries) (mask : Option (List (List (List ℕ)))) (transforms : List Transform) (condition : Precondition) : Type 0 where
+pub record IsSpelledUpdate (k : List (List ℕ)) (fs : Entries) (paths : Option (List (List (List ℕ)))) (ts : List Transform) (held : Precondition) : Type 0 where
   pub key : IsSpelledKey k
   pub fields : AreSpelledFields 20 fs
-  pub mask : IfSome mask (AreSpelled IsSpelledPath)
-  pub transforms : AreSpelled IsSpelledTransform transforms
-  pub condition : IsSpelledPrecondition condition
+  pub mask : IfSome paths (AreSpelled IsSpelledPath)
+  pub transforms : AreSpelled IsSpelledTransform ts
+  pub condition : IsSpelledPrecondition held
 
 -- a write that has a spelling
 abbrev pub IsSpelledWrite : Write → Type 0

@@ -1,10 +1,10 @@
 ghost use Rattle.std.specs.Prelude.{◌≡◌, ◌++◌, OnOk};
-ghost use Rattle.record_codec.specs.Spelling.{batch, spelling, IsSpelledBatch, HasSpelling};
+ghost use Rattle.record_codec.specs.Spelling.{batch, step, spelling, IsSpelledBatch, HasSpelling};
 ghost use Rattle.record_codec.specs.Reading.{Reads};
 
 use crate::commit::Commit;
 use crate::fault::ReadError;
-use crate::numbers::{after, u64_of};
+use crate::numbers::{after, byte_of, u64_of};
 use crate::times::time_of;
 use crate::writes::{put_writes, writes_of};
 use crate::writing::{put_number, put_time};
@@ -28,13 +28,26 @@ fn batch_of(alloc: Global, bytes: &[u8]) -> Result<(Batch, &[u8]), ReadError>
     Ok((Batch { id, at, writes }, rest))
 }
 
+/// What is committed, and what follows it.
+fn step_of(alloc: Global, bytes: &[u8]) -> Result<(Commit, &[u8]), ReadError>
+    ensures { Reads step HasSpelling bytes.now (λ x. (x.0, x.1.now)) result }
+{
+    let (byte, rest) = byte_of(bytes)?;
+    match byte {
+        ENQUEUE => {
+            let (batch, rest) = batch_of(alloc, rest)?;
+            Ok((Commit::Enqueue(batch), rest))
+        }
+        _ => Err(ReadError::NotSpelled),
+    }
+}
+
 /// A commit, and what follows it.
 pub(crate) fn commit_of(alloc: Global, bytes: &[u8]) -> Result<(Commit, &[u8]), ReadError>
     ensures { Reads spelling HasSpelling bytes.now (λ x. (x.0, x.1.now)) result }
 {
-    let rest = after(bytes, &[FORMAT, ENQUEUE])?;
-    let (batch, rest) = batch_of(alloc, rest)?;
-    Ok((Commit::Enqueue(batch), rest))
+    let rest = after(bytes, &[FORMAT])?;
+    step_of(alloc, rest)
 }
 
 #[tactic(auto, unfolding(crate::specs::Spelling::batch))]
@@ -46,16 +59,23 @@ fn put_batch(out: &mut Vec<u8>, pending: &Batch) -> Result<(), NoMemory>
     put_writes(out, &pending.writes)
 }
 
-/// Appends the commit's spelling.
-#[tactic(auto, unfolding(crate::specs::Spelling::spelling))]
-pub(crate) fn put_commit(out: &mut Vec<u8>, commit: &Commit) -> Result<(), NoMemory>
-    ensures { OnOk result (out.new.items ≡ out.old.items ++ spelling commit.now) }
+#[tactic(auto, unfolding(crate::specs::Spelling::step))]
+fn put_step(out: &mut Vec<u8>, commit: &Commit) -> Result<(), NoMemory>
+    ensures { OnOk result (out.new.items ≡ out.old.items ++ step commit.now) }
 {
-    out.push(FORMAT)?;
     match commit {
         Commit::Enqueue(pending) => {
             out.push(ENQUEUE)?;
             put_batch(out, pending)
         }
     }
+}
+
+/// Appends the commit's spelling.
+#[tactic(auto, unfolding(crate::specs::Spelling::spelling))]
+pub(crate) fn put_commit(out: &mut Vec<u8>, commit: &Commit) -> Result<(), NoMemory>
+    ensures { OnOk result (out.new.items ≡ out.old.items ++ spelling commit.now) }
+{
+    out.push(FORMAT)?;
+    put_step(out, commit)
 }

@@ -92,6 +92,16 @@ pub(crate) fn put_path(out: &mut Vec<u8>, content: &FieldPath) -> Result<(), NoM
     Ok(())
 }
 
+fn put_paths(out: &mut Vec<u8>, paths: &[FieldPath]) -> Result<(), NoMemory>
+    ensures { OnOk result (out.new.items ≡ out.old.items ++ many path paths.now) }
+{
+    put_number(out, paths.len() as u64)?;
+    for path in paths {
+        put_path(out, path)?;
+    }
+    Ok(())
+}
+
 /// Appends the spelling of the mask, or of none.
 pub(crate) fn put_mask(out: &mut Vec<u8>, mask: &Option<Mask>) -> Result<(), NoMemory>
     ensures { OnOk result (out.new.items ≡ out.old.items ++ opt (many path) mask.now) }
@@ -99,12 +109,8 @@ pub(crate) fn put_mask(out: &mut Vec<u8>, mask: &Option<Mask>) -> Result<(), NoM
     match mask {
         None => out.push(ABSENT)?,
         Some(mask) => {
-            let paths = mask.as_slice();
             out.push(PRESENT)?;
-            put_number(out, paths.len() as u64)?;
-            for path in paths {
-                put_path(out, path)?;
-            }
+            put_paths(out, mask.as_slice())?;
         }
     }
     Ok(())

@@ -37,8 +37,8 @@ fn precondition_of(bytes: &[u8]) -> Result<(Precondition, &[u8]), ReadError>
     match byte {
         FREE => Ok((Precondition::Free, rest)),
         EXISTS => {
-            let (is, rest) = flag_of(rest)?;
-            Ok((Precondition::Exists(is), rest))
+            let (there, rest) = flag_of(rest)?;
+            Ok((Precondition::Exists(there), rest))
         }
         UPDATE_TIME => {
             let (time, rest) = time_of(rest)?;
@@ -109,7 +109,7 @@ fn put_precondition(out: &mut Vec<u8>, condition: &Precondition) -> Result<(), N
 {
     match condition {
         Precondition::Free => out.push(FREE)?,
-        Precondition::Exists(is) => out.extend_from_slice(&[EXISTS, *is as u8])?,
+        Precondition::Exists(there) => out.extend_from_slice(&[EXISTS, *there as u8])?,
         Precondition::UpdateTime(time) => {
             out.push(UPDATE_TIME)?;
             put_time(out, *time)?;

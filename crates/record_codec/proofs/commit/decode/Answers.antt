@@ -1,5 +1,5 @@
 use Rattle.std.proofs.Common.{arith}
-use Rattle.record_codec.proofs.Batches.{no_whole, longer}
+use Rattle.record_codec.proofs.Whole.{no_whole, longer}
 use Rattle.record_codec.proofs.commit.decode.Goals as goal
 
 pub returns-else-is_empty-clause-none : goal.returns-else-is_empty-clause-none

@@ -1,4 +1,4 @@
-use Rattle.record_codec.proofs.OneCommit.{one_value}
+use Rattle.record_codec.proofs.Whole.{one_value}
 use Rattle.record_codec.proofs.laws.one_commit.Goals as goal
 
 pub returns : goal.returns

@@ -1,8 +1,9 @@
+use Rattle.record_codec.specs.Spelling.{signed}
 use Rattle.std.proofs.Common.{FitsSigned, w64}
 use Rattle.std.proofs.lemmas.Int.{to_z-of_z}
 use Rattle.std.proofs.lemmas.Result.{err_from_is_err_and}
 use Rattle.value_model.specs.Data as kind
-use Rattle.record_codec.proofs.Wide.{fails_also, signed}
+use Rattle.record_codec.proofs.Wide.{fails_also}
 use Rattle.record_codec.proofs.Tagged.{kind_read, kind_none}
 use Rattle.record_codec.proofs.Leaves.{integer_kind}
 use Rattle.record_codec.proofs.scalars.integer_of.Goals as goal
