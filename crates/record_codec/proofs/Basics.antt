@@ -1,10 +1,10 @@
 -- The forms of numbers, flags, times, texts, keys, values and fields.
-use Rattle.std.proofs.Common.{◌≡◌, ℕ, ◌^◌, ◌<◌, Bool, true, false, List, [], ◌∷◌, ◌++◌, get_or, refl, ap, arith, ℤ, FitsSigned, w64}
+use Rattle.std.proofs.Common.{◌≡◌, ℕ, ◌^◌, ◌<◌, Bool, true, false, List, ◌++◌, get_or, refl, ap, arith, ℤ, FitsSigned, w64}
 use Rattle.value_model.specs.Data.{Data, Entries}
 use Rattle.value_model.specs.Time.{IsMoment}
 use Rattle.value_model.specs.declared.timestamp.Timestamp.{Timestamp}
 use Rattle.record_codec.specs.Spelling.{number, signed, boolean, text, key, time, value, fields, IsNameText, IsSpelledKey, IsSpelledValue, AreSpelledFields}
-use Rattle.record_codec.proofs.Wide.{IsUnique, unique_number, unique_signed}
+use Rattle.record_codec.proofs.Wide.{unique_number, unique_signed}
 use Rattle.record_codec.proofs.Unique.{unique_name, unique_key, unique_time}
 use Rattle.record_codec.proofs.Tagged.{behind}
 use Rattle.record_codec.proofs.Values.{unique_value, unique_fields}

@@ -1,11 +1,12 @@
 -- Forms of parts make the form of a whole: one part after another, lists with their number, and kinds behind their bytes.
-use Rattle.std.proofs.Common.{◌≡◌, ◌≢◌, ℕ, ◌^◌, ◌<◌, List, [], ◌∷◌, ◌++◌, length, drop, get_or, refl, sym, ap, subst, ◌∙◌, append_assoc, arith, Option, Some, None, IfSome}
-use Rattle.std.specs.List.{All, AllByRecursion, flat_map}
+use Rattle.std.proofs.Common.{◌≡◌, ◌≢◌, ℕ, ◌^◌, ◌<◌, List, [], ◌∷◌, ◌++◌, length, drop, get_or, refl, sym, ap, subst, ◌∙◌, append_assoc, arith, Result, Ok, Err}
+use Rattle.std.specs.List.{flat_map}
 use Rattle.std.proofs.lemmas.List.{append_cancel_left}
 use Rattle.std.proofs.lemmas.List.Elements.{All-from_recursion, recursion_from_All}
-use Rattle.record_codec.specs.Spelling.{number, many, opt, AreSpelled}
-use Rattle.record_codec.specs.Reading.{Begins, BeginsNone, AreMany}
-use Rattle.record_codec.proofs.Wide.{IsUnique, unique_number}
+use Rattle.record_codec.specs.declared.fault.ReadError.{ReadError}
+use Rattle.record_codec.specs.Spelling.{number, many, AreSpelled}
+use Rattle.record_codec.specs.Reading.{Begins, BeginsNone, Reads, AreMany}
+use Rattle.record_codec.proofs.Wide.{IsUnique, unique_number, fails_also}
 use Rattle.record_codec.proofs.Unique.{unique_many}
 use Rattle.record_codec.proofs.Forms.{next, many_none}
 
@@ -120,6 +121,12 @@ pub kind_none : {W X : Type 0} {spell : W → List ℕ} {Fits : W → Type 0} (f
 kind_none front make f k bytes none w more b =
     let m = k.back w more bytes (sym b.parts) b.fits in
     none m.content more (record { parts = append_cancel_left front bytes (f.spell m.content ++ more) (b.parts ∙ made_on front make f k w m more); fits = m.fits })
+
+-- what reads the content reads the value, where they are the same
+pub same_reads : {W Y : Type 0} {spell : W → List ℕ} {Fits : W → Type 0} {front : List ℕ} {f : Form W} → IsKind spell Fits front (λ w. w) f → (bytes : List ℕ) (view : Y → W × List ℕ) (result : Result Y ReadError)
+    → Reads f.spell f.Fits bytes view result → Reads spell Fits (front ++ bytes) view result
+same_reads {W} {Y} {spell} {Fits} {front} {f} kind bytes view (Ok y) b = kind_read front (λ w. w) f kind bytes (view y).0 (view y).1 b
+same_reads {W} {Y} {spell} {Fits} {front} {f} kind bytes view (Err e) failed = fails_also e (kind_none front (λ w. w) f kind bytes) failed
 
 -- where all values are of one kind, its bytes begin each spelling
 pub no_kind : {W X : Type 0} {spell : W → List ℕ} {Fits : W → Type 0} {front : List ℕ} {make : X → W} {f : Form X} → IsKind spell Fits front make f → ((w : W) → Fits w → Made make f w) → (bytes : List ℕ)

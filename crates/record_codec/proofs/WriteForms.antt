@@ -1,5 +1,5 @@
 -- The forms of paths, transforms, preconditions, writes, batches and commits.
-use Rattle.std.proofs.Common.{◌≡◌, ◌≢◌, ℕ, ◌-◌, ◌≤◌, ◌<◌, Bool, List, [], ◌∷◌, ◌++◌, length, refl, sym, ap, subst, ◌∙◌, arith, ℤ, Option, Some, None, IfSome}
+use Rattle.std.proofs.Common.{◌≡◌, ◌≢◌, ℕ, ◌-◌, List, [], ◌∷◌, length, refl, sym, arith, Option}
 use Rattle.value_model.specs.Data.{Data, Entries}
 use Rattle.value_model.specs.declared.timestamp.Timestamp.{Timestamp}
 use Rattle.mutations.specs.declared.transform.Change.{Change}
@@ -12,7 +12,7 @@ use Rattle.mutations.specs.declared.write.Write.TheVariants.{Update, Delete}
 use Rattle.mutations.specs.declared.batch.Batch.{Batch}
 use Rattle.record_codec.specs.declared.commit.Commit.{Commit}
 use Rattle.record_codec.specs.declared.commit.Commit.TheVariants.{Enqueue}
-use Rattle.record_codec.specs.Spelling.{path, opt, many, value, precondition, change, transform, write, batch, step, spelling, AreSpelled, IsSpelledPath, IsSpelledPrecondition, AreSpelledElements, IsSpelledChange, IsSpelledTransform, IsSpelledUpdate, IsSpelledWrite, IsSpelledBatch, HasSpelling, IsNameText, IsSpelledValue}
+use Rattle.record_codec.specs.Spelling.{path, many, value, precondition, change, transform, write, batch, step, spelling, AreSpelled, IsSpelledPath, IsSpelledPrecondition, AreSpelledElements, IsSpelledChange, IsSpelledTransform, IsSpelledWrite, IsSpelledBatch, HasSpelling, IsNameText, IsSpelledValue}
 use Rattle.record_codec.proofs.Wide.{IsUnique}
 use Rattle.record_codec.proofs.Unique.{unique_narrower}
 use Rattle.record_codec.proofs.Basics.{word, whole_number, flag, moment, field_name, document_key, value_within, fields_within}

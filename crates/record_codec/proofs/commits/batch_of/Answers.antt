@@ -1,6 +1,6 @@
-use Rattle.std.proofs.Common.{◌∷◌, [], arith}
+use Rattle.std.proofs.Common.{[]}
 use Rattle.std.proofs.lemmas.Result.{err_from_is_err_and}
-use Rattle.record_codec.proofs.Wide.{fails_also, fails_always}
+use Rattle.record_codec.proofs.Wide.{fails_also}
 use Rattle.record_codec.proofs.Basics.{word, moment}
 use Rattle.record_codec.proofs.WriteForms.{batch_kind, batch_parts, batch_of_parts, from_time, write_form}
 use Rattle.record_codec.proofs.Combine.{no_first, no_second, pair_read, kind_read, kind_none, list}

@@ -1,4 +1,6 @@
-use Rattle.std.proofs.Common.{◌∷◌, [], arith}
+use Rattle.std.proofs.Common.{arith}
+use Rattle.std.specs.Int.{w64}
+use Rattle.std.proofs.lemmas.Int.{to_z-of_z}
 use Rattle.std.proofs.lemmas.Result.{err_from_is_err_and}
 use Rattle.record_codec.proofs.Wide.{fails_also, fails_always}
 use Rattle.record_codec.proofs.WriteForms.{change_tagged, server_kind, increment_kind, maximum_kind, minimum_kind, append_kind, remove_kind, change_other}
@@ -39,13 +41,13 @@ pub returns-in-1 : goal.returns-in-1
 returns-in-1 c = tag_read (server_kind c.args.names) c.args.bytes.now c.in_ok-byte.byte c.in_ok-byte.rest.now c.in_ok-byte.ensures c.in-1.is tt c.in_ok-byte.rest.now (nothing c.in_ok-byte.rest.now)
 
 pub returns-in_ok-by-in-2 : goal.returns-in_ok-by-in-2
-returns-in_ok-by-in-2 c = tag_read (increment_kind c.args.names) c.args.bytes.now c.in_ok-byte.byte c.in_ok-byte.rest.now c.in_ok-byte.ensures c.in-2.is c.in_ok-by-in-2.by c.in_ok-by-in-2.rest.now c.in_ok-by-in-2.ensures
+returns-in_ok-by-in-2 c = rw (to_z-of_z w64 c.in_ok-by-in-2.by c.in_ok-by-in-2.ensures.fits) (tag_read (increment_kind c.args.names) c.args.bytes.now c.in_ok-byte.byte c.in_ok-byte.rest.now c.in_ok-byte.ensures c.in-2.is c.in_ok-by-in-2.by c.in_ok-by-in-2.rest.now c.in_ok-by-in-2.ensures)
 
 pub returns-in_ok-with-in-3 : goal.returns-in_ok-with-in-3
-returns-in_ok-with-in-3 c = tag_read (maximum_kind c.args.names) c.args.bytes.now c.in_ok-byte.byte c.in_ok-byte.rest.now c.in_ok-byte.ensures c.in-3.is c.in_ok-with-in-3.with c.in_ok-with-in-3.rest.now c.in_ok-with-in-3.ensures
+returns-in_ok-with-in-3 c = rw (to_z-of_z w64 c.in_ok-with-in-3.with c.in_ok-with-in-3.ensures.fits) (tag_read (maximum_kind c.args.names) c.args.bytes.now c.in_ok-byte.byte c.in_ok-byte.rest.now c.in_ok-byte.ensures c.in-3.is c.in_ok-with-in-3.with c.in_ok-with-in-3.rest.now c.in_ok-with-in-3.ensures)
 
 pub returns-in_ok-with-in-4 : goal.returns-in_ok-with-in-4
-returns-in_ok-with-in-4 c = tag_read (minimum_kind c.args.names) c.args.bytes.now c.in_ok-byte.byte c.in_ok-byte.rest.now c.in_ok-byte.ensures c.in-4.is c.in_ok-with-in-4.with c.in_ok-with-in-4.rest.now c.in_ok-with-in-4.ensures
+returns-in_ok-with-in-4 c = rw (to_z-of_z w64 c.in_ok-with-in-4.with c.in_ok-with-in-4.ensures.fits) (tag_read (minimum_kind c.args.names) c.args.bytes.now c.in_ok-byte.byte c.in_ok-byte.rest.now c.in_ok-byte.ensures c.in-4.is c.in_ok-with-in-4.with c.in_ok-with-in-4.rest.now c.in_ok-with-in-4.ensures)
 
 pub returns-in_ok-values-in-5 : goal.returns-in_ok-values-in-5
 returns-in_ok-values-in-5 c = tag_read (append_kind c.args.names) c.args.bytes.now c.in_ok-byte.byte c.in_ok-byte.rest.now c.in_ok-byte.ensures c.in-5.is c.in_ok-values-in-5.values c.in_ok-values-in-5.rest.now c.in_ok-values-in-5.ensures

@@ -1,9 +1,9 @@
-use Rattle.std.proofs.Common.{◌∷◌, [], arith}
+use Rattle.std.proofs.Common.{◌∷◌, []}
 use Rattle.std.proofs.lemmas.Result.{err_from_is_err_and}
-use Rattle.record_codec.proofs.Wide.{fails_also, fails_always}
+use Rattle.record_codec.proofs.Wide.{fails_also}
 use Rattle.record_codec.proofs.Basics.{document_key}
 use Rattle.record_codec.proofs.WriteForms.{delete_kind, delete_parts, delete_of_parts, condition}
-use Rattle.record_codec.proofs.Combine.{no_first, no_second, pair_read, kind_read, kind_none, list}
+use Rattle.record_codec.proofs.Combine.{no_first, no_second, pair_read, kind_read, kind_none}
 use Rattle.record_codec.proofs.writes.delete_of.Goals as goal
 
 pub returns-in_err-key : goal.returns-in_err-key

@@ -1,4 +1,4 @@
-use Rattle.std.proofs.Common.{◌∷◌, [], arith}
+use Rattle.std.proofs.Common.{arith}
 use Rattle.std.proofs.lemmas.Result.{err_from_is_err_and}
 use Rattle.record_codec.proofs.Wide.{fails_also, fails_always}
 use Rattle.record_codec.proofs.WriteForms.{precondition_tagged, free_kind, exists_kind, update_time_kind, precondition_other}

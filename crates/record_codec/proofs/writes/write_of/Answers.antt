@@ -1,6 +1,6 @@
-use Rattle.std.proofs.Common.{◌∷◌, [], arith}
+use Rattle.std.proofs.Common.{arith}
 use Rattle.std.proofs.lemmas.Result.{err_from_is_err_and}
-use Rattle.record_codec.proofs.Wide.{fails_also, fails_always}
+use Rattle.record_codec.proofs.Wide.{fails_always}
 use Rattle.record_codec.proofs.WriteForms.{write_tagged, write_other}
 use Rattle.record_codec.proofs.Combine.{no_tag, other_tag}
 use Rattle.record_codec.proofs.writes.write_of.Goals as goal

@@ -16,4 +16,4 @@ returns-in_err-write c =
     rw (p.1, p.2) (fails_also c.in_err-write.field-0.0 (no_item write_form c.args.bytes.now c.in_ok-count.count c.in_ok-count.start.now c.loop.counter c.loop.writes.items c.loop.rest.now c.in_ok-count.ensures c.loop-test.true c.loop.invariant) c.in_err-write.ensures)
 
 pub returns : goal.returns
-returns c = list_read write_form c.args.bytes.now c.in_ok-count.count c.in_ok-count.start.now c.loop.counter c.loop.writes.items c.loop.rest.now c.in_ok-count.ensures (omega (arith, c.loop-test.false)) c.loop.invariant
+returns c = rw c.from_vec.ensures (list_read write_form c.args.bytes.now c.in_ok-count.count c.in_ok-count.start.now c.loop.counter c.loop.writes.items c.loop.rest.now c.in_ok-count.ensures (omega (arith, c.loop-test.false)) c.loop.invariant)
