@@ -31,7 +31,7 @@ same_second g x y same u v s t fits_u fits_v e = (g y).unique u v s t (subst (λ
 pub unique_pair : {A B : Type 0} (f : Form A) (g : A → Form B) → IsUnique (λ (p : A × B). f.spell p.0 ++ (g p.0).spell p.1) (λ p. f.Fits p.0 × (g p.0).Fits p.1)
 unique_pair f g a b s t fits_a fits_b e =
     let first = f.unique a.0 b.0 ((g a.0).spell a.1 ++ s) ((g b.0).spell b.1 ++ t) fits_a.0 fits_b.0
-        (sym (append_assoc (f.spell a.0) ((g a.0).spell a.1) s) ∙ e ∙ append_assoc (f.spell b.0) ((g b.0).spell b.1) t) in
+    (sym (append_assoc (f.spell a.0) ((g a.0).spell a.1) s) ∙ e ∙ append_assoc (f.spell b.0) ((g b.0).spell b.1) t) in
     let second = same_second g a.0 b.0 first.0 a.1 b.1 s t fits_a.1 fits_b.1 first.1 in
     ((λ i. (first.0 i, second.0 i)), second.1)
 
@@ -67,7 +67,7 @@ pair_read f g bytes a rest x more first second = record {
 pub unique_list : {X : Type 0} (f : Form X) → IsUnique (many f.spell) (AreSpelled f.Fits)
 unique_list f a b s t fits_a fits_b e =
     let n = unique_number (length a) (length b) (flat_map f.spell a ++ s) (flat_map f.spell b ++ t) fits_a.count fits_b.count
-        (sym (append_assoc (number (length a)) (flat_map f.spell a) s) ∙ e ∙ append_assoc (number (length b)) (flat_map f.spell b) t) in
+    (sym (append_assoc (number (length a)) (flat_map f.spell a) s) ∙ e ∙ append_assoc (number (length b)) (flat_map f.spell b) t) in
     unique_many f.spell f.Fits f.unique a b s t n.0 (recursion_from_All f.Fits a fits_a.each) (recursion_from_All f.Fits b fits_b.each) n.1
 
 abbrev pub list : {X : Type 0} → Form X → Form (List X)
