@@ -7,8 +7,7 @@ use Rattle.record_codec.specs.declared.fault.ReadError.{ReadError}
 use Rattle.record_codec.specs.Spelling.{number, many, AreSpelled}
 use Rattle.record_codec.specs.Reading.{Begins, BeginsNone, Reads, AreMany}
 use Rattle.record_codec.proofs.Wide.{IsUnique, unique_number, fails_also}
-use Rattle.record_codec.proofs.Unique.{unique_many}
-use Rattle.record_codec.proofs.Forms.{next, many_none}
+use Rattle.record_codec.proofs.Forms.{next, many_none, unique_many, unique_narrower}
 
 -- values that are spelled so, where they fit, and of which no spelling is a front of another's
 pub record Form (X : Type 0) : Type 1 where
@@ -18,6 +17,10 @@ pub record Form (X : Type 0) : Type 1 where
 
 abbrev IsWord : ℕ → Type 0
 IsWord n = n < 2 ^ 64
+
+-- fewer values of the same spelling
+abbrev pub narrow : {X : Type 0} → (f : Form X) (Narrow : X → Type 0) → ((x : X) → Narrow x → f.Fits x) → Form X
+narrow f Narrow wider = record { spell = f.spell; Fits = Narrow; unique = unique_narrower f.spell f.Fits Narrow wider f.unique }
 
 -- nothing, in no bytes
 abbrev pub empty : Form (Unit {0})

@@ -1,66 +1,46 @@
--- Reading fields, and the items of arrays.
-use Rattle.std.proofs.Common.{◌≡◌, ℕ, suc, ◌≤◌, ◌<◌, ◌^◌, List, [], ◌∷◌, ◌++◌, length, take, get_or, ◌+◌, refl, sym, ap, subst, ◌∙◌, append_assoc, arith}
+-- Reading and writing fields, and what is inside values.
+use Rattle.std.proofs.Common.{◌≡◌, ℕ, suc, ◌≤◌, ◌<◌, List, [], ◌∷◌, ◌++◌, length, take, get_or, ◌+◌, refl, sym, ap, ◌∙◌, append_assoc, arith}
 use Rattle.std.specs.List.{AllByRecursion, All, flat_map}
 use Rattle.std.specs.Map.{keys_of}
 use Rattle.std.specs.Str.{IsUtf8}
 use Rattle.std.proofs.lemmas.List.{take_more, flat_map_more, take_all}
-use Rattle.std.proofs.lemmas.List.Elements.{All-nil, All-cons}
+use Rattle.std.proofs.lemmas.List.Elements.{All-nil, All-cons, All-from_recursion, recursion_from_All}
 use Rattle.value_model.specs.Data.{Data, Entries, members_of, entries_depth, array_of, map_of}
 use Rattle.value_model.specs.Fields.{AreFields}
 use Rattle.value_model.specs.Named.{fields_data}
 use Rattle.value_model.specs.Storable.{AreStorableMembers}
 use Rattle.value_model.specs.declared.fields.Field.{Field}
-use Rattle.record_codec.specs.Spelling.{number, text, value, entry, fields, IsNameText, IsSpelledValue, AreSpelledFields}
+use Rattle.record_codec.specs.Spelling.{number, text, many, value, entry, fields, AreSpelled, IsSpelledValue, AreSpelledFields}
 use Rattle.record_codec.specs.Kinds.{field, IsSpelledField}
-use Rattle.record_codec.specs.Reading.{Begins, BeginsNone, AreMany}
-use Rattle.record_codec.proofs.Wide.{IsUnique, unique_number}
-use Rattle.record_codec.proofs.Unique.{unique_name}
-use Rattle.record_codec.proofs.Forms.{next}
-use Rattle.record_codec.proofs.Tagged.{kind_read, kind_none}
-use Rattle.record_codec.proofs.Values.{array_spelled, AreItems, array_kind, map_kind, IsSpelledEntry, entry_on, fields_on, spelled_entries, unique_value, unique_entries}
+use Rattle.record_codec.specs.Reading.{Begins, BeginsNone}
+use Rattle.record_codec.proofs.Wide.{IsUnique}
+use Rattle.record_codec.proofs.Forms.{narrower_none, narrower_other}
+use Rattle.record_codec.proofs.Basics.{field_name}
+use Rattle.record_codec.proofs.Values.{IsSpelledEntry, array_kind, map_kind, spelled_entries, unique_value, unique_entries, value_within, fields_within}
+use Rattle.record_codec.proofs.Combine.{Form, Made, IsKind, has_kind, both, list, unique_kinds, kind_read, kind_none}
 
-abbrev IsWord : ℕ → Type 0
-IsWord n = n < 2 ^ 64
+-- ---- one field
 
--- ---- arrays
+abbrev pub field_parts : ℕ → Form (List ℕ × Data)
+field_parts limit = both field_name (value_within limit)
 
-pub items_no_count : (limit : ℕ) (bytes : List ℕ) → BeginsNone number IsWord bytes → BeginsNone array_spelled (AreItems limit) bytes
-items_no_count limit bytes none ds more b = none (length ds) (flat_map value ds ++ more) (record { parts = b.parts ∙ append_assoc (number (length ds)) (flat_map value ds) more; fits = b.fits.count })
+abbrev pub field_of_parts : List ℕ × Data → Field
+field_of_parts p = record { name = p.0; value = p.1 }
 
-pub items_none : (limit : ℕ) (bytes : List ℕ) (n : ℕ) (rest : List ℕ) → Begins number IsWord bytes n rest → BeginsNone (flat_map value) (AreMany (IsSpelledValue limit) n) rest → BeginsNone array_spelled (AreItems limit) bytes
-items_none limit bytes n rest first none ds more b =
-    let is = next number IsWord unique_number bytes n rest first (length ds) (flat_map value ds ++ more) b.fits.count (b.parts ∙ append_assoc (number (length ds)) (flat_map value ds) more) in
-    none ds more (record { parts = is.1; fits = record { len = sym is.0; each = b.fits.each } })
+field_made : (limit : ℕ) (f : Field) → IsSpelledField limit f → Made field_of_parts (field_parts limit) f
+field_made limit f fits = record { content = (f.name, f.value); is = refl; fits = (fits.name, fits.value) }
 
-pub items_read : (limit : ℕ) (bytes : List ℕ) (n : ℕ) (rest : List ℕ) (ds : List Data) (after : List ℕ) → Begins number IsWord bytes n rest → Begins (flat_map value) (AreMany (IsSpelledValue limit) n) rest ds after
-    → Begins array_spelled (AreItems limit) bytes ds after
-items_read limit bytes n rest ds after first each = record {
-  parts = first.parts ∙ ap (λ (r : List ℕ). number n ++ r) each.parts ∙ ap (λ (j : ℕ). number j ++ (flat_map value ds ++ after)) (sym each.fits.len) ∙ sym (append_assoc (number (length ds)) (flat_map value ds) after);
-  fits = record { count = omega (arith, each.fits.len, first.fits); each = each.fits.each };
-}
-
--- ---- fields
-
-pub field_no_name : (limit : ℕ) (bytes : List ℕ) → BeginsNone text IsNameText bytes → BeginsNone field (IsSpelledField limit) bytes
-field_no_name limit bytes none f more b = none f.name (value f.value ++ more) (record { parts = b.parts ∙ entry_on (f.name, f.value) more; fits = b.fits.name })
-
-pub field_no_value : (limit : ℕ) (bytes name rest : List ℕ) → Begins text IsNameText bytes name rest → BeginsNone value (IsSpelledValue limit) rest → BeginsNone field (IsSpelledField limit) bytes
-field_no_value limit bytes name rest first none f more b =
-    let is = next text IsNameText unique_name bytes name rest first f.name (value f.value ++ more) b.fits.name (b.parts ∙ entry_on (f.name, f.value) more) in
-    none f.value more (record { parts = is.1; fits = b.fits.value })
-
-pub field_read : (limit : ℕ) (bytes name rest : List ℕ) (v : Data) (more : List ℕ) → Begins text IsNameText bytes name rest → Begins value (IsSpelledValue limit) rest v more
-    → Begins field (IsSpelledField limit) bytes (record { name = name; value = v }) more
-field_read limit bytes name rest v more first second = record {
-  parts = first.parts ∙ ap (λ (r : List ℕ). text name ++ r) second.parts ∙ sym (entry_on (name, v) more);
-  fits = record { name = first.fits; value = second.fits };
-}
+pub field_kind : (limit : ℕ) → IsKind field (IsSpelledField limit) [] field_of_parts (field_parts limit)
+unfolding entry
+field_kind limit = record { on = λ x. refl; fits = λ x fits. record { name = fits.0; value = fits.1 }; back = λ f rest bytes e fits. field_made limit f fits }
 
 pub unique_field : (limit : ℕ) → IsUnique field (IsSpelledField limit)
-unique_field limit a b s t fits_a fits_b e =
-    let n = unique_name a.name b.name (value a.value ++ s) (value b.value ++ t) fits_a.name fits_b.name (sym (entry_on (a.name, a.value) s) ∙ e ∙ entry_on (b.name, b.value) t) in
-    let v = unique_value limit a.value b.value s t fits_a.value fits_b.value n.1 in
-    ((λ i. record { name = n.0 i; value = v.0 i }), v.1)
+unique_field limit = unique_kinds field (IsSpelledField limit) (λ f fits. has_kind (field_kind limit) f (field_made limit f fits))
+
+abbrev pub field_form : ℕ → Form Field
+field_form limit = record { spell = field; Fits = IsSpelledField limit; unique = unique_field limit }
+
+-- ---- fields
 
 -- fields of the code, and as they are seen
 abbrev to_fields : Entries → List Field
@@ -91,33 +71,33 @@ each_from : (limit : ℕ) (fs : List Field) → AllByRecursion (IsSpelledField l
 each_from limit [] all = tt
 each_from limit (f ∷ fs) all = (record { name = all.0.name; value = all.0.value }, each_from limit fs all.1)
 
-pub fields_no_count : (limit : ℕ) (bytes : List ℕ) → BeginsNone number IsWord bytes → BeginsNone fields (AreSpelledFields limit) bytes
-fields_no_count limit bytes none es more b = none (length es) (flat_map entry es ++ more) (record { parts = b.parts ∙ fields_on es more; fits = b.fits.storable.0.count })
+data_to : (es : Entries) → es ≡ fields_data (to_fields es)
+data_to [] = refl
+data_to (e ∷ es) = ap (λ (xs : Entries). e ∷ xs) (data_to es)
 
-record HasEntries (n : ℕ) (rest : List ℕ) (es : Entries) (more : List ℕ) : Type 0 where
-  count : n ≡ length es
-  parts : rest ≡ flat_map entry es ++ more
+entries_made : (limit : ℕ) (es : Entries) → AreSpelled (IsSpelledEntry limit) es → Made fields_data (list (field_form limit)) es
+entries_made limit es fits = record {
+  content = to_fields es;
+  is = data_to es;
+  fits = record { count = omega (arith, length_to es, fits.count); each = All-from_recursion (IsSpelledField limit) (to_fields es) (each_to limit es (recursion_from_All (IsSpelledEntry limit) es fits.each)) };
+}
 
-entries : (limit : ℕ) (bytes : List ℕ) (n : ℕ) (rest : List ℕ) → Begins number IsWord bytes n rest → (es : Entries) (more : List ℕ) → Begins fields (AreSpelledFields limit) bytes es more → HasEntries n rest es more
-entries limit bytes n rest first es more b =
-    let is = next number IsWord unique_number bytes n rest first (length es) (flat_map entry es ++ more) b.fits.storable.0.count (b.parts ∙ fields_on es more) in
-    record { count = is.0; parts = is.1 }
+-- fields in whatever order
+entries_kind : (limit : ℕ) → IsKind fields (AreSpelled (IsSpelledEntry limit)) [] fields_data (list (field_form limit))
+unfolding fields
+entries_kind limit = record {
+  on = λ fs. ap (λ (n : ℕ). number n ++ flat_map entry (fields_data fs)) (length_from fs) ∙ ap (λ (r : List ℕ). number (length fs) ++ r) (sym (flat_from fs));
+  fits = λ fs fits. record { count = omega (arith, length_from fs, fits.count); each = All-from_recursion (IsSpelledEntry limit) (fields_data fs) (each_from limit fs (recursion_from_All (IsSpelledField limit) fs fits.each)) };
+  back = λ es rest bytes e fits. entries_made limit es fits;
+}
 
-pub fields_none : (limit : ℕ) (bytes : List ℕ) (n : ℕ) (rest : List ℕ) → Begins number IsWord bytes n rest → BeginsNone (flat_map field) (AreMany (IsSpelledField limit) n) rest → BeginsNone fields (AreSpelledFields limit) bytes
-fields_none limit bytes n rest first none es more b =
-    let is = entries limit bytes n rest first es more b in
-    none (to_fields es) more (record {
-      parts = is.parts ∙ ap (λ (r : List ℕ). r ++ more) (sym (flat_to es));
-      fits = record { len = length_to es ∙ sym is.count; each = each_to limit es (spelled_entries limit es b.fits) };
-    })
+pub fields_none : (limit : ℕ) (bytes : List ℕ) → BeginsNone (many field) (AreSpelled (IsSpelledField limit)) bytes → BeginsNone fields (AreSpelledFields limit) bytes
+fields_none limit bytes none = narrower_none fields (AreSpelled (IsSpelledEntry limit)) (AreSpelledFields limit) (spelled_entries limit) bytes (kind_none [] fields_data (list (field_form limit)) (entries_kind limit) bytes none)
 
-pub fields_not : (limit : ℕ) (bytes : List ℕ) (n : ℕ) (rest : List ℕ) (fs : List Field) (after : List ℕ) → Begins number IsWord bytes n rest → Begins (flat_map field) (AreMany (IsSpelledField limit) n) rest fs after
-    → ¬ (AreFields (fields_data fs)) → BeginsNone fields (AreSpelledFields limit) bytes
-fields_not limit bytes n rest fs after first each not es more b =
-    let is = entries limit bytes n rest first es more b in
-    let same = unique_entries limit (fields_data fs) es after more (length_from fs ∙ each.fits.len ∙ is.count) (each_from limit fs each.fits.each) (spelled_entries limit es b.fits)
-    (ap (λ (r : List ℕ). r ++ after) (sym (flat_from fs)) ∙ sym each.parts ∙ is.parts) in
-    not (subst AreFields (sym same.0) b.fits.storable.0.sound)
+pub fields_not : (limit : ℕ) (bytes : List ℕ) (fs : List Field) (rest : List ℕ) → Begins (many field) (AreSpelled (IsSpelledField limit)) bytes fs rest → ¬ (AreFields (fields_data fs)) → BeginsNone fields (AreSpelledFields limit) bytes
+fields_not limit bytes fs rest first not =
+    narrower_other fields (AreSpelled (IsSpelledEntry limit)) (AreSpelledFields limit) (spelled_entries limit) (unique_entries limit (unique_value limit)) bytes (fields_data fs) rest
+    (kind_read [] fields_data (list (field_form limit)) (entries_kind limit) bytes fs rest first) (λ fits. not fits.storable.0.sound)
 
 record AreHeld (limit : ℕ) (es : Entries) : Type 0 where
   utf8 : All IsUtf8 (keys_of es)
@@ -130,30 +110,26 @@ held limit (e ∷ es) all =
     let rest = held limit es all.1 in
     record { utf8 = All-cons IsUtf8 e.0 (keys_of es) all.0.name.utf8 rest.utf8; storable = (all.0.value.storable, rest.storable); nested = omega (arith, all.0.value.nested, rest.nested) }
 
-pub fields_read : (limit : ℕ) (bytes : List ℕ) (n : ℕ) (rest : List ℕ) (fs : List Field) (content : Entries) (after : List ℕ) → Begins number IsWord bytes n rest
-    → Begins (flat_map field) (AreMany (IsSpelledField limit) n) rest fs after → content ≡ fields_data fs → AreFields content → Begins fields (AreSpelledFields limit) bytes content after
-fields_read limit bytes n rest fs content after first each same sound =
-    let h = held limit (fields_data fs) (each_from limit fs each.fits.each) in
-    let count : length (fields_data fs) ≡ n = length_from fs ∙ each.fits.len in
-    rw same (record {
-      parts = first.parts ∙ ap (λ (r : List ℕ). number n ++ r) (each.parts ∙ ap (λ (r : List ℕ). r ++ after) (flat_from fs))
-          ∙ ap (λ (j : ℕ). number j ++ (flat_map entry (fields_data fs) ++ after)) (sym count) ∙ sym (fields_on (fields_data fs) after);
-      fits = record { storable = (record { sound = rw same at sound; utf8 = h.utf8; count = omega (arith, count, first.fits) }, h.storable); nested = h.nested };
-    })
+pub fields_read : (limit : ℕ) (bytes : List ℕ) (fs : List Field) (content : Entries) (rest : List ℕ) → Begins (many field) (AreSpelled (IsSpelledField limit)) bytes fs rest → content ≡ fields_data fs → AreFields content
+    → Begins fields (AreSpelledFields limit) bytes content rest
+fields_read limit bytes fs content rest first same sound =
+    let b = kind_read [] fields_data (list (field_form limit)) (entries_kind limit) bytes fs rest first in
+    let h = held limit (fields_data fs) (recursion_from_All (IsSpelledEntry limit) (fields_data fs) b.fits.each) in
+    rw same (record { parts = b.parts; fits = record { storable = (record { sound = rw same at sound; utf8 = h.utf8; count = b.fits.count }, h.storable); nested = h.nested } })
 
 -- ---- values with values inside, where they may be nested that deep
 
-pub array_done : (limit l : ℕ) (bytes : List ℕ) (ds : List Data) (rest : List ℕ) → limit ≡ suc l → Begins array_spelled (AreItems l) bytes ds rest → Begins value (IsSpelledValue limit) (8 ∷ bytes) (array_of ds) rest
-array_done limit l bytes ds rest is b = rw is (kind_read (suc l) 8 array_of array_spelled (AreItems l) (array_kind l) bytes ds rest b)
+pub array_done : (limit l : ℕ) (bytes : List ℕ) (ds : List Data) (rest : List ℕ) → limit ≡ suc l → Begins (many value) (AreSpelled (IsSpelledValue l)) bytes ds rest → Begins value (IsSpelledValue limit) (8 ∷ bytes) (array_of ds) rest
+array_done limit l bytes ds rest is b = rw is (kind_read (8 ∷ []) array_of (list (value_within l)) (array_kind l (unique_value l)) bytes ds rest b)
 
-pub array_not : (limit l : ℕ) (bytes : List ℕ) → limit ≡ suc l → BeginsNone array_spelled (AreItems l) bytes → BeginsNone value (IsSpelledValue limit) (8 ∷ bytes)
-array_not limit l bytes is none = rw is (kind_none (suc l) 8 array_of array_spelled (AreItems l) (array_kind l) bytes none)
+pub array_not : (limit l : ℕ) (bytes : List ℕ) → limit ≡ suc l → BeginsNone (many value) (AreSpelled (IsSpelledValue l)) bytes → BeginsNone value (IsSpelledValue limit) (8 ∷ bytes)
+array_not limit l bytes is none = rw is (kind_none (8 ∷ []) array_of (list (value_within l)) (array_kind l (unique_value l)) bytes none)
 
 pub map_done : (limit l : ℕ) (bytes : List ℕ) (es : Entries) (rest : List ℕ) → limit ≡ suc l → Begins fields (AreSpelledFields l) bytes es rest → Begins value (IsSpelledValue limit) (9 ∷ bytes) (map_of es) rest
-map_done limit l bytes es rest is b = rw is (kind_read (suc l) 9 map_of fields (AreSpelledFields l) (map_kind l) bytes es rest b)
+map_done limit l bytes es rest is b = rw is (kind_read (9 ∷ []) map_of (fields_within l) (map_kind l (unique_value l)) bytes es rest b)
 
 pub map_not : (limit l : ℕ) (bytes : List ℕ) → limit ≡ suc l → BeginsNone fields (AreSpelledFields l) bytes → BeginsNone value (IsSpelledValue limit) (9 ∷ bytes)
-map_not limit l bytes is none = rw is (kind_none (suc l) 9 map_of fields (AreSpelledFields l) (map_kind l) bytes none)
+map_not limit l bytes is none = rw is (kind_none (9 ∷ []) map_of (fields_within l) (map_kind l (unique_value l)) bytes none)
 
 -- ---- writing fields
 

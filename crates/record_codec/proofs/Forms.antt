@@ -15,12 +15,25 @@ next spell Fits unique bytes a rest first b more fits e = unique a b rest more f
 pub narrower_none : {X : Type 0} (spell : X → List ℕ) (Fits Narrow : X → Type 0) → ((x : X) → Narrow x → Fits x) → (bytes : List ℕ) → BeginsNone spell Fits bytes → BeginsNone spell Narrow bytes
 narrower_none spell Fits Narrow wider bytes none x rest b = none x rest (record { parts = b.parts; fits = wider x b.fits })
 
+pub unique_narrower : {X : Type 0} (spell : X → List ℕ) (Fits Narrow : X → Type 0) → ((x : X) → Narrow x → Fits x) → IsUnique spell Fits → IsUnique spell Narrow
+unique_narrower spell Fits Narrow wider unique a b s t fits_a fits_b e = unique a b s t (wider a fits_a) (wider b fits_b) e
+
 pub narrower_other : {X : Type 0} (spell : X → List ℕ) (Fits Narrow : X → Type 0) → ((x : X) → Narrow x → Fits x) → IsUnique spell Fits → (bytes : List ℕ) (a : X) (rest : List ℕ) → Begins spell Fits bytes a rest → ¬ (Narrow a) → BeginsNone spell Narrow bytes
 narrower_other spell Fits Narrow wider unique bytes a rest first not x more b =
     let same = next spell Fits unique bytes a rest first x more (wider x b.fits) b.parts in
     not (subst Narrow (sym same.0) b.fits)
 
 -- ---- lists
+
+pub unique_many : {X : Type 0} (spell : X → List ℕ) (Fits : X → Type 0) → IsUnique spell Fits → (xs ys : List X) (s t : List ℕ) → length xs ≡ length ys → AllByRecursion Fits xs → AllByRecursion Fits ys
+    → flat_map spell xs ++ s ≡ flat_map spell ys ++ t → (xs ≡ ys) × (s ≡ t)
+unique_many spell Fits unique [] [] s t same fit_a fit_b e = (refl, e)
+unique_many spell Fits unique [] (b ∷ ys) s t same fit_a fit_b e = absurd (omega (arith, same))
+unique_many spell Fits unique (a ∷ xs) [] s t same fit_a fit_b e = absurd (omega (arith, same))
+unique_many spell Fits unique (a ∷ xs) (b ∷ ys) s t same fit_a fit_b e =
+    let one = unique a b (flat_map spell xs ++ s) (flat_map spell ys ++ t) fit_a.0 fit_b.0 (sym (append_assoc (spell a) (flat_map spell xs) s) ∙ e ∙ append_assoc (spell b) (flat_map spell ys) t) in
+    let others = unique_many spell Fits unique xs ys s t (omega (arith, same)) fit_a.1 fit_b.1 one.1 in
+    ((λ i. one.0 i ∷ others.0 i), others.1)
 
 all_push : {X : Type 0} (Fits : X → Type 0) (xs : List X) (x : X) → AllByRecursion Fits xs → Fits x → AllByRecursion Fits (xs ++ x ∷ [])
 all_push Fits [] x all one = (one, tt)

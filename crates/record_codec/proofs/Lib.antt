@@ -2,14 +2,8 @@ pub mod Basics
 pub mod Combine
 pub mod Entries
 pub mod Forms
-pub mod Leaves
-pub mod Moments
 pub mod Options
 pub mod Puts
-pub mod Tagged
-pub mod Tags
-pub mod Texts
-pub mod Unique
 pub mod Values
 pub mod Whole
 pub mod Wide

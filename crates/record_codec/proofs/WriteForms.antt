@@ -14,8 +14,9 @@ use Rattle.record_codec.specs.declared.commit.Commit.{Commit}
 use Rattle.record_codec.specs.declared.commit.Commit.TheVariants.{Enqueue}
 use Rattle.record_codec.specs.Spelling.{path, many, value, precondition, change, transform, write, batch, step, spelling, AreSpelled, IsSpelledPath, IsSpelledPrecondition, AreSpelledElements, IsSpelledChange, IsSpelledTransform, IsSpelledWrite, IsSpelledBatch, HasSpelling, IsNameText, IsSpelledValue}
 use Rattle.record_codec.proofs.Wide.{IsUnique}
-use Rattle.record_codec.proofs.Unique.{unique_narrower}
-use Rattle.record_codec.proofs.Basics.{word, whole_number, flag, moment, field_name, document_key, value_within, fields_within}
+use Rattle.record_codec.proofs.Forms.{unique_narrower}
+use Rattle.record_codec.proofs.Basics.{word, whole_number, flag, moment, field_name, document_key}
+use Rattle.record_codec.proofs.Values.{value_within, fields_within}
 use Rattle.record_codec.proofs.Options.{optional}
 use Rattle.record_codec.proofs.Combine.{Form, Made, IsKind, HasKind, has_kind, IsTagged, empty, pair, both, list, unique_kinds, tag_first}
 

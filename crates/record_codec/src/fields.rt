@@ -1,6 +1,6 @@
-ghost use Rattle.std.specs.Prelude.{◌≡◌, ◌+◌, ◌∷◌, flat_map};
-ghost use Rattle.record_codec.specs.Spelling.{value, fields, IsSpelledValue, AreSpelledFields};
-ghost use Rattle.record_codec.specs.Reading.{Reads, AreMany};
+ghost use Rattle.std.specs.Prelude.{◌∷◌};
+ghost use Rattle.record_codec.specs.Spelling.{value, fields, many, AreSpelled, IsSpelledValue, AreSpelledFields};
+ghost use Rattle.record_codec.specs.Reading.{Reads};
 ghost use Rattle.record_codec.specs.Kinds.{field, IsSpelledField};
 
 use crate::fault::ReadError;
@@ -34,18 +34,18 @@ fn value_of(alloc: Global, limit: u32, bytes: &[u8]) -> Result<(Value, &[u8]), R
     }
 }
 
-/// So many values, and what follows them.
+/// Values that are nested at most so deep, as many as the number before them says, and what follows them.
 #[cycle(values)]
 pub(crate) fn values_of(
     alloc: Global,
     limit: u32,
-    count: u64,
     bytes: &[u8],
 ) -> Result<(Vec<Value>, &[u8]), ReadError>
-    ensures { Reads (flat_map value) (AreMany (IsSpelledValue limit) count) bytes.now (λ x. (x.0.items, x.1.now)) result }
+    ensures { Reads (many value) (AreSpelled (IsSpelledValue limit)) bytes.now (λ x. (x.0.items, x.1.now)) result }
 {
+    let (count, start) = u64_of(bytes)?;
     let mut values = Vec::new(alloc);
-    let mut rest = bytes;
+    let mut rest = start;
     for _ in 0..count {
         let (value, next) = value_of(alloc, limit, rest)?;
         values.push(value)?;
@@ -62,8 +62,7 @@ fn array_of(alloc: Global, limit: u32, bytes: &[u8]) -> Result<(Value, &[u8]), R
     if limit == 0 {
         return Err(ReadError::NotSpelled);
     }
-    let (count, rest) = u64_of(bytes)?;
-    let (values, rest) = values_of(alloc, limit - 1, count, rest)?;
+    let (values, rest) = values_of(alloc, limit - 1, bytes)?;
     Ok((Value::array(values), rest))
 }
 
@@ -89,18 +88,14 @@ fn field_of(alloc: Global, limit: u32, bytes: &[u8]) -> Result<(Field, &[u8]), R
     Ok((Field { name, value }, rest))
 }
 
-/// So many fields, and what follows them.
+/// Such fields in whatever order, as many as the number before them says, and what follows them.
 #[cycle(values)]
-fn entries_of(
-    alloc: Global,
-    limit: u32,
-    count: u64,
-    bytes: &[u8],
-) -> Result<(Vec<Field>, &[u8]), ReadError>
-    ensures { Reads (flat_map field) (AreMany (IsSpelledField limit) count) bytes.now (λ x. (x.0.items, x.1.now)) result }
+fn entries_of(alloc: Global, limit: u32, bytes: &[u8]) -> Result<(Vec<Field>, &[u8]), ReadError>
+    ensures { Reads (many field) (AreSpelled (IsSpelledField limit)) bytes.now (λ x. (x.0.items, x.1.now)) result }
 {
+    let (count, start) = u64_of(bytes)?;
     let mut entries = Vec::new(alloc);
-    let mut rest = bytes;
+    let mut rest = start;
     for _ in 0..count {
         let (entry, next) = field_of(alloc, limit, rest)?;
         entries.push(entry)?;
@@ -118,8 +113,7 @@ pub(crate) fn fields_of(
 ) -> Result<(Fields, &[u8]), ReadError>
     ensures { Reads fields (AreSpelledFields limit) bytes.now (λ x. (x.0, x.1.now)) result }
 {
-    let (count, rest) = u64_of(bytes)?;
-    let (entries, rest) = entries_of(alloc, limit, count, rest)?;
+    let (entries, rest) = entries_of(alloc, limit, bytes)?;
     match Fields::from_entries(entries) {
         Some(content) => Ok((content, rest)),
         None => Err(ReadError::NotSpelled),

@@ -1,21 +1,29 @@
-ghost use Rattle.std.specs.Prelude.{◌≡◌, ◌↔◌, IsTrue, flat_map};
-ghost use Rattle.record_codec.specs.Spelling.{text, key, IsText, IsNameText, IsSegmentText, IsSpelledKey};
-ghost use Rattle.record_codec.specs.Reading.{Reads, AreMany};
+ghost use Rattle.std.specs.Prelude.{◌≡◌, ◌↔◌, IsTrue};
+ghost use Rattle.value_model.specs.Storable.{IsCountable};
+ghost use Rattle.record_codec.specs.Spelling.{text, key, many, AreSpelled, IsText, IsNameText, IsSegmentText, IsSpelledKey};
+ghost use Rattle.record_codec.specs.Reading.{Reads};
 
 use crate::fault::ReadError;
 use crate::numbers::u64_of;
 use document_keys::{DocumentKey, Segment, Text, check_field_name};
 use std::alloc::Global;
 
-/// A text, lent, and what follows it.
-pub(crate) fn text_of(bytes: &[u8]) -> Result<(&str, &[u8]), ReadError>
-    ensures { Reads text IsText bytes.now (λ x. (x.0.now, x.1.now)) result }
+/// As many bytes as the length before them says, lent, and what follows them.
+pub(crate) fn slice_of(bytes: &[u8]) -> Result<(&[u8], &[u8]), ReadError>
+    ensures { Reads text IsCountable bytes.now (λ x. (x.0.now, x.1.now)) result }
 {
     let (len, rest) = u64_of(bytes)?;
     if (rest.len() as u64) < len {
         return Err(ReadError::NotSpelled);
     }
-    let (front, rest) = rest.split_at(len as usize);
+    Ok(rest.split_at(len as usize))
+}
+
+/// A text, lent, and what follows it.
+pub(crate) fn text_of(bytes: &[u8]) -> Result<(&str, &[u8]), ReadError>
+    ensures { Reads text IsText bytes.now (λ x. (x.0.now, x.1.now)) result }
+{
+    let (front, rest) = slice_of(bytes)?;
     match str::from_utf8(front) {
         Ok(content) => Ok((content, rest)),
         Err(_) => Err(ReadError::NotSpelled),
@@ -31,12 +39,13 @@ pub(crate) fn segment_of(alloc: Global, bytes: &[u8]) -> Result<(Segment, &[u8])
     Ok((segment, rest))
 }
 
-/// So many segments, and what follows them.
-fn segments_of(alloc: Global, count: u64, bytes: &[u8]) -> Result<(Vec<Segment>, &[u8]), ReadError>
-    ensures { Reads (flat_map text) (AreMany IsSegmentText count) bytes.now (λ x. (x.0.items, x.1.now)) result }
+/// Segments, as many as the number before them says, and what follows them.
+fn segments_of(alloc: Global, bytes: &[u8]) -> Result<(Vec<Segment>, &[u8]), ReadError>
+    ensures { Reads (many text) (AreSpelled IsSegmentText) bytes.now (λ x. (x.0.items, x.1.now)) result }
 {
+    let (count, start) = u64_of(bytes)?;
     let mut segments = Vec::new(alloc);
-    let mut rest = bytes;
+    let mut rest = start;
     for _ in 0..count {
         let (segment, next) = segment_of(alloc, rest)?;
         segments.push(segment)?;
@@ -49,8 +58,7 @@ fn segments_of(alloc: Global, count: u64, bytes: &[u8]) -> Result<(Vec<Segment>,
 pub(crate) fn key_of(alloc: Global, bytes: &[u8]) -> Result<(DocumentKey, &[u8]), ReadError>
     ensures { Reads key IsSpelledKey bytes.now (λ x. (x.0, x.1.now)) result }
 {
-    let (count, rest) = u64_of(bytes)?;
-    let (segments, rest) = segments_of(alloc, count, rest)?;
+    let (segments, rest) = segments_of(alloc, bytes)?;
     match DocumentKey::from_segments(segments) {
         Some(name) => Ok((name, rest)),
         None => Err(ReadError::NotSpelled),

@@ -1,12 +1,12 @@
-ghost use Rattle.std.specs.Prelude.{◌≡◌, ◌≢◌};
-ghost use Rattle.value_model.specs.Storable.{IsStorableName, AreStorableBytes};
-ghost use Rattle.record_codec.specs.Spelling.{text, name};
+ghost use Rattle.std.specs.Prelude.{◌≢◌};
+ghost use Rattle.value_model.specs.Storable.{IsStorableName};
+ghost use Rattle.record_codec.specs.Spelling.{name};
 ghost use Rattle.record_codec.specs.Reading.{Reads};
 ghost use Rattle.record_codec.specs.Kinds.{ReadsKind};
 
 use crate::fault::ReadError;
-use crate::names::{key_of, segment_of, text_of};
-use crate::numbers::{after, i64_of, u64_of};
+use crate::names::{key_of, segment_of, slice_of, text_of};
+use crate::numbers::{flag_of, i64_of};
 use crate::times::time_of;
 use document_keys::Text;
 use std::alloc::Global;
@@ -40,12 +40,8 @@ pub(crate) const REFERENCE: u8 = 7;
 fn boolean_of(bytes: &[u8]) -> Result<(Value, &[u8]), ReadError>
     ensures { ReadsKind 1 bytes.now (λ x. (x.0, x.1.now)) result }
 {
-    if let Ok(rest) = after(bytes, &[0]) {
-        let kind = Kind::Boolean(false);
-        return Ok((Value { kind }, rest));
-    }
-    let rest = after(bytes, &[1])?;
-    let kind = Kind::Boolean(true);
+    let (flag, rest) = flag_of(bytes)?;
+    let kind = Kind::Boolean(flag);
     Ok((Value { kind }, rest))
 }
 
@@ -76,22 +72,11 @@ fn string_of(alloc: Global, bytes: &[u8]) -> Result<(Value, &[u8]), ReadError>
     Ok((Value { kind }, rest))
 }
 
-/// As many bytes as the length before them says, lent, and what follows them.
-fn chunk_of(bytes: &[u8]) -> Result<(&[u8], &[u8]), ReadError>
-    ensures { Reads text AreStorableBytes bytes.now (λ x. (x.0.now, x.1.now)) result }
-{
-    let (len, rest) = u64_of(bytes)?;
-    if (rest.len() as u64) < len {
-        return Err(ReadError::NotSpelled);
-    }
-    Ok(rest.split_at(len as usize))
-}
-
 /// Bytes, and what follows them.
 fn bytes_of(alloc: Global, bytes: &[u8]) -> Result<(Value, &[u8]), ReadError>
     ensures { ReadsKind 6 bytes.now (λ x. (x.0, x.1.now)) result }
 {
-    let (content, rest) = chunk_of(bytes)?;
+    let (content, rest) = slice_of(bytes)?;
     let kind = Kind::Bytes(Bytes::from_vec(Vec::from_slice(alloc, content)?));
     Ok((Value { kind }, rest))
 }

@@ -36,8 +36,7 @@ fn elements_of(alloc: Global, names: u64, bytes: &[u8]) -> Result<(Values, &[u8]
     if names > DEPTH as u64 {
         return Err(ReadError::NotSpelled);
     }
-    let (count, rest) = u64_of(bytes)?;
-    let (values, rest) = values_of(alloc, DEPTH - names as u32, count, rest)?;
+    let (values, rest) = values_of(alloc, DEPTH - names as u32, bytes)?;
     Ok((Values::from_vec(values), rest))
 }
 

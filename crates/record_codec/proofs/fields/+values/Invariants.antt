@@ -27,7 +27,7 @@ abbrev pub decreases-fields_of : goal.decreases-fields_of
 decreases-fields_of l = 6 * l.limit + 9
 
 abbrev pub invariant-values_of-loop : goal.invariant-values_of-loop
-invariant-values_of-loop l = Begins (flat_map value) (AreMany (IsSpelledValue l.limit) l.counter) l.bytes l.values.items l.rest
+invariant-values_of-loop l = Begins (flat_map value) (AreMany (IsSpelledValue l.limit) l.counter) l.initial.rest l.values.items l.rest
 
 abbrev pub invariant-entries_of-loop : goal.invariant-entries_of-loop
-invariant-entries_of-loop l = Begins (flat_map field) (AreMany (IsSpelledField l.limit) l.counter) l.bytes l.entries.items l.rest
+invariant-entries_of-loop l = Begins (flat_map field) (AreMany (IsSpelledField l.limit) l.counter) l.initial.rest l.entries.items l.rest

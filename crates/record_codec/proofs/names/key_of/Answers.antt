@@ -1,20 +1,15 @@
 use Rattle.std.proofs.lemmas.Result.{err_from_is_err_and}
 use Rattle.record_codec.proofs.Wide.{fails_also}
-use Rattle.record_codec.proofs.Texts.{key_no_count, key_no_segments, key_odd, key_read}
+use Rattle.record_codec.proofs.Basics.{key_none, key_odd, key_read}
 use Rattle.record_codec.proofs.names.key_of.Goals as goal
-
-pub returns-in_err-count : goal.returns-in_err-count
-returns-in_err-count c =
-    let p = err_from_is_err_and c.from_residual.result c.from_residual.ensures.1 in
-    rw (p.1, p.2) (fails_also c.in_err-count.field-0.0 (key_no_count c.args.bytes.now) c.in_err-count.ensures)
 
 pub returns-in_err-segments : goal.returns-in_err-segments
 returns-in_err-segments c =
-    let p = err_from_is_err_and c.from_residual-in_err-segments.result c.from_residual-in_err-segments.ensures.1 in
-    rw (p.1, p.2) (fails_also c.in_err-segments.field-0.0 (key_no_segments c.args.bytes.now c.in_ok-count.count c.in_ok-count.rest.now c.in_ok-count.ensures) c.in_err-segments.ensures)
+    let p = err_from_is_err_and c.from_residual.result c.from_residual.ensures.1 in
+    rw (p.1, p.2) (fails_also c.in_err-segments.field-0.0 (key_none c.args.bytes.now) c.in_err-segments.ensures)
 
 pub returns-in-Some : goal.returns-in-Some
-returns-in-Some c = key_read c.args.bytes.now c.in_ok-count.count c.in_ok-count.rest.now c.in_ok-segments.segments.items c.in-Some.name c.in_ok-segments.rest.now c.in_ok-count.ensures c.in_ok-segments.ensures c.in-Some.ensures.0 c.in-Some.ensures.1
+returns-in-Some c = key_read c.args.bytes.now c.in_ok-segments.segments.items c.in-Some.name c.in_ok-segments.rest.now c.in_ok-segments.ensures c.in-Some.ensures.0 c.in-Some.ensures.1
 
 pub returns-in-None : goal.returns-in-None
-returns-in-None c = key_odd c.args.bytes.now c.in_ok-count.count c.in_ok-count.rest.now c.in_ok-segments.segments.items c.in_ok-segments.rest.now c.in_ok-count.ensures c.in_ok-segments.ensures c.in-None.ensures
+returns-in-None c = key_odd c.args.bytes.now c.in_ok-segments.segments.items c.in_ok-segments.rest.now c.in_ok-segments.ensures c.in-None.ensures

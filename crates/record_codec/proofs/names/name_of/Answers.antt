@@ -1,4 +1,4 @@
-use Rattle.record_codec.proofs.Texts.{name_other}
+use Rattle.record_codec.proofs.Basics.{name_other}
 use Rattle.record_codec.proofs.names.name_of.Goals as goal
 
 pub returns-in-Err : goal.returns-in-Err

@@ -1,6 +1,6 @@
 use Rattle.std.proofs.lemmas.Result.{err_from_is_err_and}
 use Rattle.record_codec.proofs.Wide.{fails_also}
-use Rattle.record_codec.proofs.Texts.{segment_other}
+use Rattle.record_codec.proofs.Basics.{segment_other}
 use Rattle.record_codec.proofs.names.segment_of.Goals as goal
 
 pub returns-in_err-segment : goal.returns-in_err-segment

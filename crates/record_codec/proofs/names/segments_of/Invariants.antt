@@ -4,4 +4,4 @@ use Rattle.record_codec.specs.Reading.{Begins, AreMany}
 use Rattle.record_codec.proofs.names.segments_of.Given as goal
 
 abbrev pub invariant-loop : goal.invariant-loop
-invariant-loop l = Begins (flat_map text) (AreMany IsSegmentText l.counter) l.bytes l.segments.items l.rest
+invariant-loop l = Begins (flat_map text) (AreMany IsSegmentText l.counter) l.initial.rest l.segments.items l.rest

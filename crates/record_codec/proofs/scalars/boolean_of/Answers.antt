@@ -1,16 +1,16 @@
-use Rattle.std.proofs.Common.{true, false}
+use Rattle.std.proofs.Common.{◌∷◌, []}
 use Rattle.std.proofs.lemmas.Result.{err_from_is_err_and}
-use Rattle.record_codec.proofs.Wide.{fails_always}
-use Rattle.record_codec.proofs.Leaves.{boolean_read, boolean_none}
+use Rattle.value_model.specs.Data as kind
+use Rattle.record_codec.proofs.Wide.{fails_also}
+use Rattle.record_codec.proofs.Basics.{flag}
+use Rattle.record_codec.proofs.Values.{boolean_kind}
+use Rattle.record_codec.proofs.Combine.{kind_read, kind_none}
 use Rattle.record_codec.proofs.scalars.boolean_of.Goals as goal
 
-pub returns-in-Ok : goal.returns-in-Ok
-returns-in-Ok c = λ limit. boolean_read limit c.args.bytes.now false c.in-Ok.rest.now c.in-Ok.ensures
-
-pub returns-in_err-rest : goal.returns-in_err-rest
-returns-in_err-rest c = λ limit.
+pub returns-in_err-flag : goal.returns-in_err-flag
+returns-in_err-flag c = λ limit.
     let p = err_from_is_err_and c.from_residual.result c.from_residual.ensures.1 in
-    rw p.1 (fails_always p.0 (boolean_none limit c.args.bytes.now c.in_default.ensures c.in_err-rest.ensures))
+    rw (p.1, p.2) (fails_also c.in_err-flag.field-0.0 (kind_none (1 ∷ []) kind.boolean flag (boolean_kind limit) c.args.bytes.now) c.in_err-flag.ensures)
 
 pub returns : goal.returns
-returns c = λ limit. boolean_read limit c.args.bytes.now true c.in_ok-rest.rest.now c.in_ok-rest.ensures
+returns c = λ limit. (kind_read (1 ∷ []) kind.boolean flag (boolean_kind limit) c.args.bytes.now c.in_ok-flag.flag c.in_ok-flag.rest.now c.in_ok-flag.ensures)

@@ -1,16 +1,16 @@
+use Rattle.std.proofs.Common.{◌∷◌, []}
 use Rattle.std.proofs.lemmas.Result.{err_from_is_err_and}
 use Rattle.value_model.specs.Data as kind
-use Rattle.value_model.specs.Storable.{IsStorableName}
-use Rattle.record_codec.specs.Spelling.{name}
 use Rattle.record_codec.proofs.Wide.{fails_also}
-use Rattle.record_codec.proofs.Tagged.{kind_read, kind_none}
-use Rattle.record_codec.proofs.Leaves.{reference_kind}
+use Rattle.record_codec.proofs.Basics.{document_name}
+use Rattle.record_codec.proofs.Values.{reference_kind}
+use Rattle.record_codec.proofs.Combine.{kind_read, kind_none}
 use Rattle.record_codec.proofs.scalars.reference_of.Goals as goal
 
 pub returns-in_err-name : goal.returns-in_err-name
 returns-in_err-name c = λ limit.
     let p = err_from_is_err_and c.from_residual.result c.from_residual.ensures.1 in
-    rw (p.1, p.2) (fails_also c.in_err-name.field-0.0 (kind_none limit 7 kind.reference name IsStorableName (reference_kind limit) c.args.bytes.now) c.in_err-name.ensures)
+    rw (p.1, p.2) (fails_also c.in_err-name.field-0.0 (kind_none (7 ∷ []) kind.reference document_name (reference_kind limit) c.args.bytes.now) c.in_err-name.ensures)
 
 pub returns : goal.returns
-returns c = λ limit. kind_read limit 7 kind.reference name IsStorableName (reference_kind limit) c.args.bytes.now c.in_ok-name.name c.in_ok-name.rest.now c.in_ok-name.ensures
+returns c = λ limit. (kind_read (7 ∷ []) kind.reference document_name (reference_kind limit) c.args.bytes.now c.in_ok-name.name c.in_ok-name.rest.now c.in_ok-name.ensures)

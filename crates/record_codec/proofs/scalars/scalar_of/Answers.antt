@@ -1,9 +1,11 @@
-use Rattle.std.proofs.Common.{arith}
-use Rattle.record_codec.proofs.Tagged.{null_read, no_kind}
+use Rattle.std.proofs.Common.{◌∷◌, [], arith}
+use Rattle.value_model.specs.Data as kind
+use Rattle.record_codec.proofs.Values.{null_kind, value_other}
+use Rattle.record_codec.proofs.Combine.{empty, kind_read, nothing}
 use Rattle.record_codec.proofs.scalars.scalar_of.Goals as goal
 
 pub returns-in-0 : goal.returns-in-0
-returns-in-0 c = λ limit. rw c.in-0.is (null_read limit c.args.bytes.now)
+returns-in-0 c = λ limit. rw c.in-0.is (kind_read (0 ∷ []) (λ _. kind.null) empty (null_kind limit) c.args.bytes.now tt c.args.bytes.now (nothing c.args.bytes.now))
 
 pub returns-in-1 : goal.returns-in-1
 returns-in-1 c = λ limit. rw c.in-1.is (c.boolean_of.ensures limit)
@@ -25,5 +27,5 @@ returns-in-7 c = λ limit. rw c.in-7.is (c.reference_of.ensures limit)
 
 pub returns-in_default : goal.returns-in_default
 returns-in_default c = λ limit.
-    no_kind limit c.args.tag c.args.bytes.now (λ e. absurd (omega (arith, e))) (λ e. absurd (omega (arith, e))) (λ e. absurd (omega (arith, e))) (λ e. absurd (omega (arith, e)))
-    (λ e. absurd (omega (arith, e))) (λ e. absurd (omega (arith, e))) (λ e. absurd (omega (arith, e))) c.requires.no_array c.requires.no_map
+    value_other limit c.args.tag (λ e. absurd (omega (arith, e))) (λ e. absurd (omega (arith, e))) (λ e. absurd (omega (arith, e))) (λ e. absurd (omega (arith, e)))
+    (λ e. absurd (omega (arith, e))) (λ e. absurd (omega (arith, e))) (λ e. absurd (omega (arith, e))) c.requires.no_array c.requires.no_map c.args.bytes.now

@@ -1,7 +1,8 @@
 use Rattle.std.proofs.Common.{◌∷◌, []}
 use Rattle.std.proofs.lemmas.Result.{err_from_is_err_and}
 use Rattle.record_codec.proofs.Wide.{fails_also}
-use Rattle.record_codec.proofs.Basics.{document_key, fields_within}
+use Rattle.record_codec.proofs.Basics.{document_key}
+use Rattle.record_codec.proofs.Values.{fields_within}
 use Rattle.record_codec.proofs.WriteForms.{update_kind, update_parts, update_of_parts, from_fields, from_mask, from_transforms, mask_form, transform_form, condition}
 use Rattle.record_codec.proofs.Combine.{no_first, no_second, pair_read, kind_read, kind_none, list}
 use Rattle.record_codec.proofs.writes.update_of.Goals as goal

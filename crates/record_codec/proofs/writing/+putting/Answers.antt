@@ -1,14 +1,14 @@
 use Rattle.std.proofs.Common.{rules, ◌++◌, length}
-use Rattle.record_codec.specs.Spelling.{number, value, fields}
+use Rattle.record_codec.specs.Spelling.{number, many, value, fields}
 use Rattle.record_codec.proofs.Puts.{byte_put}
-use Rattle.record_codec.proofs.Values.{array_spelled, array_value, map_value}
+use Rattle.record_codec.proofs.Values.{array_value, map_value}
 use Rattle.record_codec.proofs.Entries.{field_put, fields_put}
 use Rattle.value_model.proofs.Sizes.{item_below, field_below}
 use Rattle.record_codec.proofs.writing.+putting.Goals as goal
 
 pub put_value-returns-in_ok-put_values-in-Array : goal.put_value-returns-in_ok-put_values-in-Array
 put_value-returns-in_ok-put_values-in-Array t c =
-    byte_put c.args.out.now.items c.push-in-Array.new.self.items c.put_values.new.out.items (array_spelled c.in-Array.values.items) (value c.args.content.now) 8
+    byte_put c.args.out.now.items c.push-in-Array.new.self.items c.put_values.new.out.items (many value c.in-Array.values.items) (value c.args.content.now) 8
     c.in_ok-push-in-Array.ensures.items c.in_ok-put_values-in-Array.ensures (rw (← c.content.view_is, c.in-Array.is) (array_value c.in-Array.values.items))
 
 pub put_value-returns-in_ok-put_fields-in-Map : goal.put_value-returns-in_ok-put_fields-in-Map
