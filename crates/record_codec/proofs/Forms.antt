@@ -1,8 +1,6 @@
 -- Reading one part after another, for any kind of part.
-use Rattle.std.proofs.Common.{◌≡◌, ℕ, ◌+◌, ◌<◌, List, [], ◌∷◌, ◌++◌, length, refl, sym, ap, subst, ◌∙◌, append_assoc, arith}
+use Rattle.std.proofs.Common.{◌≡◌, ℕ, ◌<◌, List, [], ◌∷◌, ◌++◌, length, refl, sym, subst, ◌∙◌, append_assoc, arith}
 use Rattle.std.specs.List.{AllByRecursion, flat_map}
-use Rattle.std.proofs.lemmas.List.{append-nil, length-append}
-use Rattle.std.proofs.lemmas.List.Concat.{flat_map-append}
 use Rattle.record_codec.specs.Reading.{Begins, BeginsNone, AreMany}
 use Rattle.record_codec.proofs.Wide.{IsUnique}
 
@@ -35,22 +33,6 @@ unique_many spell Fits unique (a ∷ xs) (b ∷ ys) s t same fit_a fit_b e =
     let others = unique_many spell Fits unique xs ys s t (omega (arith, same)) fit_a.1 fit_b.1 one.1 in
     ((λ i. one.0 i ∷ others.0 i), others.1)
 
-all_push : {X : Type 0} (Fits : X → Type 0) (xs : List X) (x : X) → AllByRecursion Fits xs → Fits x → AllByRecursion Fits (xs ++ x ∷ [])
-all_push Fits [] x all one = (one, tt)
-all_push Fits (y ∷ xs) x all one = (all.0, all_push Fits xs x all.1 one)
-
-pub many_starts : {X : Type 0} (spell : X → List ℕ) (Fits : X → Type 0) (bytes : List ℕ) → Begins (flat_map spell) (AreMany Fits 0) bytes [] bytes
-many_starts spell Fits bytes = record { parts = refl; fits = record { len = refl; each = tt } }
-
-pub many_more : {X : Type 0} (spell : X → List ℕ) (Fits : X → Type 0) (bytes : List ℕ) (i : ℕ) (xs : List X) (rest : List ℕ) (x : X) (more : List ℕ)
-    → Begins (flat_map spell) (AreMany Fits i) bytes xs rest → Begins spell Fits rest x more → Begins (flat_map spell) (AreMany Fits (i + 1)) bytes (xs ++ x ∷ []) more
-many_more spell Fits bytes i xs rest x more before one =
-    let longer : flat_map spell (xs ++ x ∷ []) ≡ flat_map spell xs ++ spell x = flat_map-append spell xs (x ∷ []) ∙ ap (λ (t : List ℕ). flat_map spell xs ++ t) (append-nil (spell x)) in
-    record {
-      parts = before.parts ∙ ap (λ (t : List ℕ). flat_map spell xs ++ t) one.parts ∙ sym (append_assoc (flat_map spell xs) (spell x) more) ∙ ap (λ (t : List ℕ). t ++ more) (sym longer);
-      fits = record { len = omega (arith, before.fits.len, length-append xs (x ∷ [])); each = all_push Fits xs x before.fits.each one.fits };
-    }
-
 many_next : {X : Type 0} (spell : X → List ℕ) (Fits : X → Type 0) → IsUnique spell Fits → (xs ys : List X) (rest more : List ℕ) → AllByRecursion Fits xs → AllByRecursion Fits ys → length xs < length ys
     → flat_map spell xs ++ rest ≡ flat_map spell ys ++ more → (y : X) × (after : List ℕ) × Begins spell Fits rest y after
 many_next spell Fits unique xs [] rest more fit_x fit_y less e = absurd (omega (arith, less))
@@ -64,7 +46,3 @@ pub many_none : {X : Type 0} (spell : X → List ℕ) (Fits : X → Type 0) → 
 many_none spell Fits unique bytes count i xs rest less before none ys more b =
     let one = many_next spell Fits unique xs ys rest more before.fits.each b.fits.each (omega (arith, less, before.fits.len, b.fits.len)) (sym before.parts ∙ b.parts) in
     none one.0 one.1 one.2
-
-pub many_done : {X : Type 0} (spell : X → List ℕ) (Fits : X → Type 0) (bytes : List ℕ) (count i : ℕ) (xs : List X) (rest : List ℕ) → count ≡ i
-    → Begins (flat_map spell) (AreMany Fits i) bytes xs rest → Begins (flat_map spell) (AreMany Fits count) bytes xs rest
-many_done spell Fits bytes count i xs rest same all = rw same all

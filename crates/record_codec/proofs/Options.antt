@@ -1,5 +1,5 @@
 -- The form of what may be there.
-use Rattle.std.proofs.Common.{◌≡◌, ◌≢◌, ℕ, List, [], ◌∷◌, refl, sym, arith, Option, Some, None, IfSome}
+use Rattle.std.proofs.Common.{◌≡◌, ℕ, List, [], ◌∷◌, refl, arith, Option, Some, None, IfSome}
 use Rattle.record_codec.specs.Spelling.{opt}
 use Rattle.record_codec.proofs.Combine.{Form, Made, IsKind, HasKind, has_kind, IsTagged, empty, unique_kinds, tag_first}
 
@@ -34,7 +34,3 @@ option_kinds f (Some x) fits = has_kind (some_kind f) (Some x) (some_made f (Som
 
 abbrev pub optional : {X : Type 0} → Form X → Form (Option X)
 optional f = record { spell = opt f.spell; Fits = IfFits f; unique = unique_kinds (opt f.spell) (IfFits f) (option_kinds f) }
-
-pub option_other : {X : Type 0} (f : Form X) (byte : ℕ) → byte ≢ 0 → byte ≢ 1 → (o : Option X) → IfFits f o → option_tag o ≢ byte
-option_other f byte zero one None fits e = zero (sym e)
-option_other f byte zero one (Some x) fits e = one (sym e)

@@ -2,8 +2,8 @@
 use Rattle.std.proofs.Common.{◌≡◌, ℕ, ◌^◌, ◌<◌, ◌≤◌, List, ◌++◌, length, get_or, take, drop, refl, sym, ap, subst, ◌∙◌, arith, inl, inr, ℤ, FitsSigned}
 use Rattle.std.specs.Int.{Width, w32, w64, byte_len, from_be_bytes, to_be_bytes, cast_unsigned, cast_signed}
 use Rattle.std.proofs.lemmas.Bool.{cases_lt}
-use Rattle.std.proofs.lemmas.Int.{ints, to_z-of_z, of_z-to_z}
-use Rattle.std.proofs.lemmas.List.{take_at, take-append-drop, length-append, length-take, get_or-take, get_or_past, append_cancel_left}
+use Rattle.std.proofs.lemmas.Int.{ints, to_z-of_z}
+use Rattle.std.proofs.lemmas.List.{take_at, take-append-drop, length-take, get_or-take, get_or_past, append_cancel_left}
 use Rattle.std.proofs.lemmas.Nat.{be_bytes_4, be_bytes_8, from_be_bytes-to_be_bytes_4, from_be_bytes-to_be_bytes_8}
 use Rattle.record_codec.specs.declared.fault.ReadError.{ReadError}
 use Rattle.record_codec.specs.declared.fault.ReadError.TheVariants.{Memory, NotSpelled}
@@ -67,9 +67,6 @@ wide_read w limit wide bytes front rest fits front-is rest-is long =
     let spelled : to_be_bytes w (from_be_bytes w (take (byte_len w) bytes)) ≡ take (byte_len w) bytes = wide.back (take (byte_len w) bytes) (omega (arith, length-take (byte_len w) bytes)) (IsBytes-take (byte_len w) bytes fits) in
     rw (front-is, rest-is) (record { parts = rw spelled (sym (take-append-drop (byte_len w) bytes)); fits = wide.below (take (byte_len w) bytes) (IsBytes-take (byte_len w) bytes fits) })
 
-pub wide_short : (w : Width) (limit : ℕ) (wide : IsWide w limit) (bytes : List ℕ) → length bytes < byte_len w → (n : ℕ) (rest : List ℕ) → Begins (to_be_bytes w) (λ n. n < limit) bytes n rest → ⊥
-wide_short w limit wide bytes short n rest b = omega (arith, short, wide.len n, length-append (to_be_bytes w n) rest, ap length b.parts)
-
 -- ---- failures
 
 pub fails_also : (e : ReadError) {S T : Type 0} → (S → T) → Fails e S → Fails e T
@@ -92,9 +89,3 @@ pub unique_signed : IsUnique signed (FitsSigned w64)
 unique_signed a b s t fits_a fits_b e =
     let n = unique_number (cast_unsigned w64 a) (cast_unsigned w64 b) s t (signed_below a fits_a) (signed_below b fits_b) e in
     (sym (signed_back a fits_a) ∙ ap (cast_signed w64) n.0 ∙ signed_back b fits_b, n.1)
-
-pub signed_read : (bytes : List ℕ) (n : ℕ) (rest : List ℕ) → Begins number (λ n. n < 2 ^ 64) bytes n rest → Begins signed (FitsSigned w64) bytes (cast_signed w64 n) rest
-signed_read bytes n rest b = record { parts = rw (of_z-to_z w64 n b.fits) b.parts; fits = omega (arith, ints, b.fits) }
-
-pub signed_none : (bytes : List ℕ) → ((n : ℕ) (rest : List ℕ) → Begins number (λ n. n < 2 ^ 64) bytes n rest → ⊥) → (z : ℤ) (rest : List ℕ) → Begins signed (FitsSigned w64) bytes z rest → ⊥
-signed_none bytes none z rest b = none (cast_unsigned w64 z) rest (record { parts = b.parts; fits = signed_below z b.fits })
