@@ -49,11 +49,11 @@ text bytes = number (length bytes) ++ bytes
 
 -- the number of segments, and each as a text
 unfoldable pub key : List (List ℕ) → List ℕ
-key segments = number (length segments) ++ flat_map text segments
+key segments = many text segments
 
 -- the seconds, and the nanoseconds in four bytes
 unfoldable pub time : Timestamp → List ℕ
-time t = number (cast_unsigned w64 t.seconds) ++ to_be_bytes w32 t.nanos
+time t = signed t.seconds ++ to_be_bytes w32 t.nanos
 
 -- the project, the database and the key
 unfoldable pub name : RefName → List ℕ
@@ -64,8 +64,8 @@ name r = text r.project ++ (text r.database ++ key r.key)
 unfoldable mutual
   pub value : Data → List ℕ
   value kind.null = 0 ∷ []
-  value (kind.boolean b) = 1 ∷ (if b then 1 else 0) ∷ []
-  value (kind.integer z) = 2 ∷ number (cast_unsigned w64 z)
+  value (kind.boolean b) = 1 ∷ boolean b
+  value (kind.integer z) = 2 ∷ signed z
   value (kind.time t) = 3 ∷ time t
   value (kind.pending t) = 4 ∷ time t
   value (kind.text s) = 5 ∷ text s
@@ -88,7 +88,7 @@ entry e = text e.0 ++ value e.1
 
 -- the number of fields, and each
 unfoldable pub fields : Entries → List ℕ
-fields es = number (length es) ++ flat_map entry es
+fields es = many entry es
 
 -- the number of names, and each as a text
 abbrev pub path : List (List ℕ) → List ℕ
