@@ -1,0 +1,140 @@
+ghost use Rattle.std.specs.Prelude.{◌≡◌, ◌↔◌, ◌+◌, ◌<◌, ◌≤◌, ◌^◌, ℕ, List, [], length, IsTrue, IsOk, OnOk, if◌then◌else◌};
+ghost use Rattle.mutation_queue.specs.Counts.{count_of, has_place, same_key, times};
+ghost use Rattle.mutation_queue.specs.Queue.{HavePlaces, keys_of, written_key};
+
+use document_keys::{DocumentKey, NoMemory};
+use mutations::Write;
+use std::alloc::Global;
+use std::collections::BTreeMap;
+use std::marker::Model;
+
+/// How many writes name each key. Contracts see the table of its counts.
+#[derive(Debug, Drop)]
+pub(crate) struct KeyCounts {
+    counts: BTreeMap<DocumentKey, u64>,
+}
+
+impl Model for KeyCounts {
+    ghost use Rattle.mutation_queue.specs.Counts.{Counts};
+
+    ghost Value = { Counts };
+
+    ghost view = { λ table. table.counts.entries };
+}
+
+/// The key of the document that the write speaks of.
+fn written_key(write: &Write) -> &DocumentKey
+    ensures { result.now ≡ written_key write.now }
+{
+    match write {
+        Write::Update {
+            key,
+            fields: _,
+            mask: _,
+            transforms: _,
+            condition: _,
+        } => key,
+        Write::Delete { key, condition: _ } => key,
+    }
+}
+
+impl KeyCounts {
+    /// The table that counts nothing. It takes no memory yet.
+    pub(crate) fn new(alloc: Global) -> KeyCounts
+        ensures { result ≡ [] }
+    {
+        KeyCounts {
+            counts: BTreeMap::new(alloc),
+        }
+    }
+
+    /// Whether the key is counted at least once.
+    pub(crate) fn has(&self, key: &DocumentKey) -> bool
+        ensures { IsTrue result ↔ (0 < count_of self.now key.now) }
+    {
+        match self.counts.get(key) {
+            Some(count) => *count > 0,
+            None => false,
+        }
+    }
+
+    /// Makes a place for the key, which isn't counted there yet.
+    ///
+    /// # Errors
+    /// `NoMemory`
+    pub(crate) fn make_place(&mut self, alloc: Global, key: &DocumentKey) -> Result<(), NoMemory>
+        ensures counts { (q : List (List ℕ)) → count_of self.new q ≡ count_of self.old q }
+        ensures places { (q : List (List ℕ)) → IsTrue (has_place self.old q) → IsTrue (has_place self.new q) }
+        ensures made { OnOk result (IsTrue (has_place self.new key.now)) }
+        ensures kept { IsTrue (has_place self.old key.now) → IsOk result }
+    {
+        if !self.counts.contains_key(key) {
+            self.counts.insert(key.copy(alloc)?, 0)?;
+        }
+        Ok(())
+    }
+
+    /// Counts the key once more.
+    pub(crate) fn raise(&mut self, key: &DocumentKey)
+        requires place { IsTrue (has_place self.old key.now) }
+        requires within { count_of self.old key.now + 1 < 2 ^ 64 }
+        ensures counts { (q : List (List ℕ)) → count_of self.new q ≡ count_of self.old q + (if same_key key.now q then 1 else 0) }
+        ensures places { (q : List (List ℕ)) → IsTrue (has_place self.old q) → IsTrue (has_place self.new q) }
+    {
+        let Some(count) = self.counts.get_mut(key) else {
+            return;
+        };
+        *count += 1;
+    }
+
+    /// Counts the key once less. A key that isn't counted any more has no place.
+    pub(crate) fn lower(&mut self, key: &DocumentKey)
+        requires { 0 < count_of self.old key.now }
+        ensures { (q : List (List ℕ)) → count_of self.old q ≡ count_of self.new q + (if same_key key.now q then 1 else 0) }
+    {
+        if self.counts.get(key).copied() == Some(1) {
+            self.counts.remove(key);
+            return;
+        }
+        let Some(count) = self.counts.get_mut(key) else {
+            return;
+        };
+        *count -= 1;
+    }
+
+    /// Makes a place for the key of each write.
+    ///
+    /// # Errors
+    /// `NoMemory`
+    pub(crate) fn make_places(&mut self, alloc: Global, writes: &[Write]) -> Result<(), NoMemory>
+        ensures counts { (q : List (List ℕ)) → count_of self.new q ≡ count_of self.old q }
+        ensures made { OnOk result (HavePlaces self.new writes.now) }
+        ensures kept { HavePlaces self.old writes.now → IsOk result }
+    {
+        for write in writes {
+            self.make_place(alloc, written_key(write))?;
+        }
+        Ok(())
+    }
+
+    /// Counts the key of each write once more.
+    pub(crate) fn raise_all(&mut self, writes: &[Write])
+        requires places { HavePlaces self.old writes.now }
+        requires within { (q : List (List ℕ)) → count_of self.old q + length writes.now < 2 ^ 64 }
+        ensures { (q : List (List ℕ)) → count_of self.new q ≡ count_of self.old q + times q (keys_of writes.now) }
+    {
+        for write in writes {
+            self.raise(written_key(write));
+        }
+    }
+
+    /// Counts the key of each write once less.
+    pub(crate) fn lower_all(&mut self, writes: &[Write])
+        requires { (q : List (List ℕ)) → times q (keys_of writes.now) ≤ count_of self.old q }
+        ensures { (q : List (List ℕ)) → count_of self.old q ≡ count_of self.new q + times q (keys_of writes.now) }
+    {
+        for write in writes {
+            self.lower(written_key(write));
+        }
+    }
+}
