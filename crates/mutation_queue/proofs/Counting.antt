@@ -7,22 +7,23 @@ use Rattle.std.proofs.lemmas.List.Elements.{All-more, Contains-append_cases, Con
 use Rattle.std.proofs.lemmas.List.Sums.{sum_by-append, count_by-le-length}
 use Rattle.mutations.specs.declared.batch.Batch.{Batch}
 use Rattle.mutations.specs.declared.write.Write.{Write}
-use Rattle.mutation_queue.specs.Counts.{Counts, count_of, has_place, same_key, times}
+use Rattle.document_keys.specs.KeySet.{is_key}
+use Rattle.mutation_queue.specs.Counts.{Counts, count_of, has_place, times}
 use Rattle.mutation_queue.specs.Queue.{AreCounted, HavePlaces, keys_of, named_keys, written_key}
 use Rattle.mutation_queue.proofs.Tables.{one_key, same_itself}
 
 pub times-append : (q : List (List ℕ)) (xs ys : List (List (List ℕ))) → times q (xs ++ ys) ≡ times q xs + times q ys
-times-append q xs ys = sum_by-append (λ k. cond (same_key k q) 1 0) xs ys
+times-append q xs ys = sum_by-append (λ k. cond (is_key k q) 1 0) xs ys
 
 times-keys-append : (q : List (List ℕ)) (vs ws : List Write) → times q (keys_of (vs ++ ws)) ≡ times q (keys_of vs) + times q (keys_of ws)
 times-keys-append q vs ws = ap (times q) (map-append written_key vs ws) ∙ times-append q (keys_of vs) (keys_of ws)
 
 -- one write more
-pub times_more : (q : List (List ℕ)) (ws : List Write) (i : ℕ) (w : Write) → i < length ws → w ≡ get_or ws i w → times q (keys_of (take (i + 1) ws)) ≡ times q (keys_of (take i ws)) + cond (same_key (written_key w) q) 1 0
+pub times_more : (q : List (List ℕ)) (ws : List Write) (i : ℕ) (w : Write) → i < length ws → w ≡ get_or ws i w → times q (keys_of (take (i + 1) ws)) ≡ times q (keys_of (take i ws)) + cond (is_key (written_key w) q) 1 0
 times_more q ws i w below is =
     let whole = ap (λ l. times q (keys_of l)) (take_more ws i w below) ∙ times-keys-append q (take i ws) (get_or ws i w ∷ []) in
     let here = ap (λ (v : Write). times q (keys_of (v ∷ []))) (sym is) in
-    let one = add-zero (cond (same_key (written_key w) q) 1 0) in
+    let one = add-zero (cond (is_key (written_key w) q) 1 0) in
     omega (arith, whole, here, one)
 
 -- a part of the writes
@@ -30,7 +31,7 @@ pub times_part : (q : List (List ℕ)) (ws : List Write) (i : ℕ) → times q (
 times_part q ws i = let e = ap (λ l. times q (keys_of l)) (sym (take-append-drop i ws)) ∙ times-keys-append q (take i ws) (drop i ws) in omega (arith, e)
 
 pub times_few : (q : List (List ℕ)) (ws : List Write) (i : ℕ) → times q (keys_of (take i ws)) ≤ i
-times_few q ws i = let e = count_by-le-length (λ k. same_key k q) (keys_of (take i ws)) in let f = length-map (take i ws) written_key in let g = length-take i ws in omega (arith, e, f, g)
+times_few q ws i = let e = count_by-le-length (λ k. is_key k q) (keys_of (take i ws)) in let f = length-map (take i ws) written_key in let g = length-take i ws in omega (arith, e, f, g)
 
 -- the places of one write more
 pub places_more : (old new : Counts) (ws : List Write) (i : ℕ) (w : Write) → i < length ws → w ≡ get_or ws i w → ((q : List (List ℕ)) → IsTrue (has_place old q) → IsTrue (has_place new q)) → HavePlaces old (take i ws) → IsTrue (has_place new (written_key w)) → HavePlaces new (take (i + 1) ws)
@@ -45,22 +46,22 @@ only : (k q : List (List ℕ)) → Contains (k ∷ []) q → k ≡ q
 only k q (zero, below, is) = is
 only k q (suc i, below, is) = absurd (omega arith)
 
-times-cons : (q k : List (List ℕ)) (keys : List (List (List ℕ))) → times q (k ∷ keys) ≡ cond (same_key k q) 1 0 + times q keys
-times-cons q k keys = let split = times-append q (k ∷ []) keys in let one = add-zero (cond (same_key k q) 1 0) in omega (arith, split, one)
+times-cons : (q k : List (List ℕ)) (keys : List (List (List ℕ))) → times q (k ∷ keys) ≡ cond (is_key k q) 1 0 + times q keys
+times-cons q k keys = let split = times-append q (k ∷ []) keys in let one = add-zero (cond (is_key k q) 1 0) in omega (arith, split, one)
 
 pub among_from_times : (q : List (List ℕ)) (keys : List (List (List ℕ))) → 0 < times q keys → Contains keys q
 among_from_times q [] some = absurd (omega arith)
-among_from_times q (k ∷ keys) some = by (same_key k q) refl (among_from_times q keys)
+among_from_times q (k ∷ keys) some = by (is_key k q) refl (among_from_times q keys)
   where
-    by : (b : Bool) → same_key k q ≡ b → (0 < times q keys → Contains keys q) → Contains (k ∷ keys) q
+    by : (b : Bool) → is_key k q ≡ b → (0 < times q keys → Contains keys q) → Contains (k ∷ keys) q
     by true e rest = Contains-append_left (k ∷ []) keys q (0, omega arith, one_key k q e)
-    by false e rest = let none : ◌≡◌ {A = ℕ} (cond (same_key k q) 1 0) 0 = ap (λ b. cond b 1 0) e in Contains-append_right (k ∷ []) keys q (rest (let split = times-cons q k keys in omega (arith, none, some, split)))
+    by false e rest = let none : ◌≡◌ {A = ℕ} (cond (is_key k q) 1 0) 0 = ap (λ b. cond b 1 0) e in Contains-append_right (k ∷ []) keys q (rest (let split = times-cons q k keys in omega (arith, none, some, split)))
 
 pub times_from_among : (q : List (List ℕ)) (keys : List (List (List ℕ))) → Contains keys q → 0 < times q keys
 times_from_among q [] there = absurd (omega (arith, there.1))
 times_from_among q (k ∷ keys) there =
     elim (Contains-append_cases (k ∷ []) keys q there) [
-      | inl here ↦ let one : ◌≡◌ {A = ℕ} (cond (same_key k q) 1 0) 1 = ap (λ b. cond b 1 0) (subst (λ x. same_key x q ≡ true) (sym (only k q here)) (same_itself q)) in let split = times-cons q k keys in omega (arith, one, split)
+      | inl here ↦ let one : ◌≡◌ {A = ℕ} (cond (is_key k q) 1 0) 1 = ap (λ b. cond b 1 0) (subst (λ x. is_key x q ≡ true) (sym (only k q here)) (same_itself q)) in let split = times-cons q k keys in omega (arith, one, split)
       | inr behind ↦ let rest = times_from_among q keys behind in let split = times-cons q k keys in omega (arith, rest, split)
     ]
 

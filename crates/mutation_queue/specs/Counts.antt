@@ -1,17 +1,11 @@
 -- How often keys stand in a list, and a table that counts them.
 use Rattle.std.specs.Prelude.{ℕ, List, Bool, count_by, is_some, unwrap_or}
-use Rattle.std.specs.BTreeMap.{is_at}
-use Rattle.std.specs.Cmp.Lexicographic.{slice_cmp}
 use Rattle.std.specs.Map.{lookup}
-use Rattle.std.specs.Ordering.{nat_cmp}
-
--- two keys are equal
-abbrev pub same_key : List (List ℕ) → List (List ℕ) → Bool
-same_key = λ key other. is_at (slice_cmp (slice_cmp nat_cmp) key) other
+use Rattle.document_keys.specs.KeySet.{is_key}
 
 -- how often a key stands in a list
 abbrev pub times : List (List ℕ) → List (List (List ℕ)) → ℕ
-times key keys = count_by (λ k. same_key k key) keys
+times key keys = count_by (λ k. is_key k key) keys
 
 -- a table of keys, each with its count
 abbrev pub Counts : Type 0
@@ -19,8 +13,8 @@ Counts = List (List (List ℕ) × ℕ)
 
 -- the count of a key; 0 where the table has no place for it
 abbrev pub count_of : Counts → List (List ℕ) → ℕ
-count_of counts key = unwrap_or (lookup (is_at (slice_cmp (slice_cmp nat_cmp) key)) counts) 0
+count_of counts key = unwrap_or (lookup (is_key key) counts) 0
 
 -- the table has a place for the key
 abbrev pub has_place : Counts → List (List ℕ) → Bool
-has_place counts key = is_some (lookup (is_at (slice_cmp (slice_cmp nat_cmp) key)) counts)
+has_place counts key = is_some (lookup (is_key key) counts)

@@ -1,7 +1,9 @@
 ghost use Rattle.std.specs.Prelude.{◌≡◌, ◌↔◌, ◌+◌, ◌<◌, ◌≤◌, ◌^◌, ℕ, List, [], length, IsTrue, IsOk, OnOk, if◌then◌else◌};
-ghost use Rattle.mutation_queue.specs.Counts.{count_of, has_place, same_key, times};
-ghost use Rattle.mutation_queue.specs.Queue.{HavePlaces, keys_of, written_key};
+ghost use Rattle.document_keys.specs.KeySet.{is_key};
+ghost use Rattle.mutation_queue.specs.Counts.{count_of, has_place, times};
+ghost use Rattle.mutation_queue.specs.Queue.{HavePlaces, keys_of};
 
+use crate::written::written_key;
 use document_keys::{DocumentKey, NoMemory};
 use mutations::Write;
 use std::alloc::Global;
@@ -20,22 +22,6 @@ impl Model for KeyCounts {
     ghost Value = { Counts };
 
     ghost view = { λ table. table.counts.entries };
-}
-
-/// The key of the document that the write speaks of.
-fn written_key(write: &Write) -> &DocumentKey
-    ensures { result.now ≡ written_key write.now }
-{
-    match write {
-        Write::Update {
-            key,
-            fields: _,
-            mask: _,
-            transforms: _,
-            condition: _,
-        } => key,
-        Write::Delete { key, condition: _ } => key,
-    }
 }
 
 impl KeyCounts {
@@ -78,7 +64,7 @@ impl KeyCounts {
     pub(crate) fn raise(&mut self, key: &DocumentKey)
         requires place { IsTrue (has_place self.old key.now) }
         requires within { count_of self.old key.now + 1 < 2 ^ 64 }
-        ensures counts { (q : List (List ℕ)) → count_of self.new q ≡ count_of self.old q + (if same_key key.now q then 1 else 0) }
+        ensures counts { (q : List (List ℕ)) → count_of self.new q ≡ count_of self.old q + (if is_key key.now q then 1 else 0) }
         ensures places { (q : List (List ℕ)) → IsTrue (has_place self.old q) → IsTrue (has_place self.new q) }
     {
         let Some(count) = self.counts.get_mut(key) else {
@@ -90,7 +76,7 @@ impl KeyCounts {
     /// Counts the key once less. A key that isn't counted any more has no place.
     pub(crate) fn lower(&mut self, key: &DocumentKey)
         requires { 0 < count_of self.old key.now }
-        ensures { (q : List (List ℕ)) → count_of self.old q ≡ count_of self.new q + (if same_key key.now q then 1 else 0) }
+        ensures { (q : List (List ℕ)) → count_of self.old q ≡ count_of self.new q + (if is_key key.now q then 1 else 0) }
     {
         if self.counts.get(key).copied() == Some(1) {
             self.counts.remove(key);

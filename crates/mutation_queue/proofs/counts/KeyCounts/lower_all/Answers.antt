@@ -1,6 +1,6 @@
 use Rattle.std.proofs.Common.{◌≡◌, ◌+◌, ℕ, cond, ap, arith}
 use Rattle.std.proofs.lemmas.List.{take_all}
-use Rattle.mutation_queue.specs.Counts.{same_key}
+use Rattle.document_keys.specs.KeySet.{is_key}
 use Rattle.mutation_queue.specs.Queue.{written_key}
 use Rattle.mutation_queue.proofs.Counting.{times_more, times_part}
 use Rattle.mutation_queue.proofs.Tables.{same_itself}
@@ -10,7 +10,7 @@ pub lower-requires : goal.lower-requires
 lower-requires c =
     let k = written_key c.write-item.result in
     let more = times_more k c.args.writes.now c.loop-write.write-index c.write-item.result c.loop-write-test.true c.write-item.is in
-    let one : ◌≡◌ {A = ℕ} (cond (same_key k k) 1 0) 1 = ap (λ b. cond b 1 0) (same_itself k) in
+    let one : ◌≡◌ {A = ℕ} (cond (is_key k k) 1 0) 1 = ap (λ b. cond b 1 0) (same_itself k) in
     let part = times_part k c.args.writes.now (c.loop-write.write-index + 1) in
     let now = c.loop-write.invariant k in
     let had = c.requires k in

@@ -1,6 +1,6 @@
 use Rattle.std.proofs.Common.{length, ap, arith}
 use Rattle.std.proofs.lemmas.List.Sums.{count_by-le-length}
-use Rattle.mutation_queue.specs.Counts.{same_key}
+use Rattle.document_keys.specs.KeySet.{is_key}
 use Rattle.mutation_queue.specs.Queue.{Queue, named_keys}
 use Rattle.mutation_queue.proofs.Counting.{counted_push, places_at}
 use Rattle.mutation_queue.proofs.queue.MutationQueue.push_reserved.Goals as goal
@@ -11,7 +11,7 @@ raise_all-requires-clause-places c = places_at _ _ _ _ (ap (λ (q : Queue). q.co
 pub raise_all-requires-clause-within : goal.raise_all-requires-clause-within
 raise_all-requires-clause-within c = λ q.
     let counted = c.self.invariant.each q in
-    let few = count_by-le-length (λ k. same_key k q) (named_keys c.self.inside.line.batches) in
+    let few = count_by-le-length (λ k. is_key k q) (named_keys c.self.inside.line.batches) in
     let whole = ap (λ (s : Queue). length (named_keys s.batches)) c.self.view_is in
     let many = ap length c.as_slice-writes.ensures in
     omega (arith, counted, few, whole, many, c.requires.within)
