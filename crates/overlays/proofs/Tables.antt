@@ -1,0 +1,33 @@
+-- what a table holds after a change at one key
+use Rattle.std.proofs.Common.{◌≡◌, ◌∙◌, ℕ, Bool, true, false, cond, IsTrue, List, Option, Some, None, refl, sym, ap, subst}
+use Rattle.std.specs.Map.{lookup}
+use Rattle.std.specs.Option.{is_some, option_and_then}
+use Rattle.document_keys.specs.KeySet.{is_key}
+use Rattle.mutation_queue.proofs.Tables.{one_key}
+use Rattle.overlays.specs.declared.slot.Slot.{Slot}
+use Rattle.overlays.specs.declared.slot.Slot.TheVariants.{Reserved}
+use Rattle.overlays.specs.Table.{Table, laid}
+
+-- the place of a key
+abbrev pub place_of : Table → List (List ℕ) → Option Slot
+place_of table key = lookup (is_key key) table
+
+module _ (old new : List (List ℕ) → Option Slot) (key q : List (List ℕ)) (w : Slot) (is : new q ≡ cond (is_key key q) (Some w) (old q)) where
+  -- every place stays
+  pub still : IsTrue (is_some (old q)) → IsTrue (is_some (new q))
+  still had = by (is_key key q) refl
+    where
+      by : (b : Bool) → is_key key q ≡ b → IsTrue (is_some (new q))
+      by true e = subst (λ o. IsTrue (is_some o)) (sym (is ∙ ap (λ b. cond b (Some w) (old q)) e)) refl
+      by false e = subst (λ o. IsTrue (is_some o)) (sym (is ∙ ap (λ b. cond b (Some w) (old q)) e)) had
+
+  -- a place where none was, for no overlay yet
+  pub placed : w ≡ Reserved → old key ≡ None → option_and_then laid (new q) ≡ option_and_then laid (old q)
+  placed reserved none = by (is_key key q) refl
+    where
+      by : (b : Bool) → is_key key q ≡ b → option_and_then laid (new q) ≡ option_and_then laid (old q)
+      by true e =
+          let none_there : old q ≡ None = subst (λ k. old k ≡ None) (one_key key q e) none in
+          let here : new q ≡ Some Reserved = is ∙ ap (λ b. cond b (Some w) (old q)) e ∙ ap Some reserved in
+          ap (option_and_then laid) here ∙ ap (option_and_then laid) (sym none_there)
+      by false e = ap (option_and_then laid) (is ∙ ap (λ b. cond b (Some w) (old q)) e)

@@ -1,0 +1,17 @@
+use Rattle.std.proofs.Common.{◌≡◌, ◌∙◌, None, refl, sym, ap}
+use Rattle.mutation_queue.proofs.Tables.{none_of}
+use Rattle.overlays.specs.declared.slot.Slot.TheVariants.{Reserved}
+use Rattle.overlays.proofs.Tables.{place_of, still, placed}
+use Rattle.overlays.proofs.overlays.Overlays.reserve.Goals.{in-Some+in-Laid+in-Some-branch-5, in-Some+in-Laid+in-None-1, in-Some+in-Reserved-1, in-None-1}
+use Rattle.overlays.proofs.overlays.Overlays.reserve.Goals as goal
+
+pub returns-in_ok-insert-clause-same : goal.returns-in_ok-insert-clause-same
+returns-in_ok-insert-clause-same c =
+    let after : c.match-branch-3.self ≡ c.insert.new.self.entries = elim c.match-branch-3.branch [ in-Some+in-Laid+in-Some-branch-5 w ↦ w.self-is | in-Some+in-Laid+in-None-1 w ↦ w.self-is | in-Some+in-Reserved-1 w ↦ w.self-is | in-None-1 w ↦ w.self-is ] in
+    let none : place_of c.self.inside.slots.entries c.args.key.now ≡ None = none_of _ (sym c.contains_key.ensures ∙ c.if-not-contains_key.true) in
+    λ q. rw (after, ← c.self.view_is) (placed (place_of c.self.inside.slots.entries) (place_of c.insert.new.self.entries) c.in_ok-copy.field-0 q Reserved (c.in_ok-insert.ensures.updates.0 q) refl (ap (place_of c.self.inside.slots.entries) c.in_ok-copy.ensures ∙ none))
+
+pub returns-in_ok-insert-clause-places : goal.returns-in_ok-insert-clause-places
+returns-in_ok-insert-clause-places c =
+    let after : c.match-branch-3.self ≡ c.insert.new.self.entries = elim c.match-branch-3.branch [ in-Some+in-Laid+in-Some-branch-5 w ↦ w.self-is | in-Some+in-Laid+in-None-1 w ↦ w.self-is | in-Some+in-Reserved-1 w ↦ w.self-is | in-None-1 w ↦ w.self-is ] in
+    λ q. rw (after, ← c.self.view_is) (still (place_of c.self.inside.slots.entries) (place_of c.insert.new.self.entries) c.in_ok-copy.field-0 q Reserved (c.in_ok-insert.ensures.updates.0 q))

@@ -1,0 +1,2 @@
+pub mod LocalDocument
+pub mod Table

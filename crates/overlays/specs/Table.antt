@@ -1,0 +1,40 @@
+-- The overlays, as contracts see them: a finite map from keys to optional documents, and beside it the room for more.
+use Rattle.std.specs.Prelude.{ℕ, List, Bool, Option, Some, None, is_some, option_and_then, unwrap_or}
+use Rattle.std.specs.Coded.{Coded, coded×, coded_list, coded_ℕ}
+use Rattle.std.specs.List.{All}
+use Rattle.std.specs.Map.{lookup}
+use Rattle.document_keys.specs.KeySet.{is_key}
+use Rattle.value_model.specs.declared.document.Document.{Document}
+use Rattle.mutations.specs.declared.batch.Batch.{Batch}
+use Rattle.mutations.specs.Effect.{IsOfFieldsOnly}
+use Rattle.overlays.specs.contracts.slot.Slot as slot
+use Rattle.overlays.specs.declared.slot.Slot.{Slot}
+use Rattle.overlays.specs.declared.slot.Slot.TheVariants.{Reserved, Laid}
+
+-- the places of the table by key, ascending: each is made for an overlay, or holds one
+abbrev pub Table : Type 0
+Table = List (List (List ℕ) × Slot)
+
+abbrev pub table_code : Coded Table
+table_code = coded_list (coded× (coded_list (coded_list coded_ℕ)) slot.the_row.coded)
+
+-- the overlay that a place holds
+abbrev pub laid : Slot → Option (Option Document)
+laid Reserved = None
+laid (Laid document) = Some document
+
+-- the overlay of a key: its document, or that there is none
+abbrev pub overlay_of : Table → List (List ℕ) → Option (Option Document)
+overlay_of table key = option_and_then laid (lookup (is_key key) table)
+
+-- the table has a place for the key's overlay
+abbrev pub has_place : Table → List (List ℕ) → Bool
+has_place table key = is_some (lookup (is_key key) table)
+
+-- the document of a key that has this one without an overlay
+abbrev pub shown : Table → List (List ℕ) → Option Document → Option Document
+shown table key base = unwrap_or (overlay_of table key) base
+
+-- no path of a batch's writes is `__name__`
+abbrev pub IsBatchOfFields : Batch → Type 0
+IsBatchOfFields batch = All IsOfFieldsOnly batch.writes

@@ -1,0 +1,182 @@
+ghost use Rattle.std.specs.Prelude.{◌≡◌, ℕ, List, [], ◌++◌, Some, None, IsTrue, IsOk, OnOk, IfOk, option_map, if◌then◌else◌};
+ghost use Rattle.std.specs.List.{All};
+ghost use Rattle.std.specs.Option.{ForSome, option_to_list};
+ghost use Rattle.document_keys.specs.KeySet.{is_key};
+ghost use Rattle.value_model.specs.Documents.{ListsCollection};
+ghost use Rattle.value_model.specs.declared.document.Document.{Document as DocumentData};
+ghost use Rattle.overlays.specs.LocalDocument.{after_batch, base_of, local_document};
+ghost use Rattle.overlays.specs.Table.{IsBatchOfFields, has_place, overlay_of, shown};
+
+use crate::laying::{all_laid_on, base, laid_on};
+use crate::slot::Slot;
+use document_keys::{DocumentKey, NoMemory};
+use mutations::Batch;
+use std::alloc::Global;
+use std::collections::BTreeMap;
+use std::marker::Model;
+use value_model::{Document, Entry, Fields, Timestamp};
+
+/// The local document of a key, worked out and not yet put in place.
+#[derive(Debug, Drop)]
+pub struct Overlay {
+    pub key: DocumentKey,
+    pub document: Option<Document>,
+}
+
+/// The local document of each key that a pending write names. Contracts see a finite map from keys to optional documents,
+/// by `overlay_of`, and beside it the room for more, by `has_place`.
+#[derive(Debug, Drop)]
+pub struct Overlays {
+    slots: BTreeMap<DocumentKey, Slot>,
+    alloc: Global,
+}
+
+impl Model for Overlays {
+    ghost use Rattle.overlays.specs.Table.{Table, table_code};
+
+    ghost Value = { Table };
+
+    ghost coded = { table_code };
+
+    ghost view = { λ overlays. overlays.slots.entries };
+}
+
+/// The fields and the update time of the entry's document.
+fn lent<'a>(entry: Option<&'a Entry>) -> Option<(&'a Fields, Option<Timestamp>)>
+    ensures { option_map (λ d. record { fields = d.0.now; update_time = d.1 }) result ≡ base_of (option_map (λ e. e.now) entry.entry) }
+{
+    match entry {
+        Some(Entry::Found(fields, version)) => Some((fields, Some(*version))),
+        _ => None,
+    }
+}
+
+/// A copy of the document that is lent.
+fn owned(
+    alloc: Global,
+    document: Option<(&Fields, Option<Timestamp>)>,
+) -> Result<Option<Document>, NoMemory>
+    ensures { IfOk result (λ copy. copy ≡ option_map (λ d. record { fields = d.0.now; update_time = d.1 }) document.entry) }
+{
+    let Some((fields, update_time)) = document else {
+        return Ok(None);
+    };
+    let fields = fields.copy(alloc)?;
+    Ok(Some(Document {
+        fields,
+        update_time,
+    }))
+}
+
+impl Overlays {
+    /// No overlay. It takes no memory yet.
+    pub fn new(alloc: Global) -> Overlays
+        ensures { (key : List (List ℕ)) → overlay_of result key ≡ None }
+    {
+        Overlays {
+            slots: BTreeMap::new(alloc),
+            alloc,
+        }
+    }
+
+    /// Works out the local document of the key, from its entry, the batches, and one more if there is one. No path of their
+    /// writes is `__name__`.
+    ///
+    /// # Errors
+    /// `NoMemory`
+    pub fn prepare(
+        &self,
+        alloc: Global,
+        key: &DocumentKey,
+        entry: Option<&Entry>,
+        batches: &[Batch],
+        more: Option<&Batch>,
+    ) -> Result<Overlay, NoMemory>
+        requires batches { All IsBatchOfFields batches.now }
+        requires more { ForSome more (λ batch. IsBatchOfFields batch.now) }
+        ensures key { IfOk result (λ overlay. overlay.key ≡ key.now) }
+        ensures document { IfOk result (λ overlay. overlay.document ≡ local_document key.now (base_of (option_map (λ e. e.now) entry.entry)) (batches.now ++ option_to_list (option_map (λ b. b.now) more.entry))) }
+    {
+        let document = base(alloc, entry)?;
+        let document = all_laid_on(alloc, key, document, batches)?;
+        let document = match more {
+            Some(batch) => laid_on(alloc, key, document, batch)?,
+            None => document,
+        };
+        let key = key.copy(alloc)?;
+        Ok(Overlay { key, document })
+    }
+
+    /// Works out the local document of the key after one batch more, from what it is now. No path of the batch's writes is
+    /// `__name__`.
+    ///
+    /// # Errors
+    /// `NoMemory`
+    pub fn extend(
+        &self,
+        alloc: Global,
+        key: &DocumentKey,
+        entry: Option<&Entry>,
+        more: &Batch,
+    ) -> Result<Overlay, NoMemory>
+        requires { IsBatchOfFields more.now }
+        ensures key { IfOk result (λ overlay. overlay.key ≡ key.now) }
+        ensures document { IfOk result (λ overlay. overlay.document ≡ after_batch key.now (shown self.now key.now (base_of (option_map (λ e. e.now) entry.entry))) more.now) }
+    {
+        let document = owned(alloc, self.document(key, entry))?;
+        let document = laid_on(alloc, key, document, more)?;
+        let key = key.copy(alloc)?;
+        Ok(Overlay { key, document })
+    }
+
+    /// Makes a place for the key's overlay. Nothing else changes.
+    ///
+    /// # Errors
+    /// `NoMemory`, never where there is a place.
+    pub fn reserve(&mut self, key: &DocumentKey) -> Result<(), NoMemory>
+        ensures same { (q : List (List ℕ)) → overlay_of self.new q ≡ overlay_of self.old q }
+        ensures room { OnOk result (IsTrue (has_place self.new key.now)) }
+        ensures kept { IsTrue (has_place self.old key.now) → IsOk result }
+        ensures places { (q : List (List ℕ)) → IsTrue (has_place self.old q) → IsTrue (has_place self.new q) }
+    {
+        if !self.slots.contains_key(key) {
+            self.slots.insert(key.copy(self.alloc)?, Slot::Reserved)?;
+        }
+        Ok(())
+    }
+
+    /// Puts the overlay in place of its key's old one, where there is a place. It takes no memory.
+    pub fn set(&mut self, overlay: Overlay)
+        requires { IsTrue (has_place self.old overlay.key) }
+        ensures done { (q : List (List ℕ)) → overlay_of self.new q ≡ (if is_key overlay.key q then Some overlay.document else overlay_of self.old q) }
+        ensures places { (q : List (List ℕ)) → IsTrue (has_place self.old q) → IsTrue (has_place self.new q) }
+    {
+        let Some(slot) = self.slots.get_mut(&overlay.key) else {
+            return;
+        };
+        *slot = Slot::Laid(overlay.document);
+    }
+
+    /// Takes the key's overlay away, if there is one, and its place.
+    pub fn remove(&mut self, key: &DocumentKey)
+        ensures { (q : List (List ℕ)) → overlay_of self.new q ≡ (if is_key key.now q then None else overlay_of self.old q) }
+    {
+        self.slots.remove(key);
+    }
+
+    /// The local document of the key, with its update time, lent: that of its overlay, and where it has none that of
+    /// its entry. `None` exactly where there is no such document.
+    pub fn document<'a>(
+        &'a self,
+        key: &DocumentKey,
+        entry: Option<&'a Entry>,
+    ) -> Option<(&'a Fields, Option<Timestamp>)>
+        ensures { option_map (λ d. record { fields = d.0.now; update_time = d.1 }) result ≡ shown self.now key.now (base_of (option_map (λ e. e.now) entry.entry)) }
+    {
+        match self.slots.get(key) {
+            Some(Slot::Laid(Some(document))) => Some((&document.fields, document.update_time)),
+            Some(Slot::Laid(None)) => None,
+            _ => lent(entry),
+        }
+    }
+}
