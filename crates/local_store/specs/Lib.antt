@@ -1,0 +1,5 @@
+pub mod Documents
+pub mod Files
+pub mod Laying
+pub mod State
+pub mod Store

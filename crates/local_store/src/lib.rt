@@ -1,0 +1,19 @@
+//! The durable state of a client, over the journal that keeps it.
+//!
+//! A `LocalStore` is opened once: the payloads of the journal are decoded one by one, and each must fit the state before it
+//! (`specs/State.antt`). `LocalStore::commit` takes all memory first, brings the commit to the disk, and changes the tables
+//! last; after a disk fault it is spent. It lends the local documents (`specs/Documents.antt`), as the trait `Documents` asks.
+#![tactic(auto)]
+
+mod fault;
+mod laws;
+mod laying;
+mod local_store;
+mod replay;
+
+pub use fault::StoreFault;
+pub use laws::{
+    documents_are_local, refused_files_are_no_store, stored_files_find_the_state,
+    two_files_find_once,
+};
+pub use local_store::LocalStore;

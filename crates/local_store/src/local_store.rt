@@ -1,0 +1,178 @@
+ghost use Rattle.std.specs.Prelude.{◌≡◌, ◌≢◌, ◌⊎◌, ◌↔◌, IsTrue, IfOk, IfErr, IsErrOf, OnErr, Err};
+ghost use Rattle.host_api.specs.Counts.{RisesAt};
+ghost use Rattle.host_api.specs.Host.{KeepsOut};
+ghost use Rattle.disk_journal.specs.Steps.{Opens, SettlesFirst};
+ghost use Rattle.record_codec.specs.Spelling.{HasSpelling, spelling};
+ghost use Rattle.local_store.specs.Documents.{standing_of};
+ghost use Rattle.local_store.specs.Files.{FindsState, Moves, Refuses};
+ghost use Rattle.local_store.specs.State.{Fits, committed};
+ghost use Rattle.local_store.specs.Store.{IsSpent, IsStored};
+
+use crate::fault::StoreFault;
+use crate::laying::{put_in_place, readied};
+use crate::replay::{Tables, fits, replay};
+use disk_journal::{Frame, Journal, OpenFault};
+use document_keys::{DocumentKey, NoMemory};
+use host_api::Host;
+use mutation_queue::MutationQueue;
+use overlays::Overlays;
+use record_codec::{Commit, encode};
+use std::alloc::Global;
+use std::marker::Model;
+use value_model::DocState;
+
+/// The durable state, over the journal that keeps it: the number of commits, the id of the next batch, from 1, and the
+/// pending batches in order, with the local documents of the keys that they name. Contracts see the state, and where the
+/// journal stands. After a disk fault there is no journal any more: the store is spent.
+#[derive(Drop)]
+pub struct LocalStore {
+    journal: Option<Journal>,
+    number: u64,
+    next_batch: u64,
+    pending: MutationQueue,
+    overlays: Overlays,
+}
+
+impl Model for LocalStore {
+    ghost use Rattle.local_store.specs.Store.{IsKept, Store, store_code};
+
+    ghost Value = { Store };
+
+    ghost coded = { store_code };
+
+    ghost view = { λ store. record { state = record { number = store.number; batches = store.pending.batches; next_batch = store.next_batch }; place = store.journal } };
+
+    ghost invariant = { λ store. IsKept store.number store.next_batch store.pending.batches store.overlays };
+}
+
+/// The frame of the commit's payload.
+fn frame_of(alloc: Global, commit: &Commit) -> Result<Frame, NoMemory>
+    ensures { IfOk result (λ frame. frame ≡ spelling commit.now) }
+{
+    let payload = encode(alloc, commit)?;
+    match Frame::make(alloc, payload.as_slice()) {
+        Ok(frame) => Ok(frame),
+        Err(_) => Err(NoMemory),
+    }
+}
+
+impl LocalStore {
+    /// Opens the journal, and puts its payloads, one after another, into the empty state.
+    ///
+    /// # Errors
+    /// `DiskFault` only where the count of disk faults rose; `NotAStore` where a file is neither blank nor in the grammar,
+    /// or where the payloads of the counting file aren't the commits of a store, with that file; `NoMemory`. After any
+    /// of them the files give what they gave.
+    pub fn open<H: Host>(alloc: Global, host: &mut H) -> Result<LocalStore, OpenFault>
+        ensures found { IfOk result (λ store. IsTrue H.tells_files → FindsState (H.view host.old).bytes store.state) }
+        ensures stored { IfOk result (λ store. IsTrue H.tells_files → IsStored store (H.view host.new)) }
+        ensures whole { IfOk result (λ store. ¬ (IsSpent store)) }
+        ensures refused { IfErr result (λ fault. IsTrue H.tells_files → Refuses fault (H.view host.old) (H.view host.new)) }
+        ensures files { IsTrue H.tells_files → Opens (H.view host.old) (H.view host.new) }
+        ensures settled { IsTrue H.tells_files → SettlesFirst H.view result (H.view host.old) (H.view host.new) }
+        ensures out { KeepsOut (H.view host.old) (H.view host.new) }
+        ensures counts { RisesAt (IsErrOf result OpenFault.DiskFault)
+            (H.view host.old).disk_faults (H.view host.new).disk_faults }
+    {
+        let (journal, file, payloads) = Journal::open(alloc, host)?;
+        if journal.generation() != 1 {
+            return Err(OpenFault::NotAStore(file));
+        }
+        let number = payloads.len() as u64;
+        match replay(alloc, payloads.as_slice()) {
+            Err(NoMemory) => Err(OpenFault::NoMemory),
+            Ok(None) => Err(OpenFault::NotAStore(file)),
+            Ok(Some(Tables { pending, overlays })) => Ok(LocalStore {
+                journal: Some(journal),
+                number,
+                next_batch: number + 1,
+                pending,
+                overlays,
+            }),
+        }
+    }
+
+    /// The number of commits.
+    pub fn number(&self) -> u64
+        ensures { result ≡ self.now.state.number }
+    {
+        self.number
+    }
+
+    /// The id of the next batch.
+    pub fn next_batch(&self) -> u64
+        ensures { result ≡ self.now.state.next_batch }
+    {
+        self.next_batch
+    }
+
+    /// The pending batches, lent.
+    pub fn pending(&self) -> &MutationQueue
+        ensures { result.now.batches ≡ self.now.state.batches }
+    {
+        &self.pending
+    }
+
+    /// Whether the commit fits the state.
+    pub fn fits(&self, commit: &Commit) -> bool
+        ensures { IsTrue result ↔ Fits self.now.state commit.now }
+    {
+        fits(self.number, self.next_batch, commit)
+    }
+
+    /// How the key's document stands to the backend: pending where a pending write names it, else unknown.
+    pub fn state_of(&self, key: &DocumentKey) -> DocState
+        ensures { result ≡ standing_of self.now.state key.now }
+    {
+        if self.pending.names(key) {
+            DocState::Pending
+        } else {
+            DocState::Unknown
+        }
+    }
+
+    /// Makes the commit, which fits: its record is on the disk before the state changes, and all memory is taken before the
+    /// first call of the host. Hands out the number of commits then.
+    ///
+    /// # Errors
+    /// `DiskFault` only where the count of disk faults rose: the state is as before, and the store is spent. `NoMemory`:
+    /// nothing has changed. `Spent` exactly where the store is spent: nothing was done.
+    pub fn commit<H: Host>(
+        &mut self,
+        alloc: Global,
+        host: &mut H,
+        commit: Commit,
+    ) -> Result<u64, StoreFault>
+        requires stored { IsTrue H.tells_files → IsStored self.old (H.view host.old) }
+        requires fits { Fits self.old.state commit }
+        requires has_spelling { HasSpelling commit }
+        ensures made { IfOk result (λ number. (self.new.state ≡ committed self.old.state commit) × (number ≡ self.new.state.number)) }
+        ensures unmade { OnErr result (self.new.state ≡ self.old.state) }
+        ensures spent { IsErrOf result StoreFault.Spent ↔ IsSpent self.old }
+        ensures spends { IsSpent self.new ↔ (IsSpent self.old ⊎ IsErrOf result StoreFault.DiskFault) }
+        ensures untouched { IfErr result (λ fault. fault ≢ StoreFault.DiskFault → host.new ≡ host.old) }
+        ensures stored { IsTrue H.tells_files → IsStored self.new (H.view host.new) }
+        ensures files { IsTrue H.tells_files → ¬ (IsSpent self.old) → Moves self.old.state (committed self.old.state commit)
+            (H.view host.old) (H.view host.new) }
+        ensures out { KeepsOut (H.view host.old) (H.view host.new) }
+        ensures counts { RisesAt (IsErrOf result StoreFault.DiskFault)
+            (H.view host.old).disk_faults (H.view host.new).disk_faults }
+    {
+        if self.journal.is_none() {
+            return Err(StoreFault::Spent);
+        }
+        let frame = frame_of(alloc, &commit)?;
+        let Commit::Enqueue(batch) = commit;
+        self.pending.reserve(&batch)?;
+        let ready = readied(alloc, &mut self.overlays, &batch)?;
+        let Some(journal) = self.journal.take() else {
+            unreachable!();
+        };
+        self.journal = Some(journal.append(host, &frame)?);
+        put_in_place(&mut self.overlays, ready);
+        self.pending.push_reserved(batch);
+        self.number += 1;
+        self.next_batch += 1;
+        Ok(self.number)
+    }
+}
