@@ -38,10 +38,10 @@ pub record IsOver (s : State) (v : View) (place : Place) : Type 0 where
 abbrev pub IsStored : Store → View → Type 0
 IsStored store v = ForSome store.place (IsOver store.state v)
 
--- whatever a crash may leave of the files of a store that isn't spent finds its state, and so does what they read
-pub record StoredFilesFindTheState : Type 1 where
-  pub crash : (store : Store) (v : View) → ¬ (IsSpent store) → IsStored store v → (c : Files) → v.may_leave c → FindsState c store.state
-  pub reads : (store : Store) (v : View) → ¬ (IsSpent store) → IsStored store v → FindsState v.bytes store.state
+-- whatever a crash may leave of these files finds the state, and so does what they read
+pub record IsFoundIn (s : State) (v : View) : Type 0 where
+  pub crash : (c : Files) → v.may_leave c → FindsState c s
+  pub reads : FindsState v.bytes s
 
 -- what a store keeps: its number and its next id are counted, and the overlays are those of the batches
 pub record IsKept (number next_batch : ℕ) (batches : List Batch) (overlays : Table) : Type 0 where

@@ -1,3 +1,5 @@
+ghost use Rattle.std.specs.Prelude.{◌≡◌};
+
 use document_keys::NoMemory;
 use host_api::Failed;
 use thiserror::Error;

@@ -12,8 +12,5 @@ mod local_store;
 mod replay;
 
 pub use fault::StoreFault;
-pub use laws::{
-    documents_are_local, refused_files_are_no_store, stored_files_find_the_state,
-    two_files_find_once,
-};
+pub use laws::{documents_are_local, refused_files_are_no_store, two_files_find_once};
 pub use local_store::LocalStore;

@@ -1,4 +1,4 @@
-ghost use Rattle.std.specs.Prelude.{◌≡◌, ◌≢◌, ◌⊎◌, ◌↔◌, IsTrue, IfOk, IfErr, IsErrOf, OnErr, Err};
+ghost use Rattle.std.specs.Prelude.{◌≡◌, ◌≢◌, ◌⊎◌, ◌↔◌, IsTrue, IfOk, IfErr, IsErrOf, OnErr, OnOk, Err};
 ghost use Rattle.host_api.specs.Counts.{RisesAt};
 ghost use Rattle.host_api.specs.Host.{KeepsOut};
 ghost use Rattle.disk_journal.specs.Steps.{Opens, SettlesFirst};
@@ -6,11 +6,11 @@ ghost use Rattle.record_codec.specs.Spelling.{HasSpelling, spelling};
 ghost use Rattle.local_store.specs.Documents.{standing_of};
 ghost use Rattle.local_store.specs.Files.{FindsState, Moves, Refuses};
 ghost use Rattle.local_store.specs.State.{Fits, committed};
-ghost use Rattle.local_store.specs.Store.{IsSpent, IsStored};
+ghost use Rattle.local_store.specs.Store.{IsFoundIn, IsSpent, IsStored};
 
 use crate::fault::StoreFault;
 use crate::laying::{put_in_place, readied};
-use crate::replay::{Tables, fits, replay};
+use crate::replay::{Tables, batch_of, fits, replay};
 use disk_journal::{Frame, Journal, OpenFault};
 use document_keys::{DocumentKey, NoMemory};
 use host_api::Host;
@@ -67,6 +67,7 @@ impl LocalStore {
         ensures found { IfOk result (λ store. IsTrue H.tells_files → FindsState (H.view host.old).bytes store.state) }
         ensures stored { IfOk result (λ store. IsTrue H.tells_files → IsStored store (H.view host.new)) }
         ensures whole { IfOk result (λ store. ¬ (IsSpent store)) }
+        ensures kept { IfOk result (λ store. IsTrue H.tells_files → IsFoundIn store.state (H.view host.new)) }
         ensures refused { IfErr result (λ fault. IsTrue H.tells_files → Refuses fault (H.view host.old) (H.view host.new)) }
         ensures files { IsTrue H.tells_files → Opens (H.view host.old) (H.view host.new) }
         ensures settled { IsTrue H.tells_files → SettlesFirst H.view result (H.view host.old) (H.view host.new) }
@@ -152,6 +153,7 @@ impl LocalStore {
         ensures spends { IsSpent self.new ↔ (IsSpent self.old ⊎ IsErrOf result StoreFault.DiskFault) }
         ensures untouched { IfErr result (λ fault. fault ≢ StoreFault.DiskFault → host.new ≡ host.old) }
         ensures stored { IsTrue H.tells_files → IsStored self.new (H.view host.new) }
+        ensures kept { OnOk result (IsTrue H.tells_files → IsFoundIn self.new.state (H.view host.new)) }
         ensures files { IsTrue H.tells_files → ¬ (IsSpent self.old) → Moves self.old.state (committed self.old.state commit)
             (H.view host.old) (H.view host.new) }
         ensures out { KeepsOut (H.view host.old) (H.view host.new) }
@@ -162,7 +164,7 @@ impl LocalStore {
             return Err(StoreFault::Spent);
         }
         let frame = frame_of(alloc, &commit)?;
-        let Commit::Enqueue(batch) = commit;
+        let batch = batch_of(commit);
         self.pending.reserve(&batch)?;
         let ready = readied(alloc, &mut self.overlays, &batch)?;
         let Some(journal) = self.journal.take() else {

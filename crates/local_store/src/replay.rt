@@ -7,6 +7,7 @@ ghost use Rattle.local_store.specs.State.{State, start, Fits, Replays};
 use crate::laying::lay;
 use document_keys::NoMemory;
 use mutation_queue::MutationQueue;
+use mutations::Batch;
 use overlays::Overlays;
 use record_codec::{Commit, decode};
 use std::alloc::Global;
@@ -32,6 +33,14 @@ pub(crate) fn fits(number: u64, next_batch: u64, commit: &Commit) -> bool
     batch.id == next_batch && writes >= 1 && writes <= MOST_WRITES && number < MOST_COMMITS
 }
 
+/// The batch that the commit puts into the state.
+pub(crate) fn batch_of(commit: Commit) -> Batch
+    ensures { commit ≡ Commit.Enqueue result }
+{
+    let Commit::Enqueue(batch) = commit;
+    batch
+}
+
 /// The tables of the state to which the payloads, one after another, lead from the empty one, or `None` where one of them
 /// doesn't spell a commit that fits.
 pub(crate) fn replay(alloc: Global, payloads: &[Vec<u8>]) -> Result<Option<Tables>, NoMemory>
@@ -52,7 +61,7 @@ pub(crate) fn replay(alloc: Global, payloads: &[Vec<u8>]) -> Result<Option<Table
         if !fits(number, number + 1, &commit) {
             return Ok(None);
         }
-        let Commit::Enqueue(batch) = commit;
+        let batch = batch_of(commit);
         lay(alloc, &mut pending, &mut overlays, batch)?;
         number += 1;
     }

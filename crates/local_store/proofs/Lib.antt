@@ -1,0 +1,6 @@
+pub mod Committed
+pub mod Laid
+pub mod Local
+pub mod Opened
+pub mod Replayed
+pub mod Spelled

@@ -1,0 +1,87 @@
+-- Payloads that lead from one state to another.
+use Rattle.std.proofs.Common.{◌≡◌, ℕ, ◌+◌, ◌<◌, suc, List, [], ◌∷◌, ◌++◌, map, length, take, drop, get_or, Vec, refl, sym, ap, subst, ◌∙◌, arith}
+use Rattle.std.specs.declared.alloc.Global.{Global}
+use Rattle.std.proofs.Math.Seq.{split_at}
+use Rattle.std.proofs.lemmas.List.{map-append, take_more}
+use Rattle.mutations.specs.declared.batch.Batch.{Batch}
+use Rattle.record_codec.specs.declared.commit.Commit.TheVariants.{Enqueue}
+use Rattle.record_codec.specs.declared.commit.Commit.{Commit}
+use Rattle.record_codec.specs.Spelling.{spelling, HasSpelling}
+use Rattle.record_codec.proofs.Whole.{one_value}
+use Rattle.host_api.specs.Host.{Files}
+use Rattle.disk_journal.proofs.Pairs.{gives_once}
+use Rattle.local_store.specs.State.{State, start, Fits, committed, most_commits, Replays}
+use Rattle.local_store.specs.Files.{FindsState}
+
+-- one payload more
+pub replays_push : (s : State) (ps : List (List ℕ)) (t : State) (p : List ℕ) (c : Commit) → Replays s ps t → HasSpelling c → p ≡ spelling c → Fits t c → Replays s (ps ++ p ∷ []) (committed t c)
+replays_push s [] t p c here has is fits = (c, has, is, subst (λ (u : State). Fits u c) here fits, ap (λ u. committed u c) here)
+replays_push s (q ∷ ps) t p c (first, first_has, first_is, first_fits, rest) has is fits = (first, first_has, first_is, first_fits, replays_push (committed s first) ps t p c rest has is fits)
+
+-- what the payload at a place spells, and the state before it
+pub record SpellsNext (s : State) (ps : List (List ℕ)) (p : List ℕ) : Type 0 where
+  pub before : State
+  pub replays : Replays s ps before
+  pub commit : Commit
+  pub has : HasSpelling commit
+  pub is : p ≡ spelling commit
+  pub fits : Fits before commit
+
+pub replays_at : (s : State) (ps : List (List ℕ)) (p : List ℕ) (qs : List (List ℕ)) (t : State) → Replays s (ps ++ p ∷ qs) t → SpellsNext s ps p
+replays_at s [] p qs t (c, has, is, fits, rest) = record { before = s; replays = refl; commit = c; has = has; is = is; fits = fits }
+replays_at s (q ∷ ps) p qs t (c, has, is, fits, rest) =
+    let later = replays_at (committed s c) ps p qs t rest in
+    record { before = later.before; replays = (c, has, is, fits, later.replays); commit = later.commit; has = later.has; is = later.is; fits = later.fits }
+
+-- payloads lead to one state
+pub replays_once : (s : State) (ps : List (List ℕ)) (t u : State) → Replays s ps t → Replays s ps u → t ≡ u
+replays_once s [] t u first second = first ∙ sym second
+replays_once s (p ∷ ps) t u (c, has, is, fits, rest) (d, also_has, also_is, also_fits, also_rest) =
+    let same = one_value d c also_has has (sym also_is ∙ is) in
+    replays_once (committed s c) ps t u rest (subst (λ (e : Commit). Replays (committed s e) ps u) same also_rest)
+
+-- two files find one state
+pub find_once : (files : Files) (a b : State) → FindsState files a → FindsState files b → a ≡ b
+find_once files a b first second =
+    let same = gives_once files first.generation first.payloads second.generation second.payloads first.gives second.gives in
+    replays_once start second.payloads a b (subst (λ (ps : List (List ℕ)). Replays start ps a) same.1 first.leads.replays) second.leads.replays
+
+-- ---- a loop over the payloads
+
+abbrev pub bytes_of : List (Vec ℕ Global) → List (List ℕ)
+bytes_of payloads = map (λ p. p.items) payloads
+
+around : (payloads : List (Vec ℕ Global)) (i : ℕ) (payload : Vec ℕ Global) → i < length payloads → payload ≡ get_or payloads i payload → bytes_of payloads ≡ bytes_of (take i payloads) ++ payload.items ∷ bytes_of (drop (suc i) payloads)
+around payloads i payload below item =
+    ap bytes_of (split_at payloads i payload below) ∙ map-append (λ p. p.items) (take i payloads) (get_or payloads i payload ∷ drop (suc i) payloads)
+    ∙ ap (λ (q : Vec ℕ Global). bytes_of (take i payloads) ++ q.items ∷ bytes_of (drop (suc i) payloads)) (sym item)
+
+-- a payload that spells no commit that fits leads nowhere
+pub stuck : (payloads : List (Vec ℕ Global)) (i : ℕ) (payload : Vec ℕ Global) (before : State) → i < length payloads → payload ≡ get_or payloads i payload → Replays start (bytes_of (take i payloads)) before
+    → ((c : Commit) → HasSpelling c → payload.items ≡ spelling c → Fits before c → ⊥) → (s : State) → Replays start (bytes_of payloads) s → ⊥
+stuck payloads i payload before below item so_far none s all =
+    let next = replays_at start (bytes_of (take i payloads)) payload.items (bytes_of (drop (suc i) payloads)) s (subst (λ (l : List (List ℕ)). Replays start l s) (around payloads i payload below item) all) in
+    let same = replays_once start (bytes_of (take i payloads)) next.before before next.replays so_far in
+    none next.commit next.has next.is (subst (λ (t : State). Fits t next.commit) same next.fits)
+
+-- a payload whose commit doesn't fit spells no other that does
+pub unfit : (before : State) (first : Commit) (bytes : List ℕ) → HasSpelling first × (bytes ≡ spelling first) → (Fits before first → ⊥) → (c : Commit) → HasSpelling c → bytes ≡ spelling c → Fits before c → ⊥
+unfit before first bytes spelled no_fit c has is fits = no_fit (subst (λ (d : Commit). Fits before d) (one_value c first has spelled.0 (sym is ∙ spelled.1)) fits)
+
+-- the next payload leads on
+pub leads_on : (payloads : List (Vec ℕ Global)) (i : ℕ) (payload : Vec ℕ Global) (batch : Batch) (old new : List Batch) → i < length payloads → payload ≡ get_or payloads i payload
+    → HasSpelling (Enqueue batch) → payload.items ≡ spelling (Enqueue batch) → Fits (record { number = i; batches = old; next_batch = i + 1 }) (Enqueue batch) → new ≡ old ++ batch ∷ []
+    → Replays start (bytes_of (take i payloads)) (record { number = i; batches = old; next_batch = i + 1 })
+    → Replays start (bytes_of (take (i + 1) payloads)) (record { number = i + 1; batches = new; next_batch = i + 1 + 1 })
+leads_on payloads i payload batch old new below item has is fits pushed so_far =
+    let more : bytes_of (take (i + 1) payloads) ≡ bytes_of (take i payloads) ++ payload.items ∷ [] =
+    ap bytes_of (take_more payloads i payload below) ∙ map-append (λ p. p.items) (take i payloads) (get_or payloads i payload ∷ []) ∙ ap (λ (q : Vec ℕ Global). bytes_of (take i payloads) ++ q.items ∷ []) (sym item) in
+    let led = replays_push start (bytes_of (take i payloads)) (record { number = i; batches = old; next_batch = i + 1 }) payload.items (Enqueue batch) so_far has is fits in
+    subst (λ (l : List (List ℕ)). Replays start l (record { number = i + 1; batches = new; next_batch = i + 1 + 1 })) (sym more) (subst (λ (b : List Batch). Replays start (bytes_of (take i payloads) ++ payload.items ∷ []) (record { number = i + 1; batches = b; next_batch = i + 1 + 1 })) (sym pushed) led)
+
+-- whether a commit fits rests on the number and the next id alone
+pub fits_alike : (n i : ℕ) (bs cs : List Batch) (commit : Commit) → n ≡ i → Fits (record { number = i; batches = bs; next_batch = i + 1 }) commit → Fits (record { number = n; batches = cs; next_batch = n + 1 }) commit
+fits_alike n i bs cs (Enqueue batch) same fits = (record { id = fits.0.id ∙ ap (λ k. k + 1) (sym same); some = fits.0.some; most = fits.0.most }, subst (λ k. k < most_commits) (sym same) fits.1)
+
+pub spelled_as : (commit : Commit) (batch : Batch) (bytes : List ℕ) → commit ≡ Enqueue batch → HasSpelling commit × (bytes ≡ spelling commit) → HasSpelling (Enqueue batch) × (bytes ≡ spelling (Enqueue batch))
+spelled_as commit batch bytes same found = subst (λ (c : Commit). HasSpelling c × (bytes ≡ spelling c)) same found
