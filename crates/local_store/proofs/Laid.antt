@@ -1,10 +1,10 @@
 -- overlays after one batch more
-use Rattle.std.proofs.Common.{◌≡◌, ◌∙◌, ◌||◌, ◌<◌, ◌+◌, ℕ, Bool, true, false, cond, IsTrue, List, [], ◌∷◌, ◌++◌, map, fold, take, length, get_or, Option, Some, None, refl, sym, ap, subst, append-nil, arith}
-use Rattle.std.specs.List.{All, list_any}
+use Rattle.std.proofs.Common.{◌≡◌, ◌∙◌, ◌||◌, ◌<◌, ◌+◌, ℕ, zero, suc, inl, inr, Bool, true, false, cond, IsTrue, List, [], ◌∷◌, ◌++◌, map, fold, take, length, get_or, Option, Some, None, refl, sym, ap, subst, append-nil, arith}
+use Rattle.std.specs.List.{All, Contains, list_any}
 use Rattle.std.specs.Option.{unwrap_or}
 use Rattle.std.proofs.lemmas.Grind.{flat_map-append, fold-append}
 use Rattle.std.proofs.lemmas.List.{map-append, take_more}
-use Rattle.std.proofs.lemmas.List.Elements.{All-head, All-tail, All-push}
+use Rattle.std.proofs.lemmas.List.Elements.{All-head, All-tail, All-push, Contains-append_cases, Contains-append_left, Contains-append_right}
 use Rattle.std.proofs.lemmas.List.Folds.{list_any-append}
 use Rattle.document_keys.specs.KeySet.{is_key}
 use Rattle.value_model.specs.declared.document.Document.{Document}
@@ -13,7 +13,7 @@ use Rattle.mutations.specs.declared.batch.Batch.{Batch}
 use Rattle.mutations.specs.declared.write.Write.{Write}
 use Rattle.mutations.specs.Local.{effect}
 use Rattle.mutation_queue.specs.Queue.{keys_of, named_keys, written_key}
-use Rattle.mutation_queue.proofs.Tables.{one_key}
+use Rattle.mutation_queue.proofs.Tables.{one_key, same_itself}
 use Rattle.overlays.specs.LocalDocument.{after_write, after_batch, local_document}
 use Rattle.overlays.specs.Table.{Table, has_place, overlay_of, shown}
 use Rattle.overlays.specs.declared.overlays.Overlay.{Overlay}
@@ -161,3 +161,33 @@ put_more q found os o = fold-append (λ now x. cond (is_key x.key q) (Some x.doc
 -- no batch, and no overlay
 pub none_laid : (bs : List Batch) (table : Table) → bs ≡ [] → ((key : List (List ℕ)) → overlay_of table key ≡ None) → AreLaid bs table
 none_laid bs table none empty = subst (λ (l : List Batch). AreLaid l table) (sym none) empty
+
+-- the same batches and overlays
+pub still_laid : (bs cs : List Batch) (old new : Table) → cs ≡ bs → ((q : List (List ℕ)) → overlay_of new q ≡ overlay_of old q) → AreLaid bs old → AreLaid cs new
+still_laid bs cs old new same still laid = subst (λ (l : List Batch). AreLaid l new) (sym same) (λ q. still q ∙ laid q)
+
+-- ---- whether a key is among others
+
+only : (k q : List (List ℕ)) → Contains (k ∷ []) q → k ≡ q
+only k q (zero, below, is) = is
+only k q (suc i, below, is) = absurd (omega arith)
+
+pub in_among : (q : List (List ℕ)) (keys : List (List (List ℕ))) → Contains keys q → is_among keys q ≡ true
+in_among q [] there = absurd (omega (arith, there.1))
+in_among q (k ∷ keys) there =
+    elim (Contains-append_cases (k ∷ []) keys q there) [
+      | inl here ↦ ap (λ b. b || is_among keys q) (subst (λ x. is_key x q ≡ true) (sym (only k q here)) (same_itself q))
+      | inr behind ↦ ap (λ b. is_key k q || b) (in_among q keys behind) ∙ or_true (is_key k q)
+    ]
+
+pub among_in : (q : List (List ℕ)) (keys : List (List (List ℕ))) → is_among keys q ≡ true → Contains keys q
+among_in q [] is = cc
+among_in q (k ∷ keys) is = by (is_key k q) refl (among_in q keys) is
+  where
+    by : (b : Bool) → is_key k q ≡ b → (is_among keys q ≡ true → Contains keys q) → (b || is_among keys q) ≡ true → Contains (k ∷ keys) q
+    by true e rest told = Contains-append_left (k ∷ []) keys q (0, omega arith, one_key k q e)
+    by false e rest told = Contains-append_right (k ∷ []) keys q (rest told)
+
+pub not_so : (b : Bool) → (b ≡ true → ⊥) → b ≡ false
+not_so true never = absurd (never refl)
+not_so false never = refl

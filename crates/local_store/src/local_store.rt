@@ -10,7 +10,7 @@ ghost use Rattle.local_store.specs.Store.{IsFoundIn, IsSpent, IsStored};
 
 use crate::fault::StoreFault;
 use crate::laying::{put_in_place, readied};
-use crate::replay::{Tables, batch_of, fits, replay};
+use crate::replay::{batch_of, fits, replay};
 use disk_journal::{Frame, Journal, OpenFault};
 use document_keys::{DocumentKey, NoMemory};
 use host_api::Host;
@@ -83,12 +83,12 @@ impl LocalStore {
         match replay(alloc, payloads.as_slice()) {
             Err(NoMemory) => Err(OpenFault::NoMemory),
             Ok(None) => Err(OpenFault::NotAStore(file)),
-            Ok(Some(Tables { pending, overlays })) => Ok(LocalStore {
+            Ok(Some(tables)) => Ok(LocalStore {
                 journal: Some(journal),
                 number,
                 next_batch: number + 1,
-                pending,
-                overlays,
+                pending: tables.pending,
+                overlays: tables.overlays,
             }),
         }
     }

@@ -19,6 +19,7 @@ const MOST_COMMITS: u64 = 9_223_372_036_854_775_807;
 const MOST_WRITES: usize = 500;
 
 /// The pending batches of a state, and the overlays of the keys that they name.
+#[derive(Drop)]
 pub(crate) struct Tables {
     pub(crate) pending: MutationQueue,
     pub(crate) overlays: Overlays,
