@@ -1,20 +1,21 @@
 -- the documents of a state are its local documents
-use Rattle.std.proofs.Common.{◌≡◌, ◌∙◌, ◌||◌, ℕ, Bool, true, false, cond, List, [], ◌∷◌, Option, Some, None, Ordering, refl, sym, ap, subst}
+use Rattle.std.proofs.Common.{◌≡◌, ◌↔◌, ◌∙◌, ◌||◌, ℕ, Bool, true, false, cond, List, [], ◌∷◌, Option, Some, None, Ordering, refl, sym, ap, subst}
 use Rattle.std.specs.Cmp.{IsTotalOrder, eq_by_cmp_equiv}
 use Rattle.std.specs.Cmp.Lexicographic.{slice_cmp, lists_total, nat_list_cmp_total}
 use Rattle.std.specs.FinMap as map
 use Rattle.std.specs.List.{cons_option, filter_map}
-use Rattle.std.specs.Option.{option_map}
+use Rattle.std.specs.Option.{option_map, IsSome}
 use Rattle.std.specs.Ordering.{nat_cmp}
 use Rattle.document_keys.specs.KeySet.{is_key}
 use Rattle.value_model.specs.Documents.{Stored}
 use Rattle.value_model.specs.declared.document.Document.{Document}
 use Rattle.mutation_queue.specs.Queue.{named_keys}
-use Rattle.mutation_queue.proofs.Tables.{one_key, same_itself}
+use Rattle.mutation_queue.proofs.Tables.{one_key}
 use Rattle.local_store.specs.Documents.{DocumentsAreLocal, document_of, documents_of, is_named, stored}
-use Rattle.local_store.specs.Laying.{is_among}
+use Rattle.local_store.specs.Laying.{is_among, AreLaid}
 use Rattle.local_store.specs.State.{State}
-use Rattle.local_store.proofs.Laid.{not_named}
+use Rattle.local_store.proofs.Laid.{not_named, shows}
+use Rattle.overlays.specs.Table.{Table, shown}
 
 abbrev order : List (List ℕ) → List (List ℕ) → Ordering
 order = slice_cmp (slice_cmp nat_cmp)
@@ -59,3 +60,14 @@ documents_local s q =
     by false e =
         let none : option_map (stored s q) (document_of s q) ≡ None = ap (option_map (stored s q)) (not_named q s.batches None e) in
         ap (λ b. cond b (option_map (stored s q) (document_of s q)) None) e ∙ sym none
+
+-- what the overlays show is what the store lends
+pub lends : (s : State) (table : Table) (key : List (List ℕ)) (found : Option Document) → AreLaid s.batches table → found ≡ shown table key None → map.get (documents_of s) key ≡ option_map (stored s key) found
+lends s table key found laid same = documents_local s key ∙ ap (option_map (stored s key)) (sym (same ∙ shows s.batches table key laid))
+
+some_of : (s : State) (key : List (List ℕ)) (found : Option Document) (lent : Option Stored) → lent ≡ option_map (stored s key) found → IsSome lent ↔ IsSome found
+some_of s key None lent is = (λ some. let none = subst IsSome is some in cc, λ some. cc)
+some_of s key (Some d) lent is = (λ some. refl, λ some. subst IsSome (sym is) refl)
+
+pub lends_some : (s : State) (table : Table) (key : List (List ℕ)) → AreLaid s.batches table → IsSome (map.get (documents_of s) key) ↔ IsSome (shown table key None)
+lends_some s table key laid = some_of s key (shown table key None) (map.get (documents_of s) key) (lends s table key (shown table key None) laid refl)

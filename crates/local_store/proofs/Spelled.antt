@@ -1,12 +1,12 @@
 -- a write that has a spelling has no path `__name__`
-use Rattle.std.proofs.Common.{◌≡◌, ◌<◌, ℕ, List, [], ◌∷◌, codes, length, Option, Some, None, refl, sym, ap, subst, arith}
-use Rattle.std.specs.List.{All, slice_index_or}
+use Rattle.std.proofs.Common.{ℕ, List, [], codes, Option, Some, None, refl, subst, arith}
+use Rattle.std.specs.List.{All}
 use Rattle.std.specs.Option.{IfSome}
 use Rattle.mutations.specs.declared.batch.Batch.{Batch}
 use Rattle.mutations.specs.declared.write.Write.{Write}
 use Rattle.mutations.specs.declared.write.Write.TheVariants.{Update, Delete}
-use Rattle.mutations.specs.Effect.{HasMaskOfFields, HavePathsOfFields, IsOfFields, IsOfFieldsOnly}
-use Rattle.record_codec.specs.Spelling.{AreSpelled, IsSpelledPath, IsSpelledTransform, IsSpelledWrite, IsSpelledBatch, IsNameText}
+use Rattle.mutations.specs.Effect.{HasMaskOfFields, IsOfFields, IsOfFieldsOnly}
+use Rattle.record_codec.specs.Spelling.{AreSpelled, IsSpelledPath, IsSpelledWrite, IsSpelledBatch, IsNameText}
 use Rattle.overlays.specs.Table.{IsBatchOfFields}
 
 path_of_fields : (path : List (List ℕ)) → IsSpelledPath path → IsOfFields path

@@ -8,6 +8,7 @@
 mod fault;
 mod laws;
 mod laying;
+mod lending;
 mod local_store;
 mod replay;
 

@@ -29,8 +29,8 @@ pub struct LocalStore {
     journal: Option<Journal>,
     number: u64,
     next_batch: u64,
-    pending: MutationQueue,
-    overlays: Overlays,
+    pub(crate) pending: MutationQueue,
+    pub(crate) overlays: Overlays,
 }
 
 impl Model for LocalStore {

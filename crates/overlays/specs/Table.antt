@@ -23,6 +23,10 @@ abbrev pub laid : Slot → Option (Option Document)
 laid Reserved = None
 laid (Laid document) = Some document
 
+-- the document of the overlay that a place holds
+abbrev pub document_in : Slot → Option Document
+document_in slot = option_and_then (λ found. found) (laid slot)
+
 -- the overlay of a key: its document, or that there is none
 abbrev pub overlay_of : Table → List (List ℕ) → Option (Option Document)
 overlay_of table key = option_and_then laid (lookup (is_key key) table)

@@ -1,15 +1,16 @@
-ghost use Rattle.std.specs.Prelude.{◌≡◌, ℕ, List, [], ◌++◌, Some, None, IsTrue, IsOk, OnOk, IfOk, option_map, if◌then◌else◌};
-ghost use Rattle.std.specs.List.{All};
-ghost use Rattle.std.specs.Option.{ForSome, option_to_list};
+ghost use Rattle.std.specs.Prelude.{◌≡◌, ◌↔◌, ℕ, List, [], ◌++◌, Some, None, IsTrue, IsOk, OnOk, IfOk, option_map, if◌then◌else◌};
+ghost use Rattle.std.specs.List.{All, AllPairs, Contains};
+ghost use Rattle.std.specs.Option.{ForSome, IsSome, option_to_list};
 ghost use Rattle.document_keys.specs.KeySet.{is_key};
-ghost use Rattle.value_model.specs.Documents.{ListsCollection};
+ghost use Rattle.document_keys.specs.Order.{PathBefore};
+ghost use Rattle.value_model.specs.Documents.{IsIn};
 ghost use Rattle.value_model.specs.declared.document.Document.{Document as DocumentData};
 ghost use Rattle.overlays.specs.LocalDocument.{after_batch, base_of, local_document};
-ghost use Rattle.overlays.specs.Table.{IsBatchOfFields, has_place, overlay_of, shown};
+ghost use Rattle.overlays.specs.Table.{IsBatchOfFields, document_in, has_place, overlay_of, shown};
 
 use crate::laying::{all_laid_on, base, laid_on};
 use crate::slot::Slot;
-use document_keys::{DocumentKey, NoMemory};
+use document_keys::{CollectionPath, DocumentKey, NoMemory};
 use mutations::Batch;
 use std::alloc::Global;
 use std::collections::BTreeMap;
@@ -66,6 +67,13 @@ fn owned(
         fields,
         update_time,
     }))
+}
+
+/// Whether the key is that of a document of the collection.
+fn is_listed(collection: &CollectionPath, key: &DocumentKey, slot: &Slot) -> bool
+    ensures { IsTrue result ↔ (IsIn collection.now key.now × IsSome (document_in slot.now)) }
+{
+    key.is_in(collection) && matches!(slot, Slot::Laid(Some(_)))
 }
 
 impl Overlays {
@@ -178,5 +186,26 @@ impl Overlays {
             Some(Slot::Laid(None)) => None,
             _ => lent(entry),
         }
+    }
+
+    /// The keys of the collection's documents among those that have an overlay, ascending.
+    ///
+    /// # Errors
+    /// `NoMemory`
+    pub fn keys_in(
+        &self,
+        alloc: Global,
+        collection: &CollectionPath,
+    ) -> Result<Vec<DocumentKey>, NoMemory>
+        ensures ascending { IfOk result (λ keys. AllPairs PathBefore keys.items) }
+        ensures members { IfOk result (λ keys. (key : List (List ℕ)) → Contains keys.items key ↔ (IsIn collection.now key × IsSome (shown self.now key None))) }
+    {
+        let mut keys = Vec::new(alloc);
+        for (key, slot) in self.slots.iter() {
+            if is_listed(collection, key, slot) {
+                keys.push(key.copy(alloc)?)?;
+            }
+        }
+        Ok(keys)
     }
 }

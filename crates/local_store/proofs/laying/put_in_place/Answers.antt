@@ -1,4 +1,4 @@
-use Rattle.std.proofs.Common.{◌≡◌, ◌∙◌, ◌++◌, ◌∷◌, [], IsTrue, Some, cond, sym, ap, append_assoc}
+use Rattle.std.proofs.Common.{◌∙◌, ◌++◌, ◌∷◌, [], IsTrue, Some, cond, sym, ap, append_assoc}
 use Rattle.std.specs.Vec.Iter.{into_iter_items}
 use Rattle.document_keys.specs.KeySet.{is_key}
 use Rattle.overlays.specs.Table.{has_place}

@@ -1,4 +1,4 @@
-use Rattle.std.proofs.Common.{◌≡◌, ◌∙◌, ◌<◌, ◌≤◌, ℕ, List, None, IsTrue, length, get_or, take, sym, ap, subst}
+use Rattle.std.proofs.Common.{◌≡◌, ◌∙◌, ◌<◌, ◌≤◌, ℕ, List, None, IsTrue, length, get_or, sym, ap, subst}
 use Rattle.mutations.specs.declared.write.Write.{Write}
 use Rattle.overlays.specs.LocalDocument.{after_batch}
 use Rattle.std.proofs.lemmas.List.{take_all}

@@ -1,7 +1,7 @@
-use Rattle.std.proofs.Common.{◌≡◌, ◌∙◌, ◌+◌, ℕ, List, [], refl, sym, ap, subst, arith}
+use Rattle.std.proofs.Common.{◌∙◌, ◌+◌, List, [], refl, sym, ap, subst}
 use Rattle.mutations.specs.declared.batch.Batch.{Batch}
 use Rattle.record_codec.specs.declared.commit.Commit.{Commit}
-use Rattle.local_store.specs.State.{State, Fits}
+use Rattle.local_store.specs.State.{Fits}
 use Rattle.local_store.proofs.Laid.{none_laid}
 use Rattle.local_store.proofs.Replayed.{stuck, unfit, leads_on, fits_alike, spelled_as}
 use Rattle.local_store.proofs.Spelled.{batch_of_fields}

@@ -1,11 +1,10 @@
-use Rattle.std.proofs.Common.{◌≡◌, ◌∙◌, ◌++◌, ◌∷◌, [], ◌+◌, ◌<◌, ◌≤◌, List, Some, sym, ap, subst, arith}
+use Rattle.std.proofs.Common.{◌∙◌, ◌++◌, ◌∷◌, [], ◌+◌, List, sym, ap, subst, arith}
 use Rattle.std.proofs.lemmas.Option.{same_Some}
 use Rattle.disk_journal.specs.Place.{Place}
 use Rattle.mutations.specs.declared.batch.Batch.{Batch}
 use Rattle.record_codec.specs.declared.commit.Commit.{Commit}
 use Rattle.record_codec.specs.Spelling.{HasSpelling}
 use Rattle.local_store.specs.Laying.{AreLaid}
-use Rattle.local_store.specs.State.{State}
 use Rattle.local_store.specs.Store.{Store, IsOver}
 use Rattle.local_store.proofs.Committed.{stands, nothing_moves, append_moves, appends_payload, leads_more, over_finds, over_more, state_more, still_kept}
 use Rattle.local_store.proofs.Laid.{laid_more}

@@ -1,4 +1,4 @@
-use Rattle.std.proofs.Common.{◌≡◌, ◌∙◌, map, IsTrue, sym}
+use Rattle.std.proofs.Common.{◌≡◌, ◌∙◌, map, sym}
 use Rattle.local_store.proofs.Committed.{over_finds}
 use Rattle.local_store.proofs.Opened.{stuck_refuses, none_found, some_found}
 use Rattle.local_store.proofs.local_store.LocalStore.open.Goals as goal

@@ -1,5 +1,4 @@
-use Rattle.std.proofs.Common.{◌≡◌, ◌∙◌, cond, sym, ap}
-use Rattle.value_model.specs.declared.document.DocState.{DocState}
+use Rattle.std.proofs.Common.{cond, sym, ap}
 use Rattle.value_model.specs.declared.document.DocState.TheVariants.{Pending, Unknown}
 use Rattle.mutation_queue.specs.Queue.{named_keys}
 use Rattle.local_store.specs.Laying.{is_among}

@@ -1,0 +1,133 @@
+-- the keys of a collection, found along a table
+use Rattle.std.proofs.Common.{◌≡◌, ◌↔◌, ◌⊎◌, inl, inr, ℕ, zero, suc, List, [], ◌∷◌, ◌++◌, get_or, Option, Some, None, Ordering, Less, refl, sym, ap, subst, arith}
+use Rattle.std.specs.BTreeMap.{BTreeMap, IsOrdered}
+use Rattle.std.specs.Cmp.Lexicographic.{slice_cmp}
+use Rattle.std.specs.List.{All, AllPairs, Contains}
+use Rattle.std.specs.List.Sorted.{IsStrictlySortedBy}
+use Rattle.std.specs.Map.{keys_of, lookup}
+use Rattle.std.specs.Option.{IsSome, option_and_then, unwrap_or}
+use Rattle.std.specs.Ordering.{nat_cmp}
+use Rattle.std.proofs.lemmas.List.{get_or-map, get_or_default, length-map}
+use Rattle.std.proofs.lemmas.List.Elements.{All-contains, All-head, All-tail, Contains-append_cases, Contains-append_left, Contains-append_right, Contains-push, Contains-push_cases}
+use Rattle.std.proofs.lemmas.List.Quantifiers.{all_pairs_push}
+use Rattle.std.proofs.lemmas.Map.Views.{All-found, All-after_first, Contains-from_lookup}
+use Rattle.document_keys.specs.KeySet.{is_key}
+use Rattle.document_keys.specs.Order.{PathBefore}
+use Rattle.document_keys.proofs.Order.{paths_compute}
+use Rattle.value_model.specs.Documents.{IsIn}
+use Rattle.mutation_queue.proofs.Tables.{one_key}
+use Rattle.overlays.specs.declared.slot.Slot.{Slot}
+use Rattle.overlays.specs.declared.slot.Slot.TheVariants.{Reserved, Laid}
+use Rattle.overlays.specs.Table.{Table, document_in, laid, shown}
+
+abbrev order : List (List ℕ) → List (List ℕ) → Ordering
+order = slice_cmp (slice_cmp nat_cmp)
+
+-- the key of a document of the collection, among these places
+abbrev pub Listed : List (List ℕ) → Table → List (List ℕ) → Type 0
+Listed collection table key = (slot : Slot) × Contains table (key, slot) × IsIn collection key × IsSome (document_in slot)
+
+-- the keys found so far, and what is left of the table
+pub record Listing (collection : List (List ℕ)) (whole left : Table) (keys : List (List (List ℕ))) : Type 0 where
+  pub found : (q : List (List ℕ)) → Contains keys q → Listed collection whole q
+  pub others : (q : List (List ℕ)) → Listed collection whole q → Contains keys q ⊎ Listed collection left q
+  pub within : (q : List (List ℕ)) → Listed collection left q → Listed collection whole q
+  pub ascending : AllPairs (λ x y. order x y ≡ Less) keys
+  pub before : (q : List (List ℕ)) → Contains keys q → All (λ e. order q e.0 ≡ Less) left
+  pub sorted : IsStrictlySortedBy order (keys_of left)
+
+no_member : {X : Type 0} (x : X) → Contains [] x → ⊥
+no_member x there = absurd (omega (arith, there.1))
+
+only : {X : Type 0} (x y : X) → Contains (x ∷ []) y → x ≡ y
+only x y (zero, below, is) = is
+only x y (suc i, below, is) = absurd (omega arith)
+
+pub all_left : (collection : List (List ℕ)) (whole : Table) (keys : List (List (List ℕ))) → keys ≡ [] → IsStrictlySortedBy order (keys_of whole) → Listing collection whole whole keys
+all_left collection whole keys none sorted = subst (Listing collection whole whole) (sym none) (record {
+  found = λ q there. absurd (no_member q there);
+  others = λ q is. inr is;
+  within = λ q is. is;
+  ascending = λ i j d before below. absurd (omega arith);
+  before = λ q there. absurd (no_member q there);
+  sorted = sorted;
+})
+
+further : (collection : List (List ℕ)) (k : List (List ℕ)) (s : Slot) (left : Table) (q : List (List ℕ)) → Listed collection left q → Listed collection ((k, s) ∷ left) q
+further collection k s left q (slot, there, inside, some) = (slot, Contains-append_right ((k, s) ∷ []) left (q, slot) there, inside, some)
+
+-- the key of the first place, or of one behind it
+first_or : (collection : List (List ℕ)) (k : List (List ℕ)) (s : Slot) (left : Table) (q : List (List ℕ)) → Listed collection ((k, s) ∷ left) q → ((k ≡ q) × IsIn collection k × IsSome (document_in s)) ⊎ Listed collection left q
+first_or collection k s left q (slot, there, inside, some) =
+    elim (Contains-append_cases ((k, s) ∷ []) left (q, slot) there) [
+      | inl here ↦ let same = only (k, s) (q, slot) here in inl (ap (λ e. e.0) same, subst (IsIn collection) (sym (ap (λ e. e.0) same)) inside, subst (λ t. IsSome (document_in t)) (sym (ap (λ e. e.1) same)) some)
+      | inr behind ↦ inr (slot, behind, inside, some)
+    ]
+
+module _ (collection : List (List ℕ)) (whole : Table) (k : List (List ℕ)) (s : Slot) (left rest : Table) (keys : List (List (List ℕ))) (is : rest ≡ (k, s) ∷ left) (so_far : Listing collection whole rest keys) where
+  here : Listing collection whole ((k, s) ∷ left) keys
+  here = subst (λ t. Listing collection whole t keys) is so_far
+
+  sorted_left : IsStrictlySortedBy order (keys_of left)
+  unfolding IsStrictlySortedBy
+  sorted_left = here.sorted.1
+
+  first_before : All (λ e. order k e.0 ≡ Less) left
+  first_before = λ i d below.
+      let at = get_or-map (λ (e : List (List ℕ) × Slot). e.0) left i d d.0 below in
+      subst (λ x. order k x ≡ Less) at (All-after_first order k (keys_of left) here.sorted i d.0 (let many = length-map left (λ (e : List (List ℕ) × Slot). e.0) in omega (arith, many)))
+
+  -- the place is passed over
+  pub passed : ¬ (IsIn collection k × IsSome (document_in s)) → Listing collection whole left keys
+  passed not_it = record {
+    found = here.found;
+    others = λ q listed. elim (here.others q listed) [ inl there ↦ inl there | inr ahead ↦ elim (first_or collection k s left q ahead) [ inl first ↦ absurd (not_it (first.1, first.2)) | inr behind ↦ inr behind ] ];
+    within = λ q listed. here.within q (further collection k s left q listed);
+    ascending = here.ascending;
+    before = λ q there. All-tail (λ e. order q e.0 ≡ Less) (k, s) left (here.before q there);
+    sorted = sorted_left;
+  }
+
+  -- the key is taken
+  pub taken : (after : List (List (List ℕ))) → after ≡ keys ++ k ∷ [] → IsIn collection k × IsSome (document_in s) → Listing collection whole left after
+  taken after pushed it = subst (Listing collection whole left) (sym pushed) (record {
+    found = λ q there. elim (Contains-push_cases keys k q there) [ inl old ↦ here.found q old | inr same ↦ subst (Listed collection whole) same (here.within k (s, Contains-append_left ((k, s) ∷ []) left (k, s) (0, omega arith, refl), it.0, it.1)) ];
+    others = λ q listed. elim (here.others q listed) [
+      | inl there ↦ inl (Contains-append_left keys (k ∷ []) q there)
+      | inr ahead ↦ elim (first_or collection k s left q ahead) [ inl first ↦ inl (subst (λ x. Contains (keys ++ k ∷ []) x) first.0 (Contains-push keys k)) | inr behind ↦ inr behind ]
+    ];
+    within = λ q listed. here.within q (further collection k s left q listed);
+    ascending = all_pairs_push (λ x y. order x y ≡ Less) keys k here.ascending (λ i d below. All-head (λ e. order (get_or keys i d) e.0 ≡ Less) (k, s) left (here.before (get_or keys i d) (i, below, get_or_default keys i (get_or keys i d) d below)));
+    before = λ q there. elim (Contains-push_cases keys k q there) [
+      | inl old ↦ All-tail (λ e. order q e.0 ≡ Less) (k, s) left (here.before q old)
+      | inr same ↦ subst (λ x. All (λ e. order x e.0 ≡ Less) left) same first_before
+    ];
+    sorted = sorted_left;
+  })
+
+-- at the end the keys are those of the collection's documents
+pub ascending_paths : (keys : List (List (List ℕ))) → AllPairs (λ x y. order x y ≡ Less) keys → AllPairs PathBefore keys
+ascending_paths keys ascending = λ i j d before below. paths_compute.below (get_or keys i d) (get_or keys j d) (ascending i j d before below)
+
+some_document : (table : Table) (q : List (List ℕ)) (o : Option Slot) → lookup (is_key q) table ≡ o → IsSome (shown table q None) → (slot : Slot) × (o ≡ Some slot) × IsSome (document_in slot)
+some_document table q None is some = let none = subst (λ x. IsSome (unwrap_or (option_and_then laid x) None)) is some in cc
+some_document table q (Some Reserved) is some = let none = subst (λ x. IsSome (unwrap_or (option_and_then laid x) None)) is some in cc
+some_document table q (Some (Laid d)) is some = (Laid d, refl, subst (λ x. IsSome (unwrap_or (option_and_then laid x) None)) is some)
+
+shown_document : (slot : Slot) → IsSome (document_in slot) → IsSome (unwrap_or (option_and_then laid (Some slot)) None)
+shown_document Reserved some = cc
+shown_document (Laid d) some = some
+
+pub none_left : {collection : List (List ℕ)} {keys : List (List (List ℕ))} (m : BTreeMap (List (List ℕ)) Slot) (left : Table) → IsOrdered order m → left ≡ [] → Listing collection m.entries left keys → (q : List (List ℕ)) → Contains keys q ↔ (IsIn collection q × IsSome (shown m.entries q None))
+none_left {collection} {keys} m left ordered none is q = (
+  λ there.
+      let listed = is.found q there in
+      let at = All-contains (λ e. lookup (is_key e.0) m.entries ≡ Some e.1) m.entries (q, listed.0) (All-found paths_compute.total m ordered) listed.1 in
+      (listed.2, subst (λ o. IsSome (unwrap_or (option_and_then laid o) None)) (sym at) (shown_document listed.0 listed.3)),
+  λ both.
+      let slot = some_document m.entries q (lookup (is_key q) m.entries) refl both.1 in
+      elim (is.others q (slot.0, Contains-from_lookup one_key q slot.0 m.entries slot.1, both.0, slot.2)) [
+        | inl there ↦ there
+        | inr ahead ↦ absurd (no_member (q, ahead.0) (subst (λ t. Contains t (q, ahead.0)) none ahead.1))
+      ],
+)
