@@ -1,15 +1,47 @@
 //! Writes laid on a document.
 
-ghost use Rattle.std.specs.Prelude.{◌≡◌, IfOk, option_map};
+ghost use Rattle.std.specs.Prelude.{◌≡◌, ◌↔◌, IsTrue, IfOk, option_map};
 ghost use Rattle.std.specs.List.{All};
+ghost use Rattle.mutations.specs.Effect.{IsOfFieldsOnly};
 ghost use Rattle.overlays.specs.LocalDocument.{after_batch, base_of, local_document};
 ghost use Rattle.overlays.specs.Table.{IsBatchOfFields};
 
 use document_keys::{DocumentKey, NoMemory};
 use mutation_queue::written_key;
-use mutations::{Batch, apply_local};
+use mutations::{Batch, Write, apply_local};
 use std::alloc::Global;
 use value_model::{Document, Entry};
+
+/// Whether no path of the writes is `__name__`.
+fn writes_are_of_fields(writes: &[Write]) -> bool
+    ensures { IsTrue result ↔ All IsOfFieldsOnly writes.now }
+{
+    for write in writes {
+        if !write.is_of_fields_only() {
+            return false;
+        }
+    }
+    true
+}
+
+/// Whether no path of the batch's writes is `__name__`.
+pub fn is_of_fields(batch: &Batch) -> bool
+    ensures { IsTrue result ↔ IsBatchOfFields batch.now }
+{
+    writes_are_of_fields(batch.writes.as_slice())
+}
+
+/// Whether no path of the batches' writes is `__name__`.
+pub fn are_of_fields(batches: &[Batch]) -> bool
+    ensures { IsTrue result ↔ All IsBatchOfFields batches.now }
+{
+    for batch in batches {
+        if !is_of_fields(batch) {
+            return false;
+        }
+    }
+    true
+}
 
 /// The document that an entry knows of.
 pub(crate) fn base(alloc: Global, entry: Option<&Entry>) -> Result<Option<Document>, NoMemory>
