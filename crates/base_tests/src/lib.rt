@@ -28,6 +28,8 @@ mod records;
 #[cfg(test)]
 mod stores;
 #[cfg(test)]
+mod tables;
+#[cfg(test)]
 mod times;
 #[cfg(test)]
 mod trees;
