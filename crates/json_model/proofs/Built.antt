@@ -75,7 +75,7 @@ each_push : (items : List Json) (one : Json) (vs : List Data) (v : Data) → Spe
 each_push [] one _ v no_item is = an_item is no_item
 each_push (x ∷ items) one _ v (an_item {vs = ws} first rest) is = an_item first (each_push items one ws v rest is)
 
-items_at : (items : List Json) (i : ℕ) (one : Json) → i < length items → one ≡ get_or items i one → take (i + 1) items ≡ take i items ++ one ∷ []
+pub items_at : (items : List Json) (i : ℕ) (one : Json) → i < length items → one ≡ get_or items i one → take (i + 1) items ≡ take i items ++ one ∷ []
 items_at items i one below is = take_more items i one below ∙ ap (λ x. take i items ++ x ∷ []) (sym is)
 
 pub whole_list : (items : List Json) (i : ℕ) → length items ≤ i → i ≤ length items → take i items ≡ items

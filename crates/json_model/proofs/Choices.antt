@@ -1,21 +1,17 @@
 -- The one alternative of an object without faults.
-use Rattle.std.proofs.Common.{◌≡◌, ℕ, ◌-◌, List, [], ◌∷◌, Bool, true, false, not, ◌&&◌, cond, codes, refl, sym, ap, subst, ◌∙◌, arith, Option, Some, None, Ordering, Less, Equal, Greater}
+use Rattle.std.proofs.Common.{◌≡◌, ◌≢◌, ℕ, ◌-◌, List, [], ◌∷◌, length, Bool, true, false, not, ◌&&◌, cond, codes, refl, sym, ap, subst, ◌∙◌, arith}
 use Rattle.std.specs.Bool.{if◌then◌else◌}
-use Rattle.std.specs.Ordering.{nat_cmp, match_ordering}
-use Rattle.std.specs.Cmp.Lexicographic.{slice_cmp}
-use Rattle.document_keys.proofs.Order.{texts_compute}
-use Rattle.serde_json.specs.Find.{get_member}
 use Rattle.serde_json.specs.Data.{Data as Json, Members, no_members, member}
 use Rattle.json_model.specs.declared.place.Object.{Object}
 use Rattle.json_model.specs.declared.place.Object.TheVariants as object
 use Rattle.json_model.specs.declared.fault.JsonFault.TheVariants as json_fault
 use Rattle.json_model.specs.Clean.{IsClean, AreClean}
 use Rattle.json_model.specs.Faults.{FaultsAt, MembersFaults, own_faults}
-use Rattle.json_model.specs.Members.{is_null, takes_null, is_left_out, is_chosen, chosen, is_one_known, lacks_choice, is_vector_map, later, refined, given}
+use Rattle.json_model.specs.Members.{is_null, takes_null, is_left_out, is_chosen, chosen, is_one_known, only_name, lacks_choice, is_vector_map, later, refined}
 use Rattle.json_model.specs.Origin.{Origin}
 use Rattle.json_model.specs.Places.{placed, write_rows, transform_rows, member_place, chooses, is_choice, required}
 use Rattle.json_model.proofs.Rows.{every_row}
-use Rattle.json_model.proofs.Sound.{sound, first_of, at_clean, not_out, given_some}
+use Rattle.json_model.proofs.Sound.{sound, first_of, at_clean, not_out}
 
 lacks_none : (kind : Object) (name : List ℕ) (ms : Members) → own_faults kind name ms ≡ [] → lacks_choice kind ms ≡ false
 lacks_none kind name ms none = by (lacks_choice kind ms) none
@@ -99,45 +95,12 @@ chosen_choice kind (member l e ms) k d is = by (is_chosen kind l e) refl is (cho
         let pair : (l, e) ≡ (k, d) = cc in
         subst (λ n. is_choice kind n ≡ true) (ap (λ (x : List ℕ × Json). x.0) pair) (one (is_choice kind l) (not (is_left_out (member_place kind l) e)) this)
 
--- a member that is one of the alternatives, and isn't null, is chosen
-is_here : (kind : Object) (n l : List ℕ) (f e : Json) → slice_cmp nat_cmp l n ≡ Equal → Some f ≡ Some e → is_choice kind l ≡ true → is_null e ≡ false → is_chosen kind n f ≡ true
-is_here kind n l f e cmp same choice some =
-    let names : l ≡ n = texts_compute.exact l n cmp in
-    let trees : f ≡ e = cc in
-    let kept_is = not_out (member_place kind n) f (ap is_null trees ∙ some) in
-    (λ i. is_choice kind (sym names i) && not (kept_is i)) ∙ ap (λ b. b && true) choice
+-- the one alternative that is given has this name
+pub only_is : (kind : Object) (ms : Members) (k : List ℕ) (d : Json) → chosen kind ms ≡ (k, d) ∷ [] → only_name (chosen kind ms) ≡ k
+only_is kind ms k d is = ap only_name is
 
-some_chosen : (kind : Object) (ms : Members) (l : List ℕ) (e : Json) → is_choice kind l ≡ true → get_member l ms ≡ Some e → is_null e ≡ false → chosen kind ms ≡ [] → ⊥
-some_chosen kind no_members l e choice is some none = cc
-some_chosen kind (member n f ms) l e choice is some none = by (is_chosen kind n f) (slice_cmp nat_cmp l n) refl refl none is (some_chosen kind ms l e choice)
-  where
-    by : (b : Bool) (order : Ordering) → is_chosen kind n f ≡ b → slice_cmp nat_cmp l n ≡ order → cond b ((n, f) ∷ chosen kind ms) (chosen kind ms) ≡ [] → match_ordering order (get_member l ms) (Some f) (get_member l ms) ≡ Some e → (get_member l ms ≡ Some e → is_null e ≡ false → chosen kind ms ≡ [] → ⊥) → ⊥
-    by true order this cmp same at behind = cc
-    by false Less this cmp same at behind = behind at some same
-    by false Greater this cmp same at behind = behind at some same
-    by false Equal this cmp same at behind = let yes_is = is_here kind n l f e cmp at choice some in cc
-
-among : (kind : Object) (ms : Members) (k l : List ℕ) (d e : Json) → chosen kind ms ≡ (k, d) ∷ [] → is_choice kind l ≡ true → get_member l ms ≡ Some e → is_null e ≡ false → l ≡ k
-among kind no_members k l d e only choice is some = cc
-among kind (member n f ms) k l d e only choice is some = by (is_chosen kind n f) (slice_cmp nat_cmp l n) refl refl only is (among kind ms k l d e)
-  where
-    one_name : (x : List ℕ) (t : Json) (rest : List (List ℕ × Json)) → (x, t) ∷ rest ≡ (k, d) ∷ [] → (x ≡ k) × (rest ≡ [])
-    one_name x t rest same = (ap (λ (p : List ℕ × Json). p.0) (let pair : (x, t) ≡ (k, d) = cc in pair), cc)
-
-    by : (b : Bool) (order : Ordering) → is_chosen kind n f ≡ b → slice_cmp nat_cmp l n ≡ order → cond b ((n, f) ∷ chosen kind ms) (chosen kind ms) ≡ (k, d) ∷ [] → match_ordering order (get_member l ms) (Some f) (get_member l ms) ≡ Some e
-        → (chosen kind ms ≡ (k, d) ∷ [] → is_choice kind l ≡ true → get_member l ms ≡ Some e → is_null e ≡ false → l ≡ k) → l ≡ k
-    by b Equal this cmp same at behind = let yes_is = is_here kind n l f e cmp at choice some in let l_is : l ≡ n = texts_compute.exact l n cmp in
-        let at_true : cond true ((n, f) ∷ chosen kind ms) (chosen kind ms) ≡ (k, d) ∷ [] = subst (λ c. cond c ((n, f) ∷ chosen kind ms) (chosen kind ms) ≡ (k, d) ∷ []) (sym this ∙ yes_is) same in
-        l_is ∙ (one_name n f (chosen kind ms) at_true).0
-    by false Less this cmp same at behind = behind same choice at some
-    by false Greater this cmp same at behind = behind same choice at some
-    by true Less this cmp same at behind = absurd (some_chosen kind ms l e choice at some (one_name n f (chosen kind ms) same).1)
-    by true Greater this cmp same at behind = absurd (some_chosen kind ms l e choice at some (one_name n f (chosen kind ms) same).1)
-
--- another alternative isn't given beside the one that is
-pub not_given : (kind : Object) (ms : Members) (k l : List ℕ) (d : Json) → chosen kind ms ≡ (k, d) ∷ [] → is_choice kind l ≡ true → (l ≡ k → ⊥) → given l ms ≡ None
-not_given kind ms k l d only choice apart = by (given l ms) refl
-  where
-    by : (found : Option Json) → given l ms ≡ found → found ≡ None
-    by None is = refl
-    by (Some e) is = let there = given_some (get_member l ms) e is in absurd (apart (among kind ms k l d e only choice there.0 there.1))
+-- there is no one alternative
+pub no_only : (given : List (List ℕ × Json)) → length given ≢ 1 → [] ≡ only_name given
+no_only [] many = refl
+no_only (one ∷ []) many = absurd (many refl)
+no_only (one ∷ two ∷ others) many = refl

@@ -3,7 +3,7 @@ use Rattle.std.proofs.Common.{◌≡◌, ℕ, ◌-◌, ◌≤◌, suc, List, [],
 use Rattle.std.specs.Ordering.{nat_cmp, match_ordering}
 use Rattle.std.specs.Cmp.Lexicographic.{slice_cmp}
 use Rattle.serde_json.specs.Data as json
-use Rattle.std.specs.Prelude.{Option}
+use Rattle.std.specs.Prelude.{Option, Some}
 use Rattle.value_model.specs.Data.{Data, Entries, items_of, members_of, depth, items_depth, members_depth, entries_depth}
 use Rattle.value_model.specs.Fields.{with_field}
 use Rattle.json_model.specs.declared.place.Place.{Place}
@@ -104,6 +104,12 @@ mutual
       let here = first_of o limit object.Fields [] k d ms clean in
       let value = at_clean o limit object.Fields k d [] here.at refl (not_out (place.Object object.Value) d some) in
       members_deep o limit ms (with_field es k v) fs here.rest (put_deep es k v limit start (value_deep o limit d v (k, value.1) spelled)) rest
+
+-- the values of a list without faults nest no deeper than there are levels
+pub values_deep : (o : Origin) (limit : ℕ) (name : List ℕ) (d : json.Data) (ds : List Data) → FaultsAt o limit (place.Series series.Values) name d [] → SpellsList (Some d) ds → items_depth (items_of ds) ≤ limit
+values_deep o limit name d ds clean (a_list items _ is spelled) =
+    let here = at o limit (place.Series series.Values) d (json.array items) is (name, clean) in
+    items_deep o limit here.0 items ds (sound_list o limit series.Values here.0 items here.1).1 spelled
 
 pub fields_deep : (o : Origin) (limit : ℕ) (name : List ℕ) (d : json.Data) (es : Entries) → FaultsAt o limit (place.Object object.Fields) name d [] → SpellsFields d es → entries_depth es ≤ limit
 fields_deep o limit name d es clean spelled =

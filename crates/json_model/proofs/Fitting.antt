@@ -59,12 +59,12 @@ choice_own kind name ms chooses plain = λ i. if chooses i then json_fault.BadSh
 pub own_only : (kind : Series) (name : List ℕ) (ds : Items) → own_list_faults kind name ds ≡ [] → lacks_only kind ds ≡ false
 own_only kind name ds none = by (lacks_only kind ds) none
   where
-    by : (b : Bool) → (if b then json_fault.Unsupported name ∷ [] else []) ≡ [] → b ≡ false
+    by : (b : Bool) → (if b then json_fault.BadShape name ∷ [] else []) ≡ [] → b ≡ false
     by true h = cc
     by false h = refl
 
 only_own : (kind : Series) (name : List ℕ) (ds : Items) → lacks_only kind ds ≡ false → own_list_faults kind name ds ≡ []
-only_own kind name ds only = ap (λ (b : Bool). if b then json_fault.Unsupported name ∷ [] else []) only
+only_own kind name ds only = ap (λ (b : Bool). if b then json_fault.BadShape name ∷ [] else []) only
 
 none_deep : (limit levels : ℕ) → levels ≤ limit → depth_faults limit levels ≡ []
 none_deep limit levels room = by (nat_lt limit levels) refl

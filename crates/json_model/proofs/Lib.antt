@@ -26,3 +26,4 @@ pub mod ReadBack
 pub mod Spelling
 pub mod Answered
 pub mod ReadAscending
+pub mod Forms

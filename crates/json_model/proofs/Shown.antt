@@ -1,5 +1,5 @@
 -- Lists and members that are printed one after another.
-use Rattle.std.proofs.Common.{String, Vec, vec_len, BTreeMap, Result, Ok, Err, IfOk, codes, zero, suc, length, ◌≤◌, sym, ◌≡◌, ℕ, ◌+◌, ◌<◌, List, [], ◌∷◌, ◌++◌, true, false, Greater, take, get_or, refl, ap, subst, ◌∙◌, arith, add-one}
+use Rattle.std.proofs.Common.{Some, String, Vec, vec_len, BTreeMap, Result, Ok, Err, IfOk, codes, zero, suc, length, ◌≤◌, sym, ◌≡◌, ℕ, ◌+◌, ◌<◌, List, [], ◌∷◌, ◌++◌, true, false, Greater, take, get_or, refl, ap, subst, ◌∙◌, arith, add-one}
 use Rattle.std.specs.Ordering.{nat_cmp, ordering_reverse}
 use Rattle.std.specs.List.{AllPairs}
 use Rattle.std.specs.Map.{keys_of}
@@ -19,6 +19,7 @@ use Rattle.value_model.specs.declared.fields.Field.{Field}
 use Rattle.value_model.specs.Data.{Data, Entries, items_of, members_of}
 use Rattle.value_model.specs.Codes.{data_size, entries_size}
 use Rattle.value_model.specs.Named.{fields_data}
+use Rattle.json_model.specs.Forms.{unless_empty}
 use Rattle.json_model.specs.Trees.{one}
 use Rattle.json_model.specs.Printed.{printed_value, printed_items, printed_members, values_tree, fields_tree}
 
@@ -106,3 +107,11 @@ full_array r v some = ok_along r _ _ (ap (λ d. one (codes "arrayValue") d) (ap 
 pub full_map : {E : Type 0} (r : Result Json E) (m : BTreeMap (String Global) Json) → (length m.entries ≡ 0 → ⊥) → IfOk r (λ j. view j ≡ one (codes "mapValue") (one (codes "fields") (view (Object m))))
     → IfOk r (λ j. view j ≡ one (codes "mapValue") (fields_tree (members_view m.entries)))
 full_map r m some = ok_along r _ _ (ap (λ d. one (codes "mapValue") d) (ap (λ d. one (codes "fields") d) (view-Object m) ∙ sym (fields_shown m.entries some)))
+
+-- a list that isn't empty
+some_items : (trees : List Json) → (length trees ≡ 0 → ⊥) → Some (json.array (items_view trees)) ≡ unless_empty (items_view trees)
+some_items [] some = absurd (some refl)
+some_items (t ∷ trees) some = refl
+
+pub list_shown : (v : Vec Json Global) → false ≡ (vec_len v == 0) → Some (view (Array v)) ≡ unless_empty (items_view v.items)
+list_shown v some = ap (λ d. Some d) (view-Array v) ∙ some_items v.items (λ none. not_zero (vec_len v) some (v.ok.0 ∙ none))

@@ -182,6 +182,7 @@ required_ascending object.GetLine = refl
 required_ascending object.Update = refl
 required_ascending object.Transform = refl
 required_ascending object.ArrayTransform = refl
+required_ascending object.Documents = refl
 required_ascending _ = refl
 
 both_true : (a b : Bool) → (a && b) ≡ true → (a ≡ true) × (b ≡ true)

@@ -134,7 +134,7 @@ no_names path d text is at none = no_path (λ other names also spelled. none nam
 
 -- ---- lists
 
-pub lacks_by : (items : List Json) → not (length items == 1) ≡ lacks_only series.PlainWrites (items_view items)
+pub lacks_by : (items : List Json) → not (length items == 1) ≡ lacks_only series.Names (items_view items)
 lacks_by [] = refl
 lacks_by (x ∷ []) = refl
 lacks_by (x ∷ y ∷ items) = ap not (not_one (length items))

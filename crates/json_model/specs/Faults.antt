@@ -53,7 +53,7 @@ own_faults kind name ms =
 
 -- what a list has in place of what is inside it
 abbrev pub own_list_faults : Series → List ℕ → Items → List JsonFault
-own_list_faults kind name ds = if lacks_only kind ds then json_fault.Unsupported name ∷ [] else []
+own_list_faults kind name ds = if lacks_only kind ds then json_fault.BadShape name ∷ [] else []
 
 -- the faults of its own, or else those of what is inside
 abbrev pub OwnOr : List JsonFault → (List JsonFault → Type 0) → List JsonFault → Type 0

@@ -3,6 +3,7 @@ pub mod Bytes
 pub mod Clean
 pub mod Faults
 pub mod Fits
+pub mod Forms
 pub mod Grammar
 pub mod Laws
 pub mod Leaves
@@ -14,4 +15,5 @@ pub mod Places
 pub mod Printed
 pub mod Ranks
 pub mod References
+pub mod Storable
 pub mod Trees

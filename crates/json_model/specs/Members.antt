@@ -2,6 +2,7 @@
 use Rattle.std.specs.Prelude.{ℕ, List, [], ◌∷◌, Bool, true, false, not, ◌&&◌, ◌||◌, Option, Some, None, cond, is_some, codes, option_and_then, if◌then◌else◌}
 use Rattle.std.specs.Ordering.{nat_cmp, match_ordering}
 use Rattle.std.specs.Cmp.Lexicographic.{slice_cmp}
+use Rattle.std.specs.Str.{bytes_eq}
 use Rattle.serde_json.specs.Data.{Data as Json, null, Members, no_members, member, Items, no_items, item}
 use Rattle.serde_json.specs.Find.{as_object, get_member}
 use Rattle.json_model.specs.declared.place.Place.{Place}
@@ -61,6 +62,11 @@ abbrev pub chosen : Object → Members → List (List ℕ × Json)
 chosen o no_members = []
 chosen o (member name d ms) = cond (is_chosen o name d) ((name, d) ∷ chosen o ms) (chosen o ms)
 
+-- the name of the one that is given; none, where there isn't just one
+abbrev pub only_name : List (List ℕ × Json) → List ℕ
+only_name (only ∷ []) = only.0
+only_name _ = []
+
 -- they are one, whose name is known
 abbrev pub is_one_known : Object → List (List ℕ × Json) → Bool
 is_one_known o [] = false
@@ -85,20 +91,20 @@ abbrev pub is_vector_map : Object → Members → Bool
 is_vector_map object.Map ms = is_vector ms
 is_vector_map _ ms = false
 
--- the transform's alternative is one of an array
-abbrev pub is_of_array : Members → Bool
-is_of_array ms = is_some (given (codes "appendMissingElements") ms) || is_some (given (codes "removeAllFromArray") ms)
+-- a transform whose alternative has this name is one of an array
+abbrev pub is_of_array : List ℕ → Bool
+is_of_array name = bytes_eq name (codes "appendMissingElements") || bytes_eq name (codes "removeAllFromArray")
 
--- what object it is by its members
+-- what object it is by its alternative
 abbrev pub refined : Object → Members → Object
-refined object.Write ms = if is_some (given (codes "delete") ms) then object.DeleteWrite else object.Write
-refined object.Transform ms = if is_of_array ms then object.ArrayTransform else object.Transform
+refined object.Write ms = if bytes_eq (only_name (chosen object.Write ms)) (codes "delete") then object.DeleteWrite else object.Write
+refined object.Transform ms = if is_of_array (only_name (chosen object.Transform ms)) then object.ArrayTransform else object.Transform
 refined o ms = o
 
 -- ---- lists
 
--- the list must have exactly one item, since more aren't built, and hasn't
+-- the list must have exactly one item, and hasn't
 abbrev pub lacks_only : Series → Items → Bool
-lacks_only series.PlainWrites (item d no_items) = false
-lacks_only series.PlainWrites _ = true
+lacks_only series.Names (item d no_items) = false
+lacks_only series.Names _ = true
 lacks_only _ ds = false

@@ -52,24 +52,13 @@ line_rows =
 unfoldable pub write_line_rows : List Row
 write_line_rows =
     (codes "at", a_leaf leaf.Time) ∷
-    (codes "writes", a_series series.PlainWrites) ∷
+    (codes "writes", a_series series.Writes) ∷
     []
 
 -- what `get` holds
 unfoldable pub get_line_rows : List Row
 get_line_rows =
     (codes "name", a_leaf leaf.Name) ∷
-    []
-
--- a write of which one of all fields alone is built
-unfoldable pub plain_write_rows : List Row
-plain_write_rows =
-    (codes "currentDocument", Unsupported) ∷
-    (codes "delete", Unsupported) ∷
-    (codes "transform", Unsupported) ∷
-    (codes "update", an_object object.Update) ∷
-    (codes "updateMask", Unsupported) ∷
-    (codes "updateTransforms", Unsupported) ∷
     []
 
 -- a write
@@ -146,7 +135,6 @@ member_place object.Fields name = an_object object.Value
 member_place object.Line name = placed line_rows name
 member_place object.WriteLine name = placed write_line_rows name
 member_place object.GetLine name = placed get_line_rows name
-member_place object.PlainWrite name = placed plain_write_rows name
 member_place object.Write name = placed write_rows name
 member_place object.DeleteWrite name = placed delete_write_rows name
 member_place object.Update name = placed update_rows name
@@ -156,14 +144,15 @@ member_place object.Transform name = placed transform_rows name
 member_place object.ArrayTransform name = placed transform_rows name
 member_place object.Operand name = placed operand_rows name
 member_place object.Elements name = if bytes_eq name (codes "values") then a_series series.Values else Unknown
+member_place object.Documents name = if bytes_eq name (codes "documents") then a_series series.Names else Unknown
 
 -- what is to stand in a list
 abbrev pub item_place : Series → Place
 item_place series.Values = an_object object.Value
-item_place series.PlainWrites = an_object object.PlainWrite
 item_place series.Writes = an_object object.Write
 item_place series.Paths = a_leaf leaf.Path
 item_place series.Transforms = an_object object.Transform
+item_place series.Names = a_leaf leaf.Name
 
 abbrev pub is_unknown : Place → Bool
 is_unknown Unknown = true
@@ -176,6 +165,7 @@ required object.GetLine = codes "name" ∷ []
 required object.Update = codes "name" ∷ []
 required object.Transform = codes "fieldPath" ∷ []
 required object.ArrayTransform = codes "fieldPath" ∷ []
+required object.Documents = codes "documents" ∷ []
 required _ = []
 
 -- the name is one of these
@@ -187,7 +177,6 @@ is_among name (one ∷ others) = bytes_eq one name || is_among name others
 abbrev pub chooses : Object → Bool
 chooses object.Value = true
 chooses object.Line = true
-chooses object.PlainWrite = true
 chooses object.Write = true
 chooses object.Condition = true
 chooses object.Transform = true
@@ -198,7 +187,6 @@ chooses _ = false
 abbrev pub is_choice : Object → List ℕ → Bool
 is_choice object.Value name = not (is_unknown (placed value_rows name))
 is_choice object.Line name = true
-is_choice object.PlainWrite name = is_write_choice name
 is_choice object.Write name = is_write_choice name
 is_choice object.Condition name = not (is_unknown (placed condition_rows name))
 is_choice object.Transform name = not (is_unknown (placed transform_rows name)) && not (bytes_eq name (codes "fieldPath"))

@@ -11,13 +11,14 @@ ghost use Rattle.json_model.specs.declared.fault.JsonFault.TheVariants as json_f
 ghost use Rattle.json_model.specs.Clean.{IsClean};
 ghost use Rattle.json_model.specs.Grammar.{SpellsTime, SpellsName, SpellsText, SpellsBytesTree, SpellsReferenceTree, SpellsPathTree};
 ghost use Rattle.json_model.specs.Numbers.{SpellsWhole};
+ghost use Rattle.json_model.specs.Storable.{IsStorablePath};
 
 use crate::bytes::read_bytes;
 use crate::fault::JsonFault;
 use crate::names::{read_key, read_path, read_reference};
 use crate::numbers::read_whole;
 use crate::setting::Setting;
-use crate::texts::show_key;
+use crate::texts::{show_key, show_path};
 use document_keys::{DocumentKey, FieldPath, NoMemory};
 use serde_json::Value as Json;
 use std::alloc::Global;
@@ -154,13 +155,17 @@ pub fn clean_name(
 /// `NoMemory`
 pub fn clean_path(alloc: Global, _setting: &Setting<'_>, json: &Json) -> Result<FieldPath, NoMemory>
     requires { IsClean _setting.now (places.Leaf leaves.Path) (view json.now) }
-    ensures { IfOk result (λ path. SpellsPathTree (view json.now) path) }
+    ensures path { IfOk result (λ path. SpellsPathTree (view json.now) path) }
+    ensures storable { IfOk result IsStorablePath }
 {
     let Some(text) = json.as_str() else {
         unreachable!();
     };
     match read_path(alloc, text) {
-        Ok(path) => Ok(path),
+        Ok(path) => {
+            show_path(&path);
+            Ok(path)
+        }
         Err(fault) => Err(want_of_memory(fault)),
     }
 }

@@ -1,7 +1,7 @@
 ghost use Rattle.std.specs.Prelude.{◌≡◌, ◌≢◌, [], ◌∷◌, length, false, codes, MatchOption, option_map};
 ghost use Rattle.serde_json.specs.Find.{get_member};
 ghost use Rattle.serde_json.specs.View.{view, members_view};
-ghost use Rattle.json_model.specs.Members.{given as given_of, is_vector_map as is_vector_map_of, is_vector as is_vector_of, is_chosen as is_chosen_of, chosen as chosen_of, is_one_known, lacks_choice as lacks_choice_of, is_of_array as is_of_array_of, refined as refined_of};
+ghost use Rattle.json_model.specs.Members.{given as given_of, is_vector_map as is_vector_map_of, is_vector as is_vector_of, is_chosen as is_chosen_of, chosen as chosen_of, is_one_known, only_name as only_name_of, lacks_choice as lacks_choice_of, is_of_array as is_of_array_of, refined as refined_of};
 ghost use Rattle.json_model.specs.Places.{member_place as member_place_of, is_unknown as is_unknown_of};
 
 use crate::place::Object;
@@ -78,6 +78,16 @@ fn only_chosen(object: Object, members: &Map<String, Json>) -> Option<(&str, &Js
     only
 }
 
+/// The name of the alternative that is given; none, where there isn't just one.
+fn only_name(object: Object, members: &Map<String, Json>) -> &str
+    ensures { result.now ≡ only_name_of (chosen_of object (members_view members.now.entries)) }
+{
+    match only_chosen(object, members) {
+        Some((name, _json)) => name,
+        None => "",
+    }
+}
+
 /// The alternative that is given, with its name, where exactly one is and it is known.
 pub fn only_choice(object: Object, members: &Map<String, Json>) -> Option<(&str, &Json)>
     ensures { MatchOption result
@@ -103,23 +113,23 @@ pub(crate) fn lacks_choice(object: Object, members: &Map<String, Json>) -> bool
     only_choice(object, members).is_none()
 }
 
-/// Whether the transform's alternative is one of an array.
-fn is_of_array(members: &Map<String, Json>) -> bool
-    ensures { result ≡ is_of_array_of (members_view members.now.entries) }
+/// Whether a transform whose alternative has this name is one of an array.
+fn is_of_array(name: &str) -> bool
+    ensures { result ≡ is_of_array_of name.now }
 {
-    if given(members, "appendMissingElements").is_some() {
+    if name == "appendMissingElements" {
         return true;
     }
-    given(members, "removeAllFromArray").is_some()
+    name == "removeAllFromArray"
 }
 
-/// What object it is by its members.
+/// What object it is by its alternative.
 pub fn refined(object: Object, members: &Map<String, Json>) -> Object
     ensures { result ≡ refined_of object (members_view members.now.entries) }
 {
     match object {
-        Object::Write if given(members, "delete").is_some() => Object::DeleteWrite,
-        Object::Transform if is_of_array(members) => Object::ArrayTransform,
+        Object::Write if only_name(object, members) == "delete" => Object::DeleteWrite,
+        Object::Transform if is_of_array(only_name(object, members)) => Object::ArrayTransform,
         _ => object,
     }
 }

@@ -2,7 +2,8 @@
 
 ghost use Rattle.std.specs.Prelude.{◌≡◌, OnOk, IfOk, option_map};
 ghost use Rattle.serde_json.specs.Data.{string, put};
-ghost use Rattle.serde_json.specs.View.{view, members_view};
+ghost use Rattle.serde_json.specs.View.{view, items_view, members_view};
+ghost use Rattle.json_model.specs.Forms.{unless_empty as unless_empty_of};
 ghost use Rattle.json_model.specs.Objects.{with_given};
 
 use document_keys::NoMemory;
@@ -52,4 +53,14 @@ pub fn text_tree(alloc: Global, text: &str) -> Result<Json, NoMemory>
     ensures { IfOk result (λ json. view json ≡ string text.now) }
 {
     Ok(Json::String(String::from_str(alloc, text)?))
+}
+
+/// A list as a tree, unless it is empty.
+pub fn unless_empty(items: Vec<Json>) -> Option<Json>
+    ensures { option_map view result ≡ unless_empty_of (items_view items.items) }
+{
+    if items.is_empty() {
+        return None;
+    }
+    Some(Json::Array(items))
 }

@@ -39,8 +39,6 @@ pub enum Object {
     WriteLine,
     /// What `get` holds.
     GetLine,
-    /// A write of which an update of all fields alone is built.
-    PlainWrite,
     /// A write: an update, or by its members a `DeleteWrite`.
     Write,
     /// A write that deletes.
@@ -59,6 +57,8 @@ pub enum Object {
     Operand,
     /// The elements of a transform of an array.
     Elements,
+    /// What `documents` of a target holds: the name of its document.
+    Documents,
 }
 
 /// A list, by its items.
@@ -66,14 +66,14 @@ pub enum Object {
 pub enum Series {
     /// Values.
     Values,
-    /// Writes of which an update of all fields alone is built.
-    PlainWrites,
     /// Writes.
     Writes,
     /// Paths of fields.
     Paths,
     /// Transforms.
     Transforms,
+    /// The names of a target's documents, exactly one.
+    Names,
 }
 
 /// A tree that isn't looked into.

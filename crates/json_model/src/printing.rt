@@ -148,8 +148,12 @@ pub fn print_value(alloc: Global, value: &Value) -> Result<Json, NoMemory>
     }
 }
 
+/// The trees of values, in their order.
+///
+/// # Errors
+/// `NoMemory`
 #[cycle(print)]
-fn print_values(alloc: Global, values: &Vec<Value>) -> Result<Vec<Json>, NoMemory>
+pub fn print_values(alloc: Global, values: &Vec<Value>) -> Result<Vec<Json>, NoMemory>
     ensures { IfOk result (λ trees. items_view trees.items ≡ printed_items (items_of values.now.items)) }
 {
     let mut trees = Vec::new(alloc);

@@ -52,7 +52,7 @@ fn write_line_member(name: &str) -> Place
 {
     match name {
         "at" => Place::Leaf(Leaf::Time),
-        "writes" => Place::Series(Series::PlainWrites),
+        "writes" => Place::Series(Series::Writes),
         _ => Place::Unknown,
     }
 }
@@ -64,22 +64,6 @@ fn get_line_member(name: &str) -> Place
 {
     match name {
         "name" => Place::Leaf(Leaf::Name),
-        _ => Place::Unknown,
-    }
-}
-
-/// A write of which an update of all fields alone is built.
-#[tactic(auto, unfolding(crate::specs::Places::plain_write_rows))]
-fn plain_write_member(name: &str) -> Place
-    ensures { result ≡ table.placed table.plain_write_rows name.now }
-{
-    match name {
-        "currentDocument" => Place::Unsupported,
-        "delete" => Place::Unsupported,
-        "transform" => Place::Unsupported,
-        "update" => Place::Object(Object::Update),
-        "updateMask" => Place::Unsupported,
-        "updateTransforms" => Place::Unsupported,
         _ => Place::Unknown,
     }
 }
@@ -188,7 +172,6 @@ pub fn member_place(object: Object, name: &str) -> Place
         Object::Line => line_member(name),
         Object::WriteLine => write_line_member(name),
         Object::GetLine => get_line_member(name),
-        Object::PlainWrite => plain_write_member(name),
         Object::Write => write_member(name),
         Object::DeleteWrite => delete_write_member(name),
         Object::Update => update_member(name),
@@ -198,6 +181,7 @@ pub fn member_place(object: Object, name: &str) -> Place
         Object::ArrayTransform => transform_member(name),
         Object::Operand => operand_member(name),
         Object::Elements if name == "values" => Place::Series(Series::Values),
+        Object::Documents if name == "documents" => Place::Series(Series::Names),
         _ => Place::Unknown,
     }
 }
@@ -208,10 +192,10 @@ pub fn item_place(series: Series) -> Place
 {
     match series {
         Series::Values => Place::Object(Object::Value),
-        Series::PlainWrites => Place::Object(Object::PlainWrite),
         Series::Writes => Place::Object(Object::Write),
         Series::Paths => Place::Leaf(Leaf::Path),
         Series::Transforms => Place::Object(Object::Transform),
+        Series::Names => Place::Leaf(Leaf::Name),
     }
 }
 
@@ -225,6 +209,7 @@ pub fn required(object: Object) -> &'static [&'static str]
         Object::Update => &["name"],
         Object::Transform => &["fieldPath"],
         Object::ArrayTransform => &["fieldPath"],
+        Object::Documents => &["documents"],
         _ => &[],
     }
 }
@@ -236,7 +221,6 @@ pub fn chooses(object: Object) -> bool
     match object {
         Object::Value
         | Object::Line
-        | Object::PlainWrite
         | Object::Write
         | Object::Condition
         | Object::Transform
@@ -276,7 +260,7 @@ pub fn is_choice(object: Object, name: &str) -> bool
     match object {
         Object::Value | Object::Operand => !value_member(name).is_unknown(),
         Object::Line => true,
-        Object::PlainWrite | Object::Write => is_write_choice(name),
+        Object::Write => is_write_choice(name),
         Object::Condition => !condition_member(name).is_unknown(),
         Object::Transform => is_transform_choice(name),
         _ => false,

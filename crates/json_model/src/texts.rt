@@ -1,9 +1,10 @@
 //! What texts and names are in memory, shown where it is needed. Nothing is done when these run.
 
-ghost use Rattle.std.specs.Prelude.{◌≡◌};
+ghost use Rattle.std.specs.Prelude.{◌≡◌, ◌<◌, length, IsUtf8};
+ghost use Rattle.std.specs.List.{All};
 ghost use Rattle.value_model.specs.Storable.{IsStorableText, IsStorableSegment, IsStorableKey};
 
-use document_keys::{DocumentKey, Segment};
+use document_keys::{DocumentKey, FieldPath, Segment};
 
 /// A text is UTF-8.
 pub(crate) fn show_text(text: &str)
@@ -26,6 +27,18 @@ pub(crate) fn show_key(key: &DocumentKey)
     for i in 0..key.len() {
         if let Some(segment) = key.segment(i) {
             show_text(segment);
+        }
+    }
+}
+
+/// A path has names, which are texts.
+pub(crate) fn show_path(path: &FieldPath)
+    ensures some { 0 < length path.now }
+    ensures utf8 { All IsUtf8 path.now }
+{
+    for i in 0..path.len() {
+        if let Some(name) = path.segment(i) {
+            show_text(name);
         }
     }
 }

@@ -37,12 +37,12 @@ fn own_fault(
     Ok(None)
 }
 
-/// Whether the list must have exactly one item, since more aren't built, and hasn't.
+/// Whether the list must have exactly one item, and hasn't.
 fn lacks_only(series: Series, items: &Vec<Json>) -> bool
     ensures { result ≡ lacks_only_of series (items_view items.now.items) }
 {
     match series {
-        Series::PlainWrites => items.len() != 1,
+        Series::Names => items.len() != 1,
         _ => false,
     }
 }
@@ -56,10 +56,7 @@ fn own_list_fault(
 ) -> Result<Option<JsonFault>, NoMemory>
     ensures { IfOk result (λ found. found ≡ first_of_least (own_list_faults series name.now (items_view items.now.items))) }
 {
-    if lacks_only(series, items) {
-        return Ok(Some(JsonFault::Unsupported(Text::from_str(alloc, name)?)));
-    }
-    Ok(None)
+    bad_shape_unless(alloc, !lacks_only(series, items), name)
 }
 
 /// How many names the path under `fieldPath` has; none where it isn't a path.

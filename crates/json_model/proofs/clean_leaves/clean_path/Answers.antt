@@ -15,3 +15,6 @@ pub want_of_memory-requires : goal.want_of_memory-requires
 want_of_memory-requires c =
     let f = clean_leaf _ _ _ c.requires in
     no_path_fault _ _ (subst IsFieldPathText (sym (same_text _ _ _ c.in-Some.ensures f.1.0)) f.1.1) c.in-Err.ensures.fault
+
+pub returns-in-Ok-clause-storable : goal.returns-in-Ok-clause-storable
+returns-in-Ok-clause-storable c = record { some = c.show_path.ensures.some; few = c.in-Ok.ensures.path.few; names = c.in-Ok.ensures.path.fields; utf8 = c.show_path.ensures.utf8 }
