@@ -27,3 +27,4 @@ pub mod Spelling
 pub mod Answered
 pub mod ReadAscending
 pub mod Forms
+pub mod PrintedLists

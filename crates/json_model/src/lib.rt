@@ -44,7 +44,7 @@ pub use members::{given, only_choice, refined};
 pub use numbers::{read_integer, read_whole};
 pub use objects::{put_given, put_member, text_tree, unless_empty};
 pub use place::{Leaf, Object, Place, Series};
-pub use printing::{print_fields, print_value, print_values};
+pub use printing::{print_fields, print_value};
 pub use reading::{MAX_NESTING, clean_fields, clean_value, clean_values, read_fields, read_name};
 pub use setting::Setting;
 pub use side::Side;

@@ -148,12 +148,8 @@ pub fn print_value(alloc: Global, value: &Value) -> Result<Json, NoMemory>
     }
 }
 
-/// The trees of values, in their order.
-///
-/// # Errors
-/// `NoMemory`
 #[cycle(print)]
-pub fn print_values(alloc: Global, values: &Vec<Value>) -> Result<Vec<Json>, NoMemory>
+fn print_values(alloc: Global, values: &Vec<Value>) -> Result<Vec<Json>, NoMemory>
     ensures { IfOk result (λ trees. items_view trees.items ≡ printed_items (items_of values.now.items)) }
 {
     let mut trees = Vec::new(alloc);
