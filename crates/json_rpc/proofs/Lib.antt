@@ -1,0 +1,9 @@
+pub mod Names
+pub mod Given
+pub mod Deep
+pub mod Stored
+pub mod Once
+pub mod Parts
+pub mod ReadBack
+pub mod Digits
+pub mod Answered
