@@ -9,14 +9,15 @@ use Rattle.client_run.specs.Causes.{Causes, NoFaults}
 use Rattle.client_run.specs.Crash.{Keeps, Survives, FindsHandled, FindsAtEnd, Crashes}
 use Rattle.client_run.specs.Output.{Call, called, TookNothing}
 use Rattle.client_run.specs.Run.{Ran}
-use Rattle.client_run.specs.State.{State, LeadsTo, FindsState}
-use Rattle.client_run.specs.Store.{IsNoStore, state_of}
+use Rattle.local_store.specs.Files.{FindsState}
+use Rattle.local_store.specs.State.{State, LeadsTo}
+use Rattle.local_store.specs.Files.{IsNoStore}
 use Rattle.client_run.specs.Turned.{StandsFor}
-use Rattle.client_run.specs.declared.local_store.LocalStore.{LocalStore}
+use Rattle.local_store.specs.Store.{Store}
 use Rattle.client_run.specs.declared.reading.Reading.{Reading}
 use Rattle.client_run.specs.declared.status.Status.{Status}
 use Rattle.client_run.specs.declared.status.Status.TheVariants.{Done, Usage, SourceFault, DiskFault, SinkFault, NoMemory, NotAStore, Budget}
-use Rattle.client_run.proofs.Replayed.{find_once}
+use Rattle.local_store.proofs.Replayed.{find_once}
 use Rattle.client_run.proofs.Served.{OnlyNow, rises_as, survives_first, synced_from}
 
 -- ---- what an opening leaves
@@ -113,8 +114,8 @@ ran_from view only_now how call left out same finds settled it = record {
 }
 
 -- a store that was opened over files that find a state stands for it
-pub opened_stands : {store : LocalStore} {s : State} {files : Files} → FindsState files (state_of store) → FindsState files s → StandsFor store s []
-opened_stands {store} {s} {files} first second = record { state = find_once files (state_of store) s first second }
+pub opened_stands : {store : Store} {s : State} {files : Files} → FindsState files store.state → FindsState files s → StandsFor store s []
+opened_stands {store} {s} {files} first second = record { state = find_once files store.state s first second }
 
 -- ---- the files of a store
 

@@ -1,54 +1,36 @@
--- What a commit leaves.
-use Rattle.std.proofs.Common.{◌≡◌, ◌⊎◌, inl, inr, ⊎_elim, ℕ, ◌+◌, List, [], ◌∷◌, ◌++◌, Result, refl, sym, ap, subst, ◌∙◌}
-use Rattle.host_api.specs.declared.host.Failed.{Failed}
-use Rattle.host_api.specs.Host.{Files, View}
-use Rattle.host_api.proofs.Spans.{spans_none, spans_weaker}
+-- What a store's files find.
+use Rattle.std.proofs.Common.{◌≡◌, ◌⊎◌, inl, inr, ℕ, Option, Some, None, List, refl}
+use Rattle.std.specs.Option.{ForSome}
+use Rattle.host_api.specs.Host.{Files, View, Emits}
+use Rattle.host_api.proofs.Spans.{spans_none}
 use Rattle.disk_journal.specs.Place.{Place}
-use Rattle.disk_journal.specs.Steps.{Appends, GivesBeforeOrAfter}
-use Rattle.disk_journal.proofs.Held.{open_gives, open_crash}
-use Rattle.mutations.specs.declared.plain.PlainBatch.{PlainBatch as Batch}
-use Rattle.record_codec.specs.declared.commit.Commit.{Commit}
-use Rattle.record_codec.specs.declared.commit.Commit.TheVariants.{Enqueue}
-use Rattle.record_codec.specs.Spelling.{spelling, HasSpelling}
-use Rattle.client_run.specs.State.{State, Fits, committed, LeadsTo, FindsState}
-use Rattle.client_run.specs.Store.{IsStored, Moves, state_of}
-use Rattle.client_run.specs.declared.local_store.LocalStore.{LocalStore}
-use Rattle.client_run.proofs.Replayed.{replays_push}
+use Rattle.disk_journal.proofs.Held.{open_gives, open_crash, open_emits}
+use Rattle.local_store.specs.Files.{FindsState, Moves}
+use Rattle.local_store.specs.State.{State}
+use Rattle.local_store.specs.Store.{Store, IsOver, IsSpent, IsStored}
+
+over_finds : {s : State} {v : View} (place : Option Place) → (place ≡ None → ⊥) → ForSome place (IsOver s v) → (c : Files) → v.may_leave c → FindsState c s
+over_finds None whole is c left = absurd (whole refl)
+over_finds (Some place) whole is c left = let over = is place refl in record { generation = place.generation; payloads = over.payloads; gives = open_crash over.open_with c left; leads = over.leads }
+
+over_reads : {s : State} {v : View} (place : Option Place) → (place ≡ None → ⊥) → ForSome place (IsOver s v) → FindsState v.bytes s
+over_reads None whole is = absurd (whole refl)
+over_reads (Some place) whole is = let over = is place refl in record { generation = place.generation; payloads = over.payloads; gives = open_gives over.open_with; leads = over.leads }
 
 -- whatever a crash may leave of an open store, and what a read gives, finds its state
-pub stored_finds : {store : LocalStore} {v : View} → IsStored store v → (c : Files) → v.may_leave c → FindsState c (state_of store)
-stored_finds {store} is c left = record { generation = store.journal.generation; payloads = is.payloads; gives = open_crash is.open_with c left; leads = is.leads }
+pub stored_finds : {store : Store} {v : View} → ¬ (IsSpent store) → IsStored store v → (c : Files) → v.may_leave c → FindsState c store.state
+stored_finds {store} whole is = over_finds store.place whole is
 
-pub stored_reads : {store : LocalStore} {v : View} → IsStored store v → FindsState v.bytes (state_of store)
-stored_reads {store} is = record { generation = store.journal.generation; payloads = is.payloads; gives = open_gives is.open_with; leads = is.leads }
+pub stored_reads : {store : Store} {v : View} → ¬ (IsSpent store) → IsStored store v → FindsState v.bytes store.state
+stored_reads {store} whole is = over_reads store.place whole is
+
+-- an output leaves the store where it is
+pub emits_stored : {store : Store} {old new : View} {piece : List ℕ} → IsStored store old → Emits piece old new → IsStored store new
+emits_stored {store} is emits = λ place at. let over = is place at in record { payloads = over.payloads; open_with = open_emits over.open_with emits; leads = over.leads }
 
 -- nothing was done
-pub nothing_moves : {store : LocalStore} {v : View} (to : State) → IsStored store v → Moves (state_of store) to v v
-nothing_moves {store} {v} to is = record {
-  crash = λ c left. inl (stored_finds is c left);
-  time = spans_none v (λ o c. (o ≡ v.out) × (FindsState c (state_of store) ⊎ FindsState c to));
+pub nothing_moves : {store : Store} {v : View} (to : State) → ¬ (IsSpent store) → IsStored store v → Moves store.state to v v
+nothing_moves {store} {v} to whole is = record {
+  crash = λ c left. inl (stored_finds whole is c left);
+  time = spans_none v (λ o c. (o ≡ v.out) × (FindsState c store.state ⊎ FindsState c to));
 }
-
--- an append of a payload that leads on
-pub append_moves : {generation : ℕ} {ps : List (List ℕ)} {p : List ℕ} {appended : Result Place Failed} {old new : View} (from to : State) → LeadsTo generation ps from → LeadsTo generation (ps ++ p ∷ []) to → Appends generation ps p appended old new → Moves from to old new
-append_moves {generation} {ps} {p} {appended} {old} {new} from to before behind it = record {
-  crash = λ c left. finds c (it.crash c left);
-  time = spans_weaker (λ o c. (o ≡ old.out) × (FindsState c from ⊎ FindsState c to)) it.time (λ o c h. (h.0, finds c h.1));
-}
-  where
-    finds : (c : Files) → GivesBeforeOrAfter generation ps p c → FindsState c from ⊎ FindsState c to
-    finds c h = ⊎_elim
-        (λ gives. inl (record { generation = generation; payloads = ps; gives = gives; leads = before }))
-        (λ gives. inr (record { generation = generation; payloads = ps ++ p ∷ []; gives = gives; leads = behind }))
-        h
-
--- the frame is the payload's
-pub appends_payload : {g : ℕ} {ps : List (List ℕ)} {p q : List ℕ} {result : Result Place Failed} {old new : View} → p ≡ q → Appends g ps p result old new → Appends g ps q result old new
-appends_payload {g} {ps} {p} {q} {result} {old} {new} same it = subst (λ (r : List ℕ). Appends g ps r result old new) same it
-
--- the state after it
-pub state_more : (number next : ℕ) (old new : List Batch) (batch : Batch) (commit : Commit) → commit ≡ Enqueue batch → new ≡ old ++ batch ∷ [] → committed (record { number = number; batches = old; next_batch = next }) commit ≡ record { number = number + 1; batches = new; next_batch = next + 1 }
-state_more number next old new batch commit is pushed = ap (λ c. committed (record { number = number; batches = old; next_batch = next }) c) is ∙ ap (λ (l : List Batch). record { number = number + 1; batches = l; next_batch = next + 1 }) (sym pushed)
-
-pub leads_more : {generation : ℕ} {ps : List (List ℕ)} (s : State) (commit : Commit) → LeadsTo generation ps s → HasSpelling commit → Fits s commit → LeadsTo generation (ps ++ spelling commit ∷ []) (committed s commit)
-leads_more {ps = ps} s commit leads has fits = record { first = leads.first; replays = replays_push _ ps s (spelling commit) commit leads.replays has refl fits }

@@ -2,19 +2,14 @@
 use Rattle.std.proofs.Common.{◌≡◌, ℕ, ◌⊎◌, inl, inr, ⊎_elim, List, append-nil, sym, subst, ◌∙◌}
 use Rattle.host_api.specs.Host.{Files, View, IsPart, Emits}
 use Rattle.host_api.proofs.Spans.{spans_then, spans_weaker}
-use Rattle.disk_journal.proofs.Held.{open_emits}
-use Rattle.client_run.specs.State.{State, FindsState}
-use Rattle.client_run.specs.Store.{IsStored, Moves}
+use Rattle.local_store.specs.Files.{FindsState}
+use Rattle.local_store.specs.State.{State}
+use Rattle.local_store.specs.Files.{Moves}
 use Rattle.client_run.specs.Turned.{Turned, InTurn}
-use Rattle.client_run.specs.declared.local_store.LocalStore.{LocalStore}
 
 -- what holds of a store's state holds of the state that it stands for
 pub moves_as : {old new : View} {s t : State} {from to : State} → from ≡ s → to ≡ t → Moves from to old new → Moves s t old new
 moves_as {old} {new} {s} {t} {from} {to} one two it = subst (λ (u : State). Moves u t old new) one (subst (λ (u : State). Moves from u old new) two it)
-
--- an output leaves the store where it is
-pub emits_stored : {store : LocalStore} {old new : View} {piece : List ℕ} → IsStored store old → Emits piece old new → IsStored store new
-emits_stored is emits = record { payloads = is.payloads; open_with = open_emits is.open_with emits; leads = is.leads }
 
 -- a commit alone, in the words of a turn
 in_commit : (from to : State) (piece out o : List ℕ) (c : Files) → (o ≡ out) × (FindsState c from ⊎ FindsState c to) → InTurn from to piece out o c

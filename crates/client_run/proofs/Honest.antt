@@ -9,25 +9,29 @@ use Rattle.json.proofs.Printed.Decimals.{IsNumber-decimal}
 use Rattle.serde_json.specs.Data as json
 use Rattle.serde_json.specs.Find.{get}
 use Rattle.serde_json.specs.Written.{outline, items_outline, members_outline, compact_text}
-use Rattle.document_keys.specs.Names.{Root}
+use Rattle.document_keys.specs.Names.{Root, name_text}
 use Rattle.value_model.specs.Data as kind
 use Rattle.value_model.specs.Data.{Data, Items, Members, Entries, members_of}
-use Rattle.json_model.specs.Printed.{printed_value, printed_items, printed_members, values_tree, fields_tree}
+use Rattle.value_model.specs.declared.document.DocState.{DocState}
+use Rattle.value_model.specs.declared.document.Document.{Document}
+use Rattle.json_model.specs.Printed.{printed_value, printed_items, printed_members, values_tree, fields_tree, with_time, state_text, document_tree as body_tree}
 use Rattle.value_model.specs.declared.timestamp.Timestamp.{Timestamp}
-use Rattle.mutations.specs.declared.plain.PlainUpdate.{PlainUpdate as Write}
+use Rattle.mutations.specs.declared.write.Write.{Write}
 use Rattle.record_codec.specs.declared.commit.Commit.TheVariants.{Enqueue}
 use Rattle.record_codec.specs.Spelling.{HasSpelling}
 use Rattle.client_run.specs.Trees.{one}
-use Rattle.client_run.specs.Lines.{wrote, line_of, ok_tree, refused_tree, document_tree}
+use Rattle.client_run.specs.Lines.{wrote, line_of, ok_tree, refused_tree, existing, document_tree}
 use Rattle.client_run.specs.Reported.{IsReporting, Reports, ReportsWithin, ReportedWithin, lines_on, whole_lines}
-use Rattle.client_run.specs.State.{State, Fits, most_commits, local_document}
+use Rattle.local_store.specs.Documents.{document_of, standing_of}
+use Rattle.local_store.specs.State.{State, Fits, most_commits}
 use Rattle.client_run.specs.Turn.{Turn, Past, refused, commits, enqueued, turn, after, printed}
-use Rattle.client_run.specs.Turned.{IsSpelledReading}
+use Rattle.client_run.specs.Reading.{HasCount, HasCounts, IsStorableReading}
+use Rattle.client_run.proofs.Storable.{batch_spelled}
 use Rattle.client_run.specs.declared.event.Event.TheVariants as event
 use Rattle.client_run.specs.declared.reading.Reading.{Reading}
 use Rattle.client_run.specs.declared.reading.Reading.TheVariants.{Line, Refused}
 use Rattle.client_run.specs.declared.refusal.Refusal.{Refusal}
-use Rattle.client_run.specs.declared.refusal.Refusal.TheVariants.{LineTooLong, BadLine, TooDeep, Unsupported, BadName, IdsSpent}
+use Rattle.client_run.specs.declared.refusal.Refusal.TheVariants.{LineTooLong, BadLine, TooDeep, Unsupported, BadName, BadWrites, IdsSpent}
 use Rattle.client_run.proofs.Breaks.{open_on, lines_append, open_append, one_line, nothing_open}
 use Rattle.client_run.proofs.Parsed.{no_report, ok_within}
 
@@ -38,7 +42,7 @@ pub record IsWithin (most : ℕ) (output : List ℕ) : Type 0 where
 
 pub record IsHonest (root : Root) (number : ℕ) (s : State) (reading : Reading) (t : Turn) : Type 0 where
   pub output : IsWithin (after s t.commit).number (printed root number t)
-  pub commit : IsSpelledReading reading → IfSome t.commit (λ c. Fits s c × HasSpelling c)
+  pub commit : IsStorableReading reading → IfSome t.commit (λ c. Fits s c × HasSpelling c)
 
 -- ---- lines, one after another
 
@@ -75,13 +79,14 @@ refused_quiet reporting IsReporting.in_result e = refl
 refused_quiet reporting IsReporting.in_rejected e = refl
 refused_quiet reporting IsReporting.in_snapshot e = refl
 
-refused_within : (most line : ℕ) (refusal : Refusal) → line < 2 ^ 64 → IsWithin most (line_of (refused_tree line refusal))
-refused_within most line LineTooLong small = quiet_within most (codes "refused") _ (tt, (IsNumber-decimal line small, (IsNumber-decimal 11 (omega arith), tt))) refused_quiet
-refused_within most line (BadLine name) small = quiet_within most (codes "refused") _ (tt, (IsNumber-decimal line small, (tt, (IsNumber-decimal 1 (omega arith), tt)))) refused_quiet
-refused_within most line TooDeep small = quiet_within most (codes "refused") _ (tt, (IsNumber-decimal line small, (IsNumber-decimal 4 (omega arith), tt))) refused_quiet
-refused_within most line IdsSpent small = quiet_within most (codes "refused") _ (tt, (IsNumber-decimal line small, (IsNumber-decimal 12 (omega arith), tt))) refused_quiet
-refused_within most line (Unsupported name) small = quiet_within most (codes "refused") _ (tt, (IsNumber-decimal line small, (tt, (IsNumber-decimal 3 (omega arith), tt)))) refused_quiet
-refused_within most line (BadName bad) small = quiet_within most (codes "refused") _ (tt, (tt, (IsNumber-decimal line small, (tt, (IsNumber-decimal 2 (omega arith), tt))))) refused_quiet
+refused_within : (most line : ℕ) (refusal : Refusal) → line < 2 ^ 64 → HasCount refusal → IsWithin most (line_of (refused_tree line refusal))
+refused_within most line LineTooLong small counts = quiet_within most (codes "refused") _ (tt, (IsNumber-decimal line small, (IsNumber-decimal 11 (omega arith), tt))) refused_quiet
+refused_within most line (BadLine name) small counts = quiet_within most (codes "refused") _ (tt, (IsNumber-decimal line small, (tt, (IsNumber-decimal 1 (omega arith), tt)))) refused_quiet
+refused_within most line TooDeep small counts = quiet_within most (codes "refused") _ (tt, (IsNumber-decimal line small, (IsNumber-decimal 4 (omega arith), tt))) refused_quiet
+refused_within most line IdsSpent small counts = quiet_within most (codes "refused") _ (tt, (IsNumber-decimal line small, (IsNumber-decimal 12 (omega arith), tt))) refused_quiet
+refused_within most line (BadWrites writes) small counts = quiet_within most (codes "refused") _ (tt, (IsNumber-decimal writes counts, (IsNumber-decimal line small, (IsNumber-decimal 5 (omega arith), tt)))) refused_quiet
+refused_within most line (Unsupported name) small counts = quiet_within most (codes "refused") _ (tt, (IsNumber-decimal line small, (tt, (IsNumber-decimal 3 (omega arith), tt)))) refused_quiet
+refused_within most line (BadName bad) small counts = quiet_within most (codes "refused") _ (tt, (tt, (IsNumber-decimal line small, (tt, (IsNumber-decimal 2 (omega arith), tt))))) refused_quiet
 
 -- ---- a document
 
@@ -114,37 +119,44 @@ document_quiet reporting IsReporting.in_result e = refl
 document_quiet reporting IsReporting.in_rejected e = refl
 document_quiet reporting IsReporting.in_snapshot e = refl
 
-document_within : (most : ℕ) (root : Root) (key : List (List ℕ)) (document : Option Entries) → IsWithin most (line_of (document_tree root key document))
-document_within most root key None = quiet_within most (codes "document") _ (tt, (tt, (tt, tt))) document_quiet
-document_within most root key (Some []) = quiet_within most (codes "document") _ (tt, (tt, (tt, tt))) document_quiet
-document_within most root key (Some (field ∷ fields)) = quiet_within most (codes "document") _ (tt, (members_numbers (members_of (field ∷ fields)), (tt, (tt, tt)))) document_quiet
+time_numbers : (at : Option Timestamp) → MembersHaveNumbers (members_outline (with_time at))
+time_numbers None = tt
+time_numbers (Some time) = (tt, tt)
+
+existing_numbers : (name how : List ℕ) (fields : Entries) (at : Option Timestamp) → HasNumbers (outline (existing (body_tree name fields at how)))
+existing_numbers name how [] at = (tt, (tt, (tt, time_numbers at)))
+existing_numbers name how (field ∷ fields) at = (tt, (members_numbers (members_of (field ∷ fields)), (tt, (tt, time_numbers at))))
+
+document_within : (most : ℕ) (root : Root) (key : List (List ℕ)) (document : Option Document) (how : DocState) → IsWithin most (line_of (document_tree root key document how))
+document_within most root key None how = quiet_within most (codes "document") _ (tt, (tt, (tt, tt))) document_quiet
+document_within most root key (Some found) how = quiet_within most (codes "document") _ (existing_numbers (name_text root key) (state_text how) found.fields found.update_time) document_quiet
 
 -- ---- each turn
 
-refused_honest : (root : Root) (number : ℕ) (s : State) (reading : Reading) (refusal : Refusal) → number < 2 ^ 64 → IsHonest root number s reading (refused refusal)
-refused_honest root number s reading refusal long = record {
-  output = within_one s.number (line_of (refused_tree number refusal)) (refused_within s.number number refusal long);
+refused_honest : (root : Root) (number : ℕ) (s : State) (reading : Reading) (refusal : Refusal) → number < 2 ^ 64 → HasCount refusal → IsHonest root number s reading (refused refusal)
+refused_honest root number s reading refusal long counts = record {
+  output = within_one s.number (line_of (refused_tree number refusal)) (refused_within s.number number refusal long counts);
   commit = λ spelled. tt;
 }
 
-enqueued_honest : (root : Root) (number : ℕ) (s : State) (at : Timestamp) (write : Write) → s.next_batch ≤ s.number + 1 → number < 2 ^ 64 → IsHonest root number s (Line (event.Write at write)) (enqueued s at write)
-enqueued_honest root number s at write next long = by_number (nat_lt s.number most_commits) refl
+enqueued_honest : (root : Root) (number : ℕ) (s : State) (at : Timestamp) (writes : List Write) → s.next_batch ≤ s.number + 1 → number < 2 ^ 64 → IsHonest root number s (Line (event.Write at writes)) (enqueued s at writes)
+enqueued_honest root number s at writes next long = by_number (nat_lt s.number most_commits) refl
   where
     by_number : (left : Bool) → nat_lt s.number most_commits ≡ left
-        → IsHonest root number s (Line (event.Write at write)) (if left then commits (Enqueue (record { id = s.next_batch; at = at; write = write })) (wrote s.next_batch (s.number + 1) ∷ []) else refused IdsSpent)
+        → IsHonest root number s (Line (event.Write at writes)) (if left then commits (Enqueue (record { id = s.next_batch; at = at; writes = writes })) (wrote s.next_batch (s.number + 1) ∷ []) else refused IdsSpent)
     by_number true is =
         let few : s.number < most_commits = ltb-true s.number most_commits is in
         record {
           output = within_one (s.number + 1) (line_of (ok_tree s.next_batch (s.number + 1))) (line_within (s.number + 1) (ok_tree s.next_batch (s.number + 1)) (ok_within s.next_batch (s.number + 1) (omega (arith, few, next)) (omega (arith, few))));
-          commit = λ spelled. ((refl, few), record { id = omega (arith, few, next); at = spelled.0; write = spelled.1 });
+          commit = λ holds. ((record { id = refl; some = holds.1.some; most = holds.1.few }, few), batch_spelled s.next_batch at writes (omega (arith, few, next)) holds.0 holds.1);
         }
-    by_number false is = refused_honest root number s (Line (event.Write at write)) IdsSpent long
+    by_number false is = refused_honest root number s (Line (event.Write at writes)) IdsSpent long tt
 
-pub turn_honest : (root : Root) (number : ℕ) (s : State) (past : Past) (reading : Reading) → s.next_batch ≤ s.number + 1 → number < 2 ^ 64 → IsHonest root number s reading (turn root s past reading)
+pub turn_honest : (root : Root) (number : ℕ) (s : State) (past : Past) (reading : Reading) → s.next_batch ≤ s.number + 1 → number < 2 ^ 64 → HasCounts reading → IsHonest root number s reading (turn root s past reading)
 unfolding turn
-turn_honest root number s past (Refused refusal) next long = refused_honest root number s (Refused refusal) refusal long
-turn_honest root number s past (Line (event.Write at write)) next long = enqueued_honest root number s at write next long
-turn_honest root number s past (Line (event.Get key)) next long = record {
-  output = within_one s.number (line_of (document_tree root key (local_document s.batches key))) (document_within s.number root key (local_document s.batches key));
+turn_honest root number s past (Refused refusal) next long counts = refused_honest root number s (Refused refusal) refusal long counts
+turn_honest root number s past (Line (event.Write at writes)) next long counts = enqueued_honest root number s at writes next long
+turn_honest root number s past (Line (event.Get key)) next long counts = record {
+  output = within_one s.number (line_of (document_tree root key (document_of s key) (standing_of s key))) (document_within s.number root key (document_of s key) (standing_of s key));
   commit = λ spelled. tt;
 }

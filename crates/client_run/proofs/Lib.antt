@@ -4,10 +4,9 @@ pub mod Committed
 pub mod Handled
 pub mod Honest
 pub mod OneReading
-pub mod Opened
 pub mod Parsed
-pub mod Replayed
 pub mod Served
+pub mod Storable
 pub mod Surviving
 pub mod Wording
 pub mod Lined

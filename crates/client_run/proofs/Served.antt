@@ -13,14 +13,16 @@ use Rattle.document_keys.specs.Names.{Root}
 use Rattle.client_run.specs.Causes.{Causes, IsServed}
 use Rattle.client_run.specs.Crash.{Keeps, IsAsBefore, Synced, FindsHandled, FindsNext, FindsAtEnd, Survives, Crashes}
 use Rattle.client_run.specs.Output.{Call, past_of, out_after, next_text, TookNext, EndsAs}
-use Rattle.client_run.specs.Reading.{Reads, AreRead}
+use Rattle.client_run.specs.Reading.{Reads, AreRead, HasCounts, IsStorableReading}
 use Rattle.client_run.specs.Run.{Ran, LeavesAll, Kept}
-use Rattle.client_run.specs.State.{State, FindsState}
-use Rattle.client_run.specs.Store.{IsStored, state_of}
+use Rattle.local_store.specs.Files.{FindsState}
+use Rattle.local_store.specs.State.{State}
+use Rattle.local_store.specs.Store.{IsSpent, IsStored}
 use Rattle.client_run.specs.Turn.{Past, run, one_more, next_turn, turn, heard, now, after, printed, output_of, commits_of, after_all}
 use Rattle.client_run.specs.Turned.{StandsFor, Turned, Writes, TurnCounts, state_then, heard_then, status_of}
-use Rattle.client_run.specs.declared.local_store.LocalStore.{LocalStore}
+use Rattle.local_store.specs.Store.{Store}
 use Rattle.client_run.specs.declared.reading.Reading.{Reading}
+use Rattle.client_run.specs.declared.reading.Reading.TheVariants.{Line as an_event, Refused}
 use Rattle.client_run.specs.declared.turn_fault.TurnFault.{TurnFault}
 use Rattle.client_run.specs.declared.turn_fault.TurnFault.TheVariants as fault
 use Rattle.client_run.specs.declared.status.Status.{Status}
@@ -41,10 +43,10 @@ run_length root first past (y ∷ ys) = omega (arith, run_length root first (one
 pub record Starts (s : State) (v : View) : Type 0 where
   pub finds : (c : Files) → v.may_leave c → FindsState c s
 
-stored_starts : {store : LocalStore} {s : State} {past : Past} {v : View} → IsStored store v → StandsFor store s past → Starts s v
-stored_starts is stands = record { finds = λ c left. subst (FindsState c) stands.state (stored_finds is c left) }
+stored_starts : {store : Store} {s : State} {past : Past} {v : View} → ¬ (IsSpent store) → IsStored store v → StandsFor store s past → Starts s v
+stored_starts whole is stands = record { finds = λ c left. subst (FindsState c) stands.state (stored_finds whole is c left) }
 
-pub record Serving (call : Call) (done : ℕ) (rest : List Item) (store : LocalStore) (old v : View) : Type 0 where
+pub record Serving (call : Call) (done : ℕ) (rest : List Item) (store : Store) (old v : View) : Type 0 where
   pub readings : List Reading
   pub count : length readings ≡ done
   pub read : AreRead call.root call.items readings
@@ -57,8 +59,8 @@ pub record Serving (call : Call) (done : ℕ) (rest : List Item) (store : LocalS
   pub time : IsTrue call.tells_out → Spans old v (Survives call)
 
 -- nothing was handled yet
-pub served_none : (call : Call) (store : LocalStore) (v : View) → call.out ≡ v.out → IsStored store v → StandsFor store call.first [] → Serving call 0 call.items store v v
-served_none call store v same is stands = record {
+pub served_none : (call : Call) (store : Store) (v : View) → call.out ≡ v.out → ¬ (IsSpent store) → IsStored store v → StandsFor store call.first [] → Serving call 0 call.items store v v
+served_none call store v same whole is stands = record {
   readings = [];
   count = refl;
   read = tt;
@@ -67,7 +69,7 @@ served_none call store v same is stands = record {
   stands = stands;
   wrote = λ told. sym same ∙ sym (append-nil call.out);
   fine = fine_none call.root call.first;
-  starts = stored_starts is stands;
+  starts = stored_starts whole is stands;
   time = λ out. spans_none v (Survives call);
 }
 
@@ -109,7 +111,7 @@ next_from root items readings reading item rest read is one =
       left_over = sym others ∙ ap (λ k. drop k items) place;
     }
 
-pub next_read : {call : Call} {done : ℕ} {rest : List Item} {store : LocalStore} {old v : View} (it : Serving call done rest store old v)
+pub next_read : {call : Call} {done : ℕ} {rest : List Item} {store : Store} {old v : View} (it : Serving call done rest store old v)
     (line : Line) (text shown : List ℕ) (more : List Item) (reading : Reading) → (line ≡ End → ⊥) → shown ≡ text → Next (item_of line text) rest more → Reads call.root (item_of line shown) reading → Nexts call.root call.items it.readings reading more
 next_read {call} {rest = rest} it line text shown more reading open_still same next one =
     next_from call.root call.items it.readings reading (item_of line text) more it.read (ap (λ k. drop k call.items) it.count ∙ sym it.left_over ∙ next_item line text rest more open_still next) (subst (λ (t : List ℕ). Reads call.root (item_of line t) reading) same one)
@@ -118,25 +120,25 @@ took_next : {call : Call} {readings : List Reading} {reading : Reading} {left : 
 took_next nexts = record { below = nexts.below; others = nexts.left_over }
 
 -- the source was read to its end
-pub all_done : {call : Call} {done : ℕ} {rest : List Item} {store : LocalStore} {old v : View} → Serving call done rest store old v
+pub all_done : {call : Call} {done : ℕ} {rest : List Item} {store : Store} {old v : View} → Serving call done rest store old v
     → (line : Line) (text : List ℕ) (more : List Item) → line ≡ End → Next (item_of line text) rest more → done ≡ length call.items
 all_done {call} {done = done} {rest = rest} it line text more is next =
     let ended = subst (λ (l : Line). Next (item_of l text) rest more) is next in
     let none : length (drop done call.items) ≡ 0 = ap length (sym it.left_over ∙ ended.0) in
     omega (arith, length-drop done call.items, none, it.within)
 
-pub none_left : {call : Call} {done : ℕ} {rest : List Item} {store : LocalStore} {old v : View} → Serving call done rest store old v
+pub none_left : {call : Call} {done : ℕ} {rest : List Item} {store : Store} {old v : View} → Serving call done rest store old v
     → (line : Line) (text : List ℕ) (more : List Item) → line ≡ End → Next (item_of line text) rest more → more ≡ drop done call.items
 none_left {rest = rest} it line text more is next =
     let ended = subst (λ (l : Line). Next (item_of l text) rest more) is next in
     ended.1 ∙ sym ended.0 ∙ it.left_over
 
 -- what was taken of so many items, as of those that were handled
-pub taken_as : {call : Call} {done : ℕ} {rest : List Item} {store : LocalStore} {old v : View} (it : Serving call done rest store old v) {more : List Item} → more ≡ drop done call.items → more ≡ drop (length it.readings) call.items
+pub taken_as : {call : Call} {done : ℕ} {rest : List Item} {store : Store} {old v : View} (it : Serving call done rest store old v) {more : List Item} → more ≡ drop done call.items → more ≡ drop (length it.readings) call.items
 taken_as {call} it is = is ∙ ap (λ k. drop k call.items) (sym it.count)
 
 -- an item was taken
-pub took_one : {call : Call} {done : ℕ} {rest : List Item} {store : LocalStore} {old v : View} (it : Serving call done rest store old v)
+pub took_one : {call : Call} {done : ℕ} {rest : List Item} {store : Store} {old v : View} (it : Serving call done rest store old v)
     → (line : Line) (text : List ℕ) (left : List ℕ) → (line ≡ End → ⊥) → Next (item_of line text) rest (split left) → TookNext call it.readings left
 took_one {call} {done = done} {rest = rest} it line text left open_still next =
     let front : drop done call.items ≡ item_of line text ∷ split left = sym it.left_over ∙ next_item line text rest (split left) open_still next in
@@ -151,7 +153,7 @@ pub stays_none : (v : View) → Stays v v
 stays_none v = record { bytes = refl; crash = λ c left. left; time = spans_none v (λ o c. (o ≡ v.out) × v.may_leave c) }
 
 -- the files find the state after every handled item
-finds_handled : {call : Call} {done : ℕ} {rest : List Item} {store : LocalStore} {old v : View} (it : Serving call done rest store old v) (c : Files) → FindsState c (now call.first (past_of call it.readings)) → FindsHandled call it.readings c
+finds_handled : {call : Call} {done : ℕ} {rest : List Item} {store : Store} {old v : View} (it : Serving call done rest store old v) (c : Files) → FindsState c (now call.first (past_of call it.readings)) → FindsHandled call it.readings c
 finds_handled it c finds = subst (FindsState c) it.fine.state finds
 
 -- since now, only what may come now has come
@@ -178,19 +180,19 @@ synced_from how call readings {old} {mid} {new} only_now out same stays finds sp
 }
 
 -- a run that stops between two items
-pub stops : {call : Call} {done : ℕ} {rest : List Item} {store : LocalStore} {old new : View} (how : Status) (left : List ℕ) (it : Serving call done rest store old new) → OnlyNow old → call.out ≡ old.out → IsStored store new
+pub stops : {call : Call} {done : ℕ} {rest : List Item} {store : Store} {old new : View} (how : Status) (left : List ℕ) (it : Serving call done rest store old new) → OnlyNow old → call.out ≡ old.out → ¬ (IsSpent store) → IsStored store new
     → EndsAs how call it.readings left new.out → ((c : Files) → FindsHandled call it.readings c → FindsAtEnd how call it.readings c) → Ran call how left old new
-stops {call} {old = old} how left it only_now same is ends leaves = record {
+stops {call} {old = old} how left it only_now same whole is ends leaves = record {
   readings = it.readings;
   read = it.read;
   within = omega (arith, it.within, it.count);
   ends = ends;
   crash = λ out. inl (synced_from how call it.readings only_now same refl (stays_none old) it.starts.finds (it.time out)
-      (λ c left. leaves c (finds_handled it c (subst (FindsState c) it.stands.state (stored_finds is c left)))));
+      (λ c left. leaves c (finds_handled it c (subst (FindsState c) it.stands.state (stored_finds whole is c left)))));
 }
 
 -- the files read as every handled item left them
-pub leaves_all : {call : Call} {done : ℕ} {rest : List Item} {store : LocalStore} {old v : View} (it : Serving call done rest store old v) (count : ℕ) → done ≡ count → FindsState v.bytes (state_of store) → LeavesAll count call v.bytes
+pub leaves_all : {call : Call} {done : ℕ} {rest : List Item} {store : Store} {old v : View} (it : Serving call done rest store old v) (count : ℕ) → done ≡ count → FindsState v.bytes store.state → LeavesAll count call v.bytes
 leaves_all {v = v} it count many reads = record {
   readings = it.readings;
   read = it.read;
@@ -199,10 +201,12 @@ leaves_all {v = v} it count many reads = record {
 }
 
 -- what the call that handled the next item says of it
-pub record Handles (root : Root) (number : ℕ) (reading : Reading) (store : LocalStore) (result : Result LocalStore TurnFault) (tells_out : Bool) (mid new : View) : Type 0 where
+pub record Handles (root : Root) (number : ℕ) (reading : Reading) (store : Store) (result : Result Store TurnFault) (tells_out : Bool) (mid new : View) : Type 0 where
   pub stands : IfOk result (λ next. (s : State) (past : Past) → StandsFor store s past → StandsFor next (state_then root s past reading) (heard_then root s past reading))
   pub out : IsTrue tells_out → (s : State) (past : Past) → StandsFor store s past → Writes (printed root number (turn root s past reading)) result mid.out new.out
   pub files : (s : State) (past : Past) → StandsFor store s past → Turned s (state_then root s past reading) (printed root number (turn root s past reading)) mid new
+  pub next : store.state.next_batch ≤ store.state.number + 1
+  pub counts : HasCounts reading
 
 past_length : (call : Call) (readings : List Reading) (done : ℕ) → length readings ≡ done → length (past_of call readings) ≡ done
 past_length call readings done count = omega (arith, run_length call.root call.first [] readings, count)
@@ -212,21 +216,21 @@ record NextTurn (call : Call) (readings : List Reading) (reading : Reading) (mid
   pub fine : IsFine call.root call.first (one_more call.root call.first (past_of call readings) reading)
   pub turned : Turned (now call.first (past_of call readings)) (now call.first (one_more call.root call.first (past_of call readings) reading)) (next_text call readings reading) mid new
 
-next_turned : {call : Call} {done : ℕ} {rest : List Item} {store : LocalStore} {old mid new : View} {result : Result LocalStore TurnFault} (reading : Reading) (it : Serving call done rest store old mid)
+next_turned : {call : Call} {done : ℕ} {rest : List Item} {store : Store} {old mid new : View} {result : Result Store TurnFault} (reading : Reading) (it : Serving call done rest store old mid)
     → done + 1 < 2 ^ 64 → Handles call.root (done + 1) reading store result call.tells_out mid new → NextTurn call it.readings reading mid new
 next_turned {call} {done = done} {store = store} {mid = mid} {new = new} reading it few handles =
     let past = past_of call it.readings in
     let long : length past + 1 ≡ done + 1 = ap (λ n. n + 1) (past_length call it.readings done it.count) in
-    let number : (now call.first past).number ≡ store.number = ap (λ (t : State). t.number) (sym it.stands.state) in
-    let next : (now call.first past).next_batch ≡ store.next_batch = ap (λ (t : State). t.next_batch) (sym it.stands.state) in
-    let honest = turn_honest call.root (length past + 1) (now call.first past) (heard past) reading (omega (arith, number, next, store.next)) (omega (arith, long, few)) in
+    let number : (now call.first past).number ≡ store.state.number = ap (λ (t : State). t.number) (sym it.stands.state) in
+    let next : (now call.first past).next_batch ≡ store.state.next_batch = ap (λ (t : State). t.next_batch) (sym it.stands.state) in
+    let honest = turn_honest call.root (length past + 1) (now call.first past) (heard past) reading (omega (arith, number, next, handles.next)) (omega (arith, long, few)) handles.counts in
     record {
       fine = fine_more call.root call.first past reading honest it.fine;
       turned = subst (λ (n : ℕ). Turned (now call.first past) (now call.first (one_more call.root call.first past reading)) (printed call.root n (next_turn call.root call.first past reading)) mid new) (sym long) (handles.files (now call.first past) (heard past) it.stands);
     }
 
 -- a crash at any moment until the item was handled, or met a fault
-turn_spans : {call : Call} {done : ℕ} {rest more : List Item} {store : LocalStore} {old mid new : View} (reading : Reading) (it : Serving call done rest store old mid)
+turn_spans : {call : Call} {done : ℕ} {rest more : List Item} {store : Store} {old mid new : View} (reading : Reading) (it : Serving call done rest store old mid)
     → Nexts call.root call.items it.readings reading more → NextTurn call it.readings reading mid new → IsTrue call.tells_out → Spans old new (Survives call)
 turn_spans {call} {mid = mid} reading it nexts next out =
     let past = past_of call it.readings in
@@ -236,7 +240,7 @@ turn_spans {call} {mid = mid} reading it nexts next out =
     h)
 
 -- one item more was handled
-pub served_more : {call : Call} {done : ℕ} {rest more : List Item} {store next : LocalStore} {old mid new : View} (reading : Reading) (it : Serving call done rest store old mid)
+pub served_more : {call : Call} {done : ℕ} {rest more : List Item} {store next : Store} {old mid new : View} (reading : Reading) (it : Serving call done rest store old mid)
     → Nexts call.root call.items it.readings reading more → done + 1 < 2 ^ 64 → Handles call.root (done + 1) reading store (Ok next) call.tells_out mid new → Serving call (done + 1) more next old new
 served_more {call} {done = done} {next = next} {old = old} {mid = mid} {new = new} reading it nexts few handles =
     let past = past_of call it.readings in
@@ -259,7 +263,7 @@ served_more {call} {done = done} {next = next} {old = old} {mid = mid} {new = ne
     }
 
 -- what a crash leaves of a run that stops within an item
-crashes_within : {call : Call} {done : ℕ} {rest more : List Item} {store : LocalStore} {old mid new : View} (how : Status) (left : List ℕ) (reading : Reading) (it : Serving call done rest store old mid) → OnlyNow old → call.out ≡ old.out
+crashes_within : {call : Call} {done : ℕ} {rest more : List Item} {store : Store} {old mid new : View} (how : Status) (left : List ℕ) (reading : Reading) (it : Serving call done rest store old mid) → OnlyNow old → call.out ≡ old.out
     → Nexts call.root call.items it.readings reading more → NextTurn call it.readings reading mid new
     → ((c : Files) → FindsHandled call it.readings c ⊎ FindsNext call it.readings c → FindsAtEnd how call it.readings c)
     → IsTrue call.tells_out → Crashes how call it.readings left old new
@@ -271,7 +275,7 @@ crashes_within {call} {old = old} how left reading it only_now same nexts next l
     (next.turned.crash c now_left))))
 
 -- a run that stops within an item
-pub stops_within : {call : Call} {done : ℕ} {rest : List Item} {store : LocalStore} {old mid new : View} (why : TurnFault) (left : List ℕ) (reading : Reading) (it : Serving call done rest store old mid) → OnlyNow old → call.out ≡ old.out
+pub stops_within : {call : Call} {done : ℕ} {rest : List Item} {store : Store} {old mid new : View} (why : TurnFault) (left : List ℕ) (reading : Reading) (it : Serving call done rest store old mid) → OnlyNow old → call.out ≡ old.out
     → Nexts call.root call.items it.readings reading (split left) → done + 1 < 2 ^ 64 → Handles call.root (done + 1) reading store (Err why) call.tells_out mid new → done < call.budget → Ran call (status_of why) left old new
 stops_within {call} {done = done} {new = new} fault.DiskFault left reading it only_now same nexts few handles below = record {
   readings = it.readings;
@@ -360,18 +364,22 @@ causes_within fault.NoMemory source same counts = record {
   sink = rises_as same.sink (λ is. cc) (λ is. cc) counts.sink;
 }
 
-pub same_then : {old mid new : View} {next : LocalStore} → SameFaults old mid → TurnCounts (Ok next) mid new → SameFaults old new
+pub same_then : {old mid new : View} {next : Store} → SameFaults old mid → TurnCounts (Ok next) mid new → SameFaults old new
 same_then first counts = record { disk = counts.disk.stays (λ is. cc) ∙ first.disk; sink = counts.sink.stays (λ is. cc) ∙ first.sink }
 
 -- a store that is open keeps its files
-pub keeps_stored : {store : LocalStore} {v : View} → v.may_leave v.bytes → IsStored store v → Keeps v
-keeps_stored {store} reads is = record { finds = λ c left. (state_of store, stored_finds is c left); reads = reads }
+pub keeps_stored : {store : Store} {v : View} → v.may_leave v.bytes → ¬ (IsSpent store) → IsStored store v → Keeps v
+keeps_stored {store} reads whole is = record { finds = λ c left. (store.state, stored_finds whole is c left); reads = reads }
 
 -- so does a turn that met a fault
-pub keeps_within : (root : Root) (number : ℕ) (reading : Reading) (store : LocalStore) (why : TurnFault) (tells_out : Bool) (mid new : View) → new.may_leave new.bytes → Handles root number reading store (Err why) tells_out mid new → Keeps new
+pub keeps_within : (root : Root) (number : ℕ) (reading : Reading) (store : Store) (why : TurnFault) (tells_out : Bool) (mid new : View) → new.may_leave new.bytes → Handles root number reading store (Err why) tells_out mid new → Keeps new
 keeps_within root number reading store why tells_out mid new reads handles =
-    let turned = handles.files (state_of store) [] (record { state = refl }) in
+    let turned = handles.files store.state [] (record { state = refl }) in
     record {
-      finds = λ c left. ⊎_elim (λ early. (state_of store, early)) (λ late. (state_then root (state_of store) [] reading, late)) (turned.crash c left);
+      finds = λ c left. ⊎_elim (λ early. (store.state, early)) (λ late. (state_then root store.state [] reading, late)) (turned.crash c left);
       reads = reads;
     }
+
+pub counts_of : (reading : Reading) → IsStorableReading reading → HasCounts reading
+counts_of (an_event e) is = tt
+counts_of (Refused refusal) is = is

@@ -12,7 +12,8 @@ use Rattle.client_run.specs.Crash.{Survives}
 use Rattle.client_run.specs.Output.{Call, past_of, out_after}
 use Rattle.client_run.specs.Reading.{AreRead}
 use Rattle.client_run.specs.Reported.{lines_on, whole_lines, ReportsWithin, ReportedWithin}
-use Rattle.client_run.specs.State.{State, committed, FindsState}
+use Rattle.local_store.specs.Files.{FindsState}
+use Rattle.local_store.specs.State.{State, committed}
 use Rattle.client_run.specs.Turn.{Past, one_more, next_turn, now, after, printed, output_of, made, commits_of, after_all}
 use Rattle.client_run.specs.declared.reading.Reading.{Reading}
 use Rattle.client_run.proofs.Breaks.{open_on, lines_append, open_append}

@@ -5,7 +5,7 @@ use Rattle.host_api.specs.declared.host.FileId.{FileId}
 use Rattle.host_api.specs.Host.{View, Stays}
 use Rattle.host_api.specs.Items.{Item}
 use Rattle.client_run.specs.Crash.{Keeps}
-use Rattle.client_run.specs.Store.{IsRefused, IsNoStore}
+use Rattle.local_store.specs.Files.{IsRefused, IsNoStore}
 use Rattle.client_run.specs.declared.status.Status.{Status}
 use Rattle.client_run.specs.declared.status.Status.TheVariants as ended
 

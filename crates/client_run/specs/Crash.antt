@@ -4,7 +4,8 @@ use Rattle.host_api.specs.Host.{Files, View, Spans, Stays}
 use Rattle.client_run.specs.Output.{Call, past_of, TookNothing}
 use Rattle.client_run.specs.Reading.{AreRead}
 use Rattle.client_run.specs.Reported.{ReportedWithin}
-use Rattle.client_run.specs.State.{State, FindsState}
+use Rattle.local_store.specs.Files.{FindsState}
+use Rattle.local_store.specs.State.{State}
 use Rattle.client_run.specs.Turn.{commits_of, after_all}
 use Rattle.client_run.specs.declared.reading.Reading.{Reading}
 use Rattle.client_run.specs.declared.status.Status.{Status}

@@ -7,8 +7,6 @@ pub mod Output
 pub mod Reading
 pub mod Reported
 pub mod Run
-pub mod State
-pub mod Store
 pub mod Trees
 pub mod Turn
 pub mod Turned

@@ -5,7 +5,7 @@ use Rattle.host_api.specs.Host.{IsPart}
 use Rattle.host_api.specs.Items.{Item, split, IsSuffix}
 use Rattle.document_keys.specs.Names.{Root}
 use Rattle.client_run.specs.Reading.{AreRead}
-use Rattle.client_run.specs.State.{State}
+use Rattle.local_store.specs.State.{State}
 use Rattle.client_run.specs.Turn.{Past, run, next_turn, printed, output_of}
 use Rattle.client_run.specs.declared.reading.Reading.{Reading}
 use Rattle.client_run.specs.declared.status.Status.{Status}

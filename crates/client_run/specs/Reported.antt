@@ -7,7 +7,8 @@ use Rattle.serde_json.specs.Read.{read}
 use Rattle.serde_json.specs.Written.{compact_text}
 use Rattle.document_keys.specs.Names.{Root}
 use Rattle.client_run.specs.Lines.{ok_tree}
-use Rattle.client_run.specs.State.{State, most_commits}
+use Rattle.client_run.specs.Reading.{HasCounts}
+use Rattle.local_store.specs.State.{State, most_commits}
 use Rattle.client_run.specs.Turn.{Past, turn, after, printed}
 use Rattle.client_run.specs.declared.reading.Reading.{Reading}
 
@@ -60,7 +61,7 @@ ALineReportsOnce = (line : List ℕ) (a b : ℕ) (first : Reports line a) (secon
 -- can have.
 abbrev pub ATurnReportsWithin : Type 0
 ATurnReportsWithin = (root : Root) (s : State) (past : Past) (reading : Reading) (number : ℕ)
-    → s.number ≤ most_commits → s.next_batch ≤ s.number + 1 → number < 2 ^ 64
+    → s.number ≤ most_commits → s.next_batch ≤ s.number + 1 → number < 2 ^ 64 → HasCounts reading
     → ReportedWithin (after s (turn root s past reading).commit).number (printed root number (turn root s past reading))
 
 -- the printed answer of a write reports its commit

@@ -4,7 +4,7 @@ use Rattle.host_api.specs.Host.{Files, View}
 use Rattle.client_run.specs.Crash.{Crashes, state_after}
 use Rattle.client_run.specs.Output.{Call, EndsAs}
 use Rattle.client_run.specs.Reading.{AreRead}
-use Rattle.client_run.specs.State.{FindsState}
+use Rattle.local_store.specs.Files.{FindsState}
 use Rattle.client_run.specs.declared.reading.Reading.{Reading}
 use Rattle.client_run.specs.declared.status.Status.{Status}
 use Rattle.client_run.specs.declared.status.Status.TheVariants as ended

@@ -3,7 +3,7 @@
 use Rattle.std.specs.Prelude.{ℕ, ◌+◌, List, [], ◌∷◌, ◌++◌, length, fold, Option, Some, None, is_none, nat_lt, if◌then◌else◌}
 use Rattle.document_keys.specs.Names.{Root}
 use Rattle.value_model.specs.declared.timestamp.Timestamp.{Timestamp}
-use Rattle.mutations.specs.declared.plain.PlainUpdate.{PlainUpdate as Write}
+use Rattle.mutations.specs.declared.write.Write.{Write}
 use Rattle.record_codec.specs.declared.commit.Commit.{Commit}
 use Rattle.record_codec.specs.declared.commit.Commit.TheVariants.{Enqueue}
 use Rattle.client_run.specs.declared.event.Event.TheVariants as event
@@ -11,7 +11,8 @@ use Rattle.client_run.specs.declared.reading.Reading.{Reading}
 use Rattle.client_run.specs.declared.reading.Reading.TheVariants.{Line, Refused}
 use Rattle.client_run.specs.declared.refusal.Refusal.{Refusal}
 use Rattle.client_run.specs.declared.refusal.Refusal.TheVariants.{IdsSpent}
-use Rattle.client_run.specs.State.{State, committed, most_commits, local_document}
+use Rattle.local_store.specs.Documents.{document_of, standing_of}
+use Rattle.local_store.specs.State.{State, committed, most_commits}
 use Rattle.client_run.specs.Lines.{Out, wrote, document, text_of, refusal_text}
 
 pub record Turn : Type 0 where
@@ -40,18 +41,18 @@ answered lines = record { refusal = None; commit = None; lines = lines }
 abbrev pub commits : Commit → List Out → Turn
 commits commit lines = record { refusal = None; commit = Some commit; lines = lines }
 
--- a write is the next batch, where a number is left for its commit
-abbrev pub enqueued : State → Timestamp → Write → Turn
-enqueued s at write =
+-- the writes are the next batch, where a number is left for its commit
+abbrev pub enqueued : State → Timestamp → List Write → Turn
+enqueued s at writes =
     if nat_lt s.number most_commits
-    then commits (Enqueue (record { id = s.next_batch; at = at; write = write })) (wrote s.next_batch (s.number + 1) ∷ [])
+    then commits (Enqueue (record { id = s.next_batch; at = at; writes = writes })) (wrote s.next_batch (s.number + 1) ∷ [])
     else refused IdsSpent
 
 -- The turn of one line, from the state before it and the lines that the client has heard.
 unfoldable pub turn : Root → State → Past → Reading → Turn
 turn root s past (Refused refusal) = refused refusal
-turn root s past (Line (event.Write at write)) = enqueued s at write
-turn root s past (Line (event.Get key)) = answered (document key (local_document s.batches key) ∷ [])
+turn root s past (Line (event.Write at writes)) = enqueued s at writes
+turn root s past (Line (event.Get key)) = answered (document key (document_of s key) (standing_of s key) ∷ [])
 
 -- what a turn writes, where this is the line's number
 abbrev pub printed : Root → ℕ → Turn → List ℕ

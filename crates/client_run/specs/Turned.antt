@@ -3,42 +3,29 @@ use Rattle.std.specs.Prelude.{◌≡◌, ◌⊎◌, ℕ, List, [], ◌++◌, map
 use Rattle.host_api.specs.Counts.{RisesAt}
 use Rattle.host_api.specs.Host.{Files, View, IsPart, Spans}
 use Rattle.document_keys.specs.Names.{Root}
-use Rattle.value_model.specs.Time.{IsMoment}
-use Rattle.record_codec.specs.Spelling.{IsSpelledWrite}
 use Rattle.client_run.specs.Lines.{Out, wrote, document}
-use Rattle.client_run.specs.State.{State, FindsState, local_document}
-use Rattle.client_run.specs.Store.{state_of}
+use Rattle.local_store.specs.Documents.{document_of, standing_of}
+use Rattle.local_store.specs.Files.{FindsState}
+use Rattle.local_store.specs.State.{State}
 use Rattle.client_run.specs.Turn.{Turn, Past, turn, after, and_heard}
 use Rattle.client_run.specs.declared.out.Out.{Out as Handed}
 use Rattle.client_run.specs.declared.out.Out.TheVariants.{Wrote, Document}
 use Rattle.client_run.specs.declared.out.Outcome.{Outcome}
 use Rattle.client_run.specs.declared.out.Outcome.TheVariants.{Done, Refuses}
-use Rattle.client_run.specs.declared.event.Event.{Event}
-use Rattle.client_run.specs.declared.event.Event.TheVariants as event
 use Rattle.client_run.specs.declared.reading.Reading.{Reading}
-use Rattle.client_run.specs.declared.reading.Reading.TheVariants.{Line, Refused}
-use Rattle.client_run.specs.declared.local_store.LocalStore.{LocalStore}
+use Rattle.local_store.specs.Store.{Store}
 use Rattle.client_run.specs.declared.taken.Taken.{Taken}
-use Rattle.client_run.specs.declared.local_store.StoreFault.{StoreFault}
-use Rattle.client_run.specs.declared.local_store.StoreFault.TheVariants as store_fault
+use Rattle.client_run.specs.declared.turn_fault.CommitFault.{CommitFault}
+use Rattle.client_run.specs.declared.turn_fault.CommitFault.TheVariants as commit_fault
 use Rattle.client_run.specs.declared.turn_fault.TurnFault.{TurnFault}
 use Rattle.client_run.specs.declared.turn_fault.TurnFault.TheVariants as fault
 use Rattle.client_run.specs.declared.status.Status.{Status}
 use Rattle.client_run.specs.declared.status.Status.TheVariants as status
 
--- a write that was read has a spelling as a commit
-abbrev pub IsSpelledEvent : Event → Type 0
-IsSpelledEvent (event.Write at write) = IsMoment at × IsSpelledWrite write
-IsSpelledEvent (event.Get key) = Unit {0}
-
-abbrev pub IsSpelledReading : Reading → Type 0
-IsSpelledReading (Line e) = IsSpelledEvent e
-IsSpelledReading (Refused refusal) = Unit {0}
-
 -- The client stands for this state and for these lines, which it has heard. Each thing that it keeps beside the state is to
 -- be a field here, read off the lines.
-pub record StandsFor (store : LocalStore) (s : State) (past : Past) : Type 0 where
-  pub state : state_of store ≡ s
+pub record StandsFor (store : Store) (s : State) (past : Past) : Type 0 where
+  pub state : store.state ≡ s
 
 -- the state after the turn of a line, and the lines that were heard then
 abbrev pub state_then : Root → State → Past → Reading → State
@@ -50,7 +37,7 @@ heard_then root s past reading = and_heard (record { state = s; reading = readin
 -- a line as the state shows it
 abbrev pub shown : State → Handed → Out
 shown s (Wrote batch commit) = wrote batch commit
-shown s (Document key) = document key (local_document s.batches key)
+shown s (Document key) = document key (document_of s key) (standing_of s key)
 
 -- what was handed out is the turn's refusal, or its lines, as this state shows them
 abbrev pub IsOutcome : Outcome → State → Turn → Type 0
@@ -60,7 +47,7 @@ IsOutcome (Refuses refusal) s t = (t.refusal ≡ Some refusal) × (t.lines ≡ [
 -- What was handed out for a line: what the client then stands for, and the lines of the turn.
 pub record HandsOut (root : Root) (s : State) (past : Past) (reading : Reading) (taken : Taken) : Type 0 where
   pub stands : StandsFor taken.store (state_then root s past reading) (heard_then root s past reading)
-  pub outcome : IsOutcome taken.outcome (state_of taken.store) (turn root s past reading)
+  pub outcome : IsOutcome taken.outcome taken.store.state (turn root s past reading)
 
 -- During a turn a crash finds the state from before it at the output from before it, or the state after its commit at the
 -- output with a part of its lines.
@@ -72,20 +59,20 @@ pub record Turned (from to : State) (piece : List ℕ) (old new : View) : Type 0
   pub time : Spans old new (InTurn from to piece old.out)
 
 -- The lines of a turn went out whole; at a sink fault a part of them; at any other fault none.
-abbrev pub Writes : List ℕ → Result LocalStore TurnFault → List ℕ → List ℕ → Type 0
+abbrev pub Writes : List ℕ → Result Store TurnFault → List ℕ → List ℕ → Type 0
 Writes piece (Ok next) old new = new ≡ old ++ piece
 Writes piece (Err fault.SinkFault) old new = IsPart piece old new
 Writes piece (Err _) old new = new ≡ old
 
 -- each count rose just where its fault is told
-pub record TurnCounts (result : Result LocalStore TurnFault) (old new : View) : Type 0 where
+pub record TurnCounts (result : Result Store TurnFault) (old new : View) : Type 0 where
   pub disk : RisesAt (IsErrOf result fault.DiskFault) old.disk_faults new.disk_faults
   pub sink : RisesAt (IsErrOf result fault.SinkFault) old.sink_faults new.sink_faults
 
 -- the fault of a turn whose commit failed
-abbrev pub turn_fault_of : StoreFault → TurnFault
-turn_fault_of store_fault.DiskFault = fault.DiskFault
-turn_fault_of store_fault.NoMemory = fault.NoMemory
+abbrev pub turn_fault_of : CommitFault → TurnFault
+turn_fault_of commit_fault.DiskFault = fault.DiskFault
+turn_fault_of commit_fault.NoMemory = fault.NoMemory
 
 -- how a run ends that meets this fault
 abbrev pub status_of : TurnFault → Status

@@ -1,12 +1,15 @@
 use document_keys::DocumentKey;
-use mutations::PlainUpdate as Write;
+use mutations::Writes;
 use value_model::Timestamp;
+
+/// How many writes may be made at once.
+pub const MAX_WRITES: u64 = 500;
 
 /// What a line asks of the client.
 #[derive(Debug, Drop)]
 pub enum Event {
-    /// A local write, with its local write time.
-    Write { at: Timestamp, write: Write },
+    /// Local writes that are made at once, with their local write time.
+    Write { at: Timestamp, writes: Writes },
     /// The document of a key.
     Get(DocumentKey),
 }

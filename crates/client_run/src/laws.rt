@@ -3,10 +3,8 @@
 ghost use Rattle.std.specs.Prelude.{◌≡◌};
 ghost use Rattle.host_api.specs.Items.{Item};
 ghost use Rattle.document_keys.specs.Names.{Root};
-ghost use Rattle.client_run.specs.State.{TwoFilesFindOnce};
 ghost use Rattle.client_run.specs.Reading.{Reads};
 ghost use Rattle.client_run.specs.Reported.{ALineReportsOnce, OkReports, ATurnReportsWithin};
-ghost use Rattle.client_run.specs.Store.{RefusedFilesAreNoStore};
 ghost use Rattle.client_run.specs.declared.reading.Reading.{Reading};
 
 /// An item of the source has one reading. Nothing is done when it runs.
@@ -23,14 +21,4 @@ pub fn a_line_reports_once()
 /// No whole line that a turn writes reports a number above that of the state after its commit.
 pub fn a_turn_reports_within()
     ensures { ATurnReportsWithin }
-{}
-
-/// Two files find at most one state, which has its number.
-pub fn two_files_find_once()
-    ensures { TwoFilesFindOnce }
-{}
-
-/// Files that are refused as no store find no state.
-pub fn refused_files_are_no_store()
-    ensures { RefusedFilesAreNoStore }
 {}

@@ -11,7 +11,6 @@ mod event;
 mod laws;
 mod line;
 mod lines;
-mod local_store;
 mod out;
 mod reading;
 mod refusal;
@@ -23,9 +22,6 @@ mod turn_fault;
 mod words;
 
 pub use client::run_client;
-pub use laws::{
-    a_line_reports_once, a_turn_reports_within, one_reading, refused_files_are_no_store,
-    two_files_find_once,
-};
+pub use laws::{a_line_reports_once, a_turn_reports_within, one_reading};
 pub use run::run_within;
 pub use status::Status;

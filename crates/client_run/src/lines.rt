@@ -1,21 +1,23 @@
-ghost use Rattle.std.specs.Prelude.{◌≡◌, ℕ, List, map, true, false, IfOk, Option, Some, option_copied};
+ghost use Rattle.std.specs.Prelude.{◌≡◌, map, false, codes, IfOk};
 ghost use Rattle.std.specs.String.{string_bytes};
 ghost use Rattle.serde_json.specs.View.{view};
 ghost use Rattle.serde_json.specs.Written.{has_float};
-ghost use Rattle.document_keys.specs.Names.{Root, name_text};
-ghost use Rattle.client_run.specs.Store.{state_of};
+ghost use Rattle.json_model.specs.Printed.{printed_document};
+ghost use Rattle.local_store.specs.Documents.{document_of, standing_of};
+
 ghost use Rattle.client_run.specs.Turn.{Turn, printed};
 ghost use Rattle.client_run.specs.Turned.{shown, IsOutcome};
-ghost use Rattle.client_run.specs.Lines.{line_of, tree_of, text_of, ok_tree, too_long_tree, bad_line_tree, too_deep_tree, ids_spent_tree, unsupported_tree, bad_name_tree, naming_text as naming_text_of, refused_tree, missing_tree, empty_tree, found_tree, document_tree};
+ghost use Rattle.client_run.specs.Lines.{line_of, tree_of, text_of, ok_tree, too_long_tree, bad_line_tree, too_deep_tree, ids_spent_tree, bad_writes_tree, unsupported_tree, bad_name_tree, naming_text as naming_text_of, refused_tree, missing_tree, existing, document_tree};
+ghost use Rattle.client_run.specs.Trees.{one};
 
-use crate::local_store::LocalStore;
 use crate::out::{Out, Outcome};
 use crate::refusal::Refusal;
 use document_keys::{Database, DocumentKey, NoMemory};
-use json_model::{NamingFault, print_fields};
+use json_model::{NamingFault, print_document as print_members, put_member, state_text};
+use local_store::{LocalStore, documents_are_local};
 use serde_json::{Value as Json, json};
 use std::alloc::{AllocError, Global};
-use value_model::Fields;
+use value_model::{DocRef, Documents};
 
 /// The tree as a line, with its newline.
 #[tactic(auto, unfolding(crate::specs::Lines::line_of))]
@@ -72,6 +74,12 @@ fn ids_spent_json(alloc: Global, line: u64) -> Result<Json, AllocError>
     json!(in alloc; {"refused": {"cause": "IdsSpent", "line": line, "number": 12u64}})
 }
 
+fn bad_writes_json(alloc: Global, line: u64, count: u64) -> Result<Json, AllocError>
+    ensures { IfOk result (λ json. view json ≡ bad_writes_tree line count) }
+{
+    json!(in alloc; {"refused": {"cause": "BadWrites", "count": count, "line": line, "number": 5u64}})
+}
+
 fn naming_text(fault: NamingFault) -> &'static str
     ensures { result.now ≡ naming_text_of fault }
 {
@@ -99,6 +107,7 @@ fn print_refusal(alloc: Global, line: u64, refusal: &Refusal) -> Result<String, 
         Refusal::BadLine(member) => bad_line_json(alloc, line, member.as_str())?,
         Refusal::TooDeep => too_deep_json(alloc, line)?,
         Refusal::IdsSpent => ids_spent_json(alloc, line)?,
+        Refusal::BadWrites { count } => bad_writes_json(alloc, line, *count)?,
         Refusal::Unsupported(member) => unsupported_json(alloc, line, member.as_str())?,
         Refusal::BadName(bad) => {
             bad_name_json(alloc, line, naming_text(bad.fault), bad.name.as_str())?
@@ -107,52 +116,48 @@ fn print_refusal(alloc: Global, line: u64, refusal: &Refusal) -> Result<String, 
     print_line(alloc, &json)
 }
 
-fn missing_json(alloc: Global, name: &str) -> Result<Json, AllocError>
-    ensures { IfOk result (λ json. view json ≡ missing_tree name.now) }
+fn missing_json(alloc: Global, name: &str, state: &str) -> Result<Json, AllocError>
+    ensures { IfOk result (λ json. view json ≡ missing_tree name.now state.now) }
 {
-    json!(in alloc; {"document": {"exists": false, "name": name, "state": "unknown"}})
+    json!(in alloc; {"document": {"exists": false, "name": name, "state": state}})
 }
 
-fn empty_json(alloc: Global, name: &str) -> Result<Json, AllocError>
-    ensures { IfOk result (λ json. view json ≡ empty_tree name.now) }
+fn document_json(alloc: Global, members: Json) -> Result<Json, AllocError>
+    ensures { IfOk result (λ json. view json ≡ one (codes "document") (view members)) }
 {
-    json!(in alloc; {"document": {"exists": true, "name": name, "state": "pending"}})
+    json!(in alloc; {"document": members})
 }
 
-fn found_json(alloc: Global, name: &str, fields: Json) -> Result<Json, AllocError>
-    ensures { IfOk result (λ json. view json ≡ found_tree name.now (view fields)) }
-{
-    json!(in alloc; {"document": {"exists": true, "fields": fields, "name": name, "state": "pending"}})
-}
-
-fn document_json(alloc: Global, name: &str, fields: &Fields) -> Result<Json, NoMemory>
+/// The members of a document that is there.
+fn existing_json(alloc: Global, root: &Database, doc: DocRef<'_>) -> Result<Json, NoMemory>
+    ensures tree { IfOk result (λ json. view json ≡ existing (printed_document root.now doc.entry.key.now doc.entry.fields.now doc.entry.update_time doc.entry.state)) }
     ensures digits { IfOk result (λ json. has_float (view json) ≡ false) }
-    ensures tree { IfOk result (λ json. (root : Root) (key : List (List ℕ)) → name.now ≡ name_text root key
-        → view json ≡ document_tree root key (Some fields.now)) }
 {
-    if fields.len() == 0 {
-        return Ok(empty_json(alloc, name)?);
-    }
-    let fields = print_fields(alloc, fields)?;
-    Ok(found_json(alloc, name, fields)?)
+    let Json::Object(mut members) = print_members(alloc, root, doc)? else {
+        unreachable!();
+    };
+    put_member(alloc, &mut members, "exists", Json::Bool(true))?;
+    Ok(Json::Object(members))
 }
 
-/// The answer of a get, for the document as it stands with the pending writes.
+/// The answer of a get, for the document as the store shows it.
 fn print_document(
     alloc: Global,
     root: &Database,
+    store: &LocalStore,
     key: &DocumentKey,
-    document: Option<&Fields>,
 ) -> Result<String, NoMemory>
-    ensures { IfOk result (λ line.
-        string_bytes line ≡ line_of (document_tree root.now key.now (option_copied document.entry))) }
+    ensures { IfOk result (λ line. string_bytes line ≡ line_of (document_tree root.now key.now
+        (document_of store.now.state key.now) (standing_of store.now.state key.now))) }
 {
-    let name = key.print(alloc, root)?;
-    let Some(fields) = document else {
-        let json = missing_json(alloc, name.as_str())?;
-        return print_line(alloc, &json);
+    documents_are_local();
+    let json = match store.document(key) {
+        Some(doc) => document_json(alloc, existing_json(alloc, root, doc)?)?,
+        None => {
+            let name = key.print(alloc, root)?;
+            missing_json(alloc, name.as_str(), state_text(store.state_of(key)))?
+        }
     };
-    let json = document_json(alloc, name.as_str(), fields)?;
     print_line(alloc, &json)
 }
 
@@ -163,11 +168,11 @@ fn print_out(
     store: &LocalStore,
     out: &Out,
 ) -> Result<String, NoMemory>
-    ensures { IfOk result (λ line. string_bytes line ≡ line_of (tree_of root.now (shown (state_of store.now) out.now))) }
+    ensures { IfOk result (λ line. string_bytes line ≡ line_of (tree_of root.now (shown store.now.state out.now))) }
 {
     match out {
         Out::Wrote { batch, commit } => print_ok(alloc, *batch, *commit),
-        Out::Document(key) => print_document(alloc, root, key, store.document(key)),
+        Out::Document(key) => print_document(alloc, root, store, key),
     }
 }
 
@@ -178,7 +183,7 @@ fn print_lines(
     store: &LocalStore,
     outs: &[Out],
 ) -> Result<String, NoMemory>
-    ensures { IfOk result (λ text. string_bytes text ≡ text_of root.now (map (shown (state_of store.now)) outs.now)) }
+    ensures { IfOk result (λ text. string_bytes text ≡ text_of root.now (map (shown store.now.state) outs.now)) }
 {
     let mut text = String::new(alloc);
     for out in outs {
@@ -196,7 +201,7 @@ pub fn print_outcome(
     number: u64,
     outcome: &Outcome,
 ) -> Result<String, NoMemory>
-    ensures { IfOk result (λ text. (t : Turn) → IsOutcome outcome.now (state_of store.now) t
+    ensures { IfOk result (λ text. (t : Turn) → IsOutcome outcome.now store.now.state t
         → string_bytes text ≡ printed root.now number t) }
 {
     match outcome {

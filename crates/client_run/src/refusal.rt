@@ -18,6 +18,8 @@ pub enum Refusal {
     Unsupported(Text),
     /// Number 2: a name breaks the rules of names.
     BadName(BadName),
+    /// Number 5: the line has no writes, or more than 500.
+    BadWrites { count: u64 },
     /// Number 12: no number is left for the commit of the line.
     IdsSpent,
 }

@@ -4,17 +4,19 @@ ghost use Rattle.client_run.specs.Causes.{Causes, Completes, IsForeign, LeavesFo
 ghost use Rattle.client_run.specs.Crash.{Keeps};
 ghost use Rattle.client_run.specs.Output.{called};
 ghost use Rattle.client_run.specs.Run.{Ran, Kept};
-ghost use Rattle.client_run.specs.State.{State, FindsState};
-ghost use Rattle.client_run.specs.Store.{IsStored, IsNoStore};
+ghost use Rattle.local_store.specs.Files.{FindsState};
+ghost use Rattle.local_store.specs.State.{State};
+ghost use Rattle.local_store.specs.Files.{IsNoStore};
+ghost use Rattle.local_store.specs.Store.{IsSpent, IsStored};
 ghost use Rattle.client_run.specs.Turned.{StandsFor};
 
 use crate::line::read_item;
-use crate::local_store::LocalStore;
 use crate::status::Status;
 use crate::taken::handle;
 use disk_journal::OpenFault;
 use document_keys::Database;
 use host_api::{Host, Line, Source, SourceFault};
+use local_store::LocalStore;
 use std::alloc::Global;
 
 /// Reads and handles the lines of the source, one after another, at most as many as the budget.
@@ -27,6 +29,7 @@ fn serve<S: Source, H: Host>(
     budget: u64,
 ) -> Status
     requires stored { IsTrue H.tells_files → IsStored store (H.view host.old) }
+    requires whole { ¬ (IsSpent store) }
     ensures run { IsTrue S.tells → IsTrue H.tells_files → (s : State) → StandsFor store s []
         → Ran (called root.now (S.left source.old) s budget H.tells_out (H.view host.old).out)
         result (S.left source.new) (H.view host.old) (H.view host.new) }

@@ -1,10 +1,10 @@
 ghost use Rattle.std.specs.Prelude.{◌≡◌};
 ghost use Rattle.client_run.specs.Turned.{turn_fault_of, status_of};
 
-use crate::local_store::StoreFault;
 use crate::status::Status;
 use document_keys::NoMemory;
 use host_api::Failed;
+use std::alloc::AllocFailed;
 
 /// Why a line wasn't handled to its end.
 #[derive(Clone, Copy, Debug, PartialEq, Eq)]
@@ -17,13 +17,42 @@ pub enum TurnFault {
     NoMemory,
 }
 
-impl From<StoreFault> for TurnFault {
+/// Why a line's commit wasn't made.
+#[derive(Clone, Copy, Debug, PartialEq, Eq)]
+pub enum CommitFault {
+    /// The disk failed, and the host counted it. The commit may have been made.
+    DiskFault,
+    /// No memory was found. Nothing was written.
+    NoMemory,
+}
+
+impl From<NoMemory> for CommitFault {
+    ghost use Rattle.client_run.specs.declared.turn_fault.CommitFault.TheVariants as fault;
+
+    ghost from_gives = { λ _ e. e ≡ fault.NoMemory };
+
+    fn from(_error: NoMemory) -> CommitFault {
+        CommitFault::NoMemory
+    }
+}
+
+impl<T: Drop> From<AllocFailed<T>> for CommitFault {
+    ghost use Rattle.client_run.specs.declared.turn_fault.CommitFault.TheVariants as fault;
+
+    ghost from_gives = { λ _ e. e ≡ fault.NoMemory };
+
+    fn from(_error: AllocFailed<T>) -> CommitFault {
+        CommitFault::NoMemory
+    }
+}
+
+impl From<CommitFault> for TurnFault {
     ghost from_gives = { λ fault e. e ≡ turn_fault_of fault };
 
-    fn from(fault: StoreFault) -> TurnFault {
+    fn from(fault: CommitFault) -> TurnFault {
         match fault {
-            StoreFault::DiskFault => TurnFault::DiskFault,
-            StoreFault::NoMemory => TurnFault::NoMemory,
+            CommitFault::DiskFault => TurnFault::DiskFault,
+            CommitFault::NoMemory => TurnFault::NoMemory,
         }
     }
 }

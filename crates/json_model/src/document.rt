@@ -90,7 +90,8 @@ fn print_parts(
     print_filled(alloc, name, printed, update_time, state)
 }
 
-fn state_text(state: DocState) -> &'static str
+/// How a state is printed.
+pub fn state_text(state: DocState) -> &'static str
     ensures { result.now ≡ state_text_of state }
 {
     match state {

@@ -34,7 +34,7 @@ pub use clean_leaves::{
     clean_boolean, clean_bytes, clean_integer, clean_name, clean_path, clean_reference, clean_text,
     clean_time,
 };
-pub use document::print_document;
+pub use document::{print_document, state_text};
 pub use fault::{BadName, JsonFault, NamingFault, better};
 pub use laws::{
     a_tree_spells_once, faults_are_one, fits_without_faults, no_fault_spells,

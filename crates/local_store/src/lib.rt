@@ -15,3 +15,4 @@ mod replay;
 pub use fault::StoreFault;
 pub use laws::{documents_are_local, refused_files_are_no_store, two_files_find_once};
 pub use local_store::LocalStore;
+pub use replay::MOST_COMMITS;

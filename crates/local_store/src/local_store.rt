@@ -1,11 +1,11 @@
-ghost use Rattle.std.specs.Prelude.{◌≡◌, ◌≢◌, ◌⊎◌, ◌↔◌, IsTrue, IfOk, IfErr, IsErrOf, OnErr, OnOk, Err};
+ghost use Rattle.std.specs.Prelude.{◌≡◌, ◌≢◌, ◌⊎◌, ◌↔◌, ◌+◌, ◌≤◌, IsTrue, IfOk, IfErr, IsErrOf, OnErr, OnOk, Err};
 ghost use Rattle.host_api.specs.Counts.{RisesAt};
 ghost use Rattle.host_api.specs.Host.{KeepsOut};
 ghost use Rattle.disk_journal.specs.Steps.{Opens, SettlesFirst};
 ghost use Rattle.record_codec.specs.Spelling.{HasSpelling, spelling};
 ghost use Rattle.local_store.specs.Documents.{standing_of};
 ghost use Rattle.local_store.specs.Files.{FindsState, Moves, Refuses};
-ghost use Rattle.local_store.specs.State.{Fits, committed};
+ghost use Rattle.local_store.specs.State.{Fits, committed, most_commits};
 ghost use Rattle.local_store.specs.Store.{IsFoundIn, IsSpent, IsStored};
 
 use crate::fault::StoreFault;
@@ -95,7 +95,9 @@ impl LocalStore {
 
     /// The number of commits.
     pub fn number(&self) -> u64
-        ensures { result ≡ self.now.state.number }
+        ensures number { result ≡ self.now.state.number }
+        ensures within { self.now.state.number ≤ most_commits }
+        ensures next { self.now.state.next_batch ≤ self.now.state.number + 1 }
     {
         self.number
     }

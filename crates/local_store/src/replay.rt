@@ -13,7 +13,7 @@ use record_codec::{Commit, decode};
 use std::alloc::Global;
 
 /// The greatest number that a commit may have.
-const MOST_COMMITS: u64 = 9_223_372_036_854_775_807;
+pub const MOST_COMMITS: u64 = 9_223_372_036_854_775_807;
 
 /// The most writes that a batch may have.
 const MOST_WRITES: usize = 500;

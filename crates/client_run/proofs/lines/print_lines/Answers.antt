@@ -3,8 +3,8 @@ use Rattle.std.proofs.lemmas.List.{take_more, map-append}
 use Rattle.std.proofs.lemmas.Grind.{flat_map-append}
 use Rattle.document_keys.specs.Names.{Root}
 use Rattle.client_run.specs.Lines.{Out, line_of, tree_of, text_of}
-use Rattle.client_run.specs.State.{State}
-use Rattle.client_run.specs.Store.{state_of}
+use Rattle.local_store.specs.State.{State}
+
 use Rattle.client_run.specs.Turned.{shown}
 use Rattle.client_run.specs.declared.out.Out.{Out as Handed}
 use Rattle.client_run.proofs.lines.print_lines.Goals as goal
@@ -21,7 +21,7 @@ text_more root s outs i out below item =
 
 pub loop-out-preserved : goal.loop-out-preserved
 loop-out-preserved c =
-    let more = text_more c.args.root.now (state_of c.args.store.now) _ c.loop-out.out-index c.out-item.result c.loop-out-test.true c.out-item.is in
+    let more = text_more c.args.root.now c.args.store.now.state _ c.loop-out.out-index c.out-item.result c.loop-out-test.true c.out-item.is in
     let line = c.as_str.ensures.value ∙ c.in_ok-line.ensures in
     let pushed = c.in_ok-push_str.ensures.bytes in
     cc

@@ -2,7 +2,7 @@ use Rattle.std.proofs.Common.{inr, refl, subst, List, ℕ}
 use Rattle.client_run.specs.Output.{called}
 use Rattle.client_run.specs.Run.{Ran, Kept}
 use Rattle.client_run.proofs.Began.{disk_first, memory_first, ran_from, opened_stands, opens_keeps, kept_is_store, causes_from, completed}
-use Rattle.client_run.proofs.Opened.{refused_is_none, no_store_stays}
+use Rattle.local_store.proofs.Opened.{refused_is_none, no_store_stays}
 use Rattle.client_run.proofs.run.run_within.Goals as goal
 
 pub returns-in-Err-DiskFault-clause-run : goal.returns-in-Err-DiskFault-clause-run

@@ -1,13 +1,10 @@
-use Rattle.std.proofs.Common.{◌≡◌, [], true, sym, ap, subst, ◌∙◌}
+use Rattle.std.proofs.Common.{◌≡◌, true, sym, subst}
 use Rattle.client_run.specs.Grammar.{is_line}
-use Rattle.client_run.proofs.Lined.{line_place, no_line, built_write}
+use Rattle.client_run.proofs.Lined.{line_place, no_line}
 use Rattle.client_run.proofs.tree.build_event.Goals as goal
 
 pub build_line-requires-clause-line : goal.build_line-requires-clause-line
 build_line-requires-clause-line c = subst (λ p. is_line p ≡ true) (sym c.in-Object.ensures) (line_place _ _ _ c.clean_choice.ensures.known c.clean_choice.ensures.clean)
-
-pub build_line-requires-clause-built : goal.build_line-requires-clause-built
-build_line-requires-clause-built c = λ is. built_write _ _ _ _ _ c.clean_object-members.ensures.is c.clean_choice.ensures.only c.in-Object.ensures is c.requires.built
 
 pub unreachable-requires : goal.unreachable-requires
 unreachable-requires c = no_line _ (subst (λ p. is_line p ≡ true) (sym c.member_place.ensures) (line_place _ _ _ c.clean_choice.ensures.known c.clean_choice.ensures.clean)) c.in_default.not-Object

@@ -1,5 +1,0 @@
-use Rattle.client_run.proofs.Opened.{refused_is_none}
-use Rattle.client_run.proofs.laws.refused_files_are_no_store.Goals as goal
-
-pub returns : goal.returns
-returns c = refused_is_none
