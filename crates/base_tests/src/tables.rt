@@ -95,7 +95,12 @@ fn check_order(rt: &impl Abort, queue: &MutationQueue) {
 fn batches_leave_in_order(rt: HostRuntime) -> Result<(), Fail> {
     let mut queue = three_batches(rt.alloc())?;
     check_order(&rt, &queue);
-    check_removed(&rt, &mut queue, 1, &[("a", true), ("b", true), ("c", false)])?;
+    check_removed(
+        &rt,
+        &mut queue,
+        1,
+        &[("a", true), ("b", true), ("c", false)],
+    )?;
     check_removed(&rt, &mut queue, 2, &[("a", true), ("b", false)])?;
     check_removed(&rt, &mut queue, 3, &[("a", false), ("b", false)])?;
     assert!(rt; queue.remove_first().is_none());

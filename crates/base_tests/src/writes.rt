@@ -1,7 +1,7 @@
 //! Copies of writes.
 
 use crate::fixtures::{key, number, put};
-use mutations::PlainUpdate;
+use mutations::{Mask, Precondition, Transforms, Write};
 use std::alloc::Global;
 use std::test::Fail;
 use value_model::Fields;
@@ -12,17 +12,38 @@ fn fields(alloc: Global) -> Result<Fields, Fail> {
     Ok(fields)
 }
 
-fn write(alloc: Global) -> Result<PlainUpdate, Fail> {
-    let key = key(alloc, &["rooms", "a"])?;
-    let fields = fields(alloc)?;
-    Ok(PlainUpdate { key, fields })
+fn write(alloc: Global) -> Result<Write, Fail> {
+    Ok(Write::Update {
+        key: key(alloc, &["rooms", "a"])?,
+        fields: fields(alloc)?,
+        mask: Some(Mask::from_vec(Vec::new(alloc))),
+        transforms: Transforms::from_vec(Vec::new(alloc)),
+        condition: Precondition::Exists(false),
+    })
+}
+
+fn is_copied(copy: &Write) -> bool {
+    let Write::Update {
+        key,
+        fields,
+        mask,
+        transforms,
+        condition,
+    } = copy
+    else {
+        return false;
+    };
+    key.len() == 2
+        && fields.name_at(0) == Some("n")
+        && fields.len() == 1
+        && mask.is_some()
+        && transforms.as_slice().is_empty()
+        && matches!(condition, Precondition::Exists(false))
 }
 
 #[test]
 fn copied_write(rt: HostRuntime) -> Result<(), Fail> {
     let copy = write(rt.alloc())?.copy(rt.alloc())?;
-    assert!(rt; copy.key.len() == 2);
-    assert!(rt; copy.fields.len() == 1);
-    assert!(rt; copy.fields.name_at(0) == Some("n"));
+    assert!(rt; is_copied(&copy));
     Ok(())
 }

@@ -2,8 +2,8 @@
 //!
 //! A `Write` updates or deletes one document. An update may have a mask, the paths that it speaks of, and transforms, which
 //! change a field by what stands there. Both have a precondition. `Mask`, `Transforms`, `Values` and `Writes` are lists that
-//! contracts see as such. A `Batch` is what was taken at once. `PlainUpdate` and `PlainBatch` are what the journal and the
-//! client know of these today: one update of all fields.
+//! contracts see as such. A `Batch` is what was taken at once. `apply_local` says what a write makes of a document until the
+//! backend has answered: of each path (`specs/Effect.antt`, `specs/Masks.antt`), and as a function (`specs/Local.antt`).
 #![tactic(auto)]
 
 mod batch;
@@ -12,7 +12,6 @@ mod effect;
 mod laws;
 mod lists;
 mod mask;
-mod plain;
 mod transform;
 mod write;
 
@@ -20,6 +19,5 @@ pub use batch::{Batch, Writes};
 pub use effect::apply_local;
 pub use laws::{appends_hold, changes_hold, masks_hold, removes_hold};
 pub use lists::{Mask, Values};
-pub use plain::{PlainBatch, PlainUpdate};
 pub use transform::{Change, Transform, Transforms};
 pub use write::{Precondition, Write};
