@@ -5,7 +5,8 @@
     journal_reader.py compare [--program P] [--pairs N] [--seed S]
                                                   N random pairs of damaged files: does the program say the same?
 
-It shares nothing with the program: it is another reader of the same description, so that a mistake in one of them shows.
+It shares nothing with the program: it is another reader of the same description, so that a mistake in one of them shows. What
+writes make of documents is effects.py's.
 """
 import argparse
 import base64
@@ -20,12 +21,14 @@ import tempfile
 sys.dont_write_bytecode = True
 sys.path.insert(0, os.path.dirname(os.path.dirname(os.path.abspath(__file__))))
 from client import NAME_FRONT, find_program, get_line, memory_folder, run_lines  # noqa: E402
+from readers.effects import Documents  # noqa: E402
 
 MAGIC = b"FSJRNL1"
 OPEN = 1
 HEADER = 16
 FIRST_SECOND, LAST_SECOND = -62135596800, 253402300799
 DEEPEST = 20
+MOST_NAMES, MOST_WRITES = 21, 500
 
 
 class Foreign(Exception):
@@ -116,16 +119,43 @@ def spell_fields(fields):
 def spell_value(value):
     kind, content = value
     body = {0: lambda: b"", 1: lambda: bytes([content]), 2: lambda: struct.pack(">q", content), 3: lambda: struct.pack(">qI", *content),
+            4: lambda: struct.pack(">qI", *content),
             5: lambda: spell_text(content), 6: lambda: spell_text(content),
             7: lambda: spell_text(content[0]) + spell_text(content[1]) + spell_list(list(map(spell_text, content[2]))),
             8: lambda: spell_list(list(map(spell_value, content))), 9: lambda: spell_fields(content)}
     return bytes([kind]) + body[kind]()
 
 
-def spell_enqueue(batch, seconds, nanos, key, fields):
-    """The bytes of an Enqueue commit. The key is a list of segments, the fields are pairs of a name and a value."""
-    parts = [b"\1\1", batch.to_bytes(8, "big"), struct.pack(">qI", seconds, nanos), (1).to_bytes(8, "big"), b"\1"]
-    return b"".join(parts) + spell_list(list(map(spell_text, key))) + spell_fields(fields) + b"\0" + bytes(8) + b"\0"
+def spell_path(names):
+    return spell_list(list(map(spell_text, names)))
+
+
+def spell_condition(condition):
+    """None, a boolean, or a time as a pair of seconds and nanoseconds."""
+    if condition is None:
+        return b"\0"
+    return b"\2" + struct.pack(">qI", *condition) if isinstance(condition, tuple) else b"\1" + bytes([condition])
+
+
+def spell_transform(path, kind, operand):
+    """A transform of its kind's byte; its operand is None, a number, or a list of values."""
+    rest = b"" if operand is None else struct.pack(">q", operand) if isinstance(operand, int) else spell_list(list(map(spell_value, operand)))
+    return spell_path(path) + bytes([kind]) + rest
+
+
+def spell_update(key, fields, mask=None, transforms=(), condition=None):
+    """An update. The key is a list of segments, the fields are pairs of a name and a value, the mask is a list of paths."""
+    spelled_mask = b"\0" if mask is None else b"\1" + spell_list(list(map(spell_path, mask)))
+    return b"\1" + spell_path(key) + spell_fields(fields) + spelled_mask + spell_list([spell_transform(*each) for each in transforms]) + spell_condition(condition)
+
+
+def spell_delete(key, condition=None):
+    return b"\2" + spell_path(key) + spell_condition(condition)
+
+
+def spell_enqueue(batch, seconds, nanos, writes):
+    """The bytes of an Enqueue commit of these spelled writes."""
+    return b"\1\1" + batch.to_bytes(8, "big") + struct.pack(">qI", seconds, nanos) + spell_list(writes)
 
 
 class Reader:
@@ -238,45 +268,87 @@ def read_key(reader):
     return key
 
 
+def read_path(reader):
+    """The names of a path of a field in a write."""
+    names = read_list(reader, reader.text)
+    if not 1 <= len(names) <= MOST_NAMES or not all(map(is_field_name, names)):
+        raise NoCommit
+    return names
+
+
+def printed_path(names):
+    return ".".join("`" + name.decode().replace("\\", "\\\\").replace("`", "\\`") + "`" for name in names)
+
+
+def read_condition(reader):
+    kind = reader.take(1)[0]
+    if kind > 2:
+        raise NoCommit
+    return [lambda: None, lambda: {"exists": read_boolean(reader)}, lambda: {"updateTime": read_time(reader)}][kind]()
+
+
+def read_transform(reader):
+    """A transform, as its tree in a line."""
+    names = read_path(reader)
+    kind = reader.take(1)[0]
+    name = {1: "setToServerValue", 2: "increment", 3: "maximum", 4: "minimum", 5: "appendMissingElements", 6: "removeAllFromArray"}.get(kind)
+    if name is None or kind > 4 and len(names) > DEEPEST:
+        raise NoCommit
+    if kind == 1:
+        operand = "REQUEST_TIME"
+    elif kind < 5:
+        operand = {"integerValue": str(struct.unpack(">q", reader.take(8))[0])}
+    else:
+        operand = {"values": read_list(reader, lambda: read_value(reader, DEEPEST - len(names)))}
+    return {"fieldPath": printed_path(names), name: operand}
+
+
+def read_write(reader):
+    """A write, as its tree in a line; its name is the path of its key."""
+    kind = reader.take(1)[0]
+    if kind not in (1, 2):
+        raise NoCommit
+    name = b"/".join(read_key(reader)).decode()
+    if kind == 2:
+        return {"delete": name, "currentDocument": read_condition(reader)}
+    write = {"update": {"name": name, "fields": read_fields(reader, DEEPEST)}}
+    if read_boolean(reader):
+        write["updateMask"] = {"fieldPaths": list(map(printed_path, read_list(reader, lambda: read_path(reader))))}
+    write["updateTransforms"] = read_list(reader, lambda: read_transform(reader))
+    write["currentDocument"] = read_condition(reader)
+    return write
+
+
 def read_enqueue(payload):
-    """The batch's number, the key and the fields of an Enqueue commit."""
+    """The batch's number, its time and its writes of an Enqueue commit."""
     reader = Reader(payload)
     reader.byte(1)
     reader.byte(1)
-    batch = reader.number()
-    read_time(reader)
-    if reader.number() != 1:
-        raise NoCommit
-    reader.byte(1)
-    key = read_key(reader)
-    fields = read_fields(reader, DEEPEST)
-    reader.byte(0)
-    if reader.number() != 0:
-        raise NoCommit
-    reader.byte(0)
+    batch, at = reader.number(), read_time(reader)
+    writes = read_list(reader, lambda: read_write(reader))
     if reader.at != len(payload):
         raise NoCommit
-    return batch, tuple(key), fields
+    return batch, at, writes
 
 
 def read_store(contents):
-    """The documents of the store that the two files are, by key; None where they are none."""
+    """The documents of the store that the two files are, by the path of their key; None where they are none."""
     found = read_pair(contents)
     if found[0] == "foreign":
         return None
-    documents = {}
+    documents = Documents()
     if found[0] == "counts":
         _, _, generation, payloads, _ = found
         if generation != 1:
             return None
         for number, payload in enumerate(payloads, 1):
             try:
-                batch, key, fields = read_enqueue(payload)
+                batch, at, writes = read_enqueue(payload)
             except NoCommit:
                 return None
-            if batch != number:
+            if batch != number or not 1 <= len(writes) <= MOST_WRITES:
                 return None
-            documents[key] = fields
+            documents.take(at, writes)
     return documents
 
 
@@ -309,14 +381,32 @@ def random_value(chance, deepest):
     return kind, content
 
 
+PATHS = [[b"m"], [b"n"], [b"m", b"a"], [b"m", b"a", b"b"], [b"a b", b"`"], [b"size"]]
+
+
+def random_transform(chance):
+    kind = chance.randint(1, 6)
+    operand = None if kind == 1 else chance.choice([0, 1, -1, 2**63 - 1, -2**63]) if kind < 5 else [random_value(chance, 1) for _ in range(chance.randint(0, 3))]
+    return chance.choice(PATHS), kind, operand
+
+
+def random_write(chance):
+    key = [b"rooms", chance.choice(NAMES)]
+    condition = chance.choice([None] * 6 + [0, 1, (1714521600, 0)])
+    if chance.random() < 0.15:
+        return spell_delete(key, condition)
+    names = sorted(chance.sample([b"m", b"n", b"size", b"x1"], chance.randint(0, 3)))
+    fields = [(name, random_value(chance, chance.choice([0, 0, 1, 3]))) for name in names]
+    mask = None if chance.random() < 0.5 else [chance.choice(PATHS) for _ in range(chance.randint(0, 3))]
+    return spell_update(key, fields, mask, [random_transform(chance) for _ in range(chance.choice([0, 0, 0, 1, 2]))], condition)
+
+
 def random_store(chance):
     """The first file of a store of a few batches."""
     content = formatted(b"")
     for batch in range(1, chance.choice([0, 0, 1, 1, 2, 3, 5]) + 1):
-        names = sorted(chance.sample([b"m", b"n", b"size", b"x1"], chance.randint(0, 3)))
-        fields = [(name, random_value(chance, chance.choice([0, 0, 1, 3]))) for name in names]
-        key = [b"rooms", chance.choice(NAMES)]
-        content = appended(content, spell_enqueue(batch, 1714521600 + batch, 0, key, fields))
+        writes = [random_write(chance) for _ in range(chance.choice([1, 1, 1, 2, 3]))]
+        content = appended(content, spell_enqueue(batch, 1714521600 + batch, 0, writes))
     return content
 
 
@@ -330,7 +420,7 @@ def torn_append(chance, content):
     if found[0] != "counts":
         return content
     end = found[4]
-    piece = bytearray(appended(content, spell_enqueue(len(found[3]) + 1, 1714521600, 0, [b"rooms", b"a"], [(b"n", (2, 7))])))
+    piece = bytearray(appended(content, spell_enqueue(len(found[3]) + 1, 1714521600, 0, [spell_update([b"rooms", b"a"], [(b"n", (2, 7))])])))
     if chance.random() < 0.5:
         piece[end] = chance.choice([0, 2, 255, 1])
         return bytes(piece)
@@ -374,15 +464,30 @@ def change_length(chance, content):
     return content[:HEADER + 1] + length.to_bytes(8, "big") + content[HEADER + 9:]
 
 
+KEYS = [[b"rooms", b"a"], [b"rooms"], [], [b"r", b"a", b"s", b"b"], [b"rooms", b"__x__"], [b"rooms", b".."], [b"a/b", b"c"], [b"rooms", b"\xff"]]
+FIELDS = [[], [(b"n", (2, 1))], [(b"n", (2, 1)), (b"m", (2, 2))], [(b"n", (2, 1)), (b"n", (2, 2))], [(b"__n__", (2, 1))], [(b"", (2, 1))],
+          [(b"m", (0, None)), (b"n", (3, (LAST_SECOND + 1, 0)))], [(b"n", nested(20))], [(b"n", nested(21))], [(b"n", (5, b"\xff"))], [(b"n", (1, 2))],
+          [(b"n", (7, (b"p", b"a/b", [b"c", b"d"])))], [(b"n", (9, [(b"b", (0, None)), (b"a", (0, None))]))], [(b"n", (4, (0, 0)))]]
+ODD_PATHS = PATHS + [[], [b""], [b"__name__"], [b"a", b"__b__"], [b"a"] * 20, [b"a"] * 21, [b"a"] * 22, [b"x" * 1500], [b"x" * 1501], [b"\xff"]]
+
+
+def odd_write(chance):
+    """A write that is often none."""
+    key, condition = chance.choice(KEYS[:1] * 9 + KEYS), chance.choice([None] * 9 + [0, 1, 2, (LAST_SECOND + 1, 0), (0, 1_000_000_000)])
+    if chance.random() < 0.2:
+        return bytes([chance.choice([2, 2, 0, 3])]) + spell_delete(key, condition)[1:]
+    mask = chance.choice([None, [], [chance.choice(ODD_PATHS)], [chance.choice(PATHS)] * 2])
+    transforms = [(chance.choice(ODD_PATHS), *chance.choice([(1, None), (2, 5), (5, [nested(18)]), (6, [nested(19)]), (5, [nested(20)]), (0, None), (7, [])]))
+                  for _ in range(chance.choice([0, 0, 1]))]
+    return spell_update(key, chance.choice(FIELDS), mask, transforms, condition)
+
+
 def add_payload(chance, content):
     """A record in the grammar whose payload is often no commit, or not the next one."""
     try:
-        payload = spell_enqueue(chance.choice([1, 2, 3, 2**64 - 1]), chance.choice([0, FIRST_SECOND, FIRST_SECOND - 1, LAST_SECOND, LAST_SECOND + 1]),
-                                chance.choice([0, 999_999_999, 1_000_000_000]),
-                                chance.choice([[b"rooms", b"a"], [b"rooms"], [], [b"r", b"a", b"s", b"b"], [b"rooms", b"__x__"], [b"rooms", b".."], [b"a/b", b"c"], [b"rooms", b"\xff"]]),
-                                chance.choice([[], [(b"n", (2, 1))], [(b"n", (2, 1)), (b"m", (2, 2))], [(b"n", (2, 1)), (b"n", (2, 2))], [(b"__n__", (2, 1))], [(b"", (2, 1))],
-                                               [(b"m", (0, None)), (b"n", (3, (LAST_SECOND + 1, 0)))], [(b"n", nested(20))], [(b"n", nested(21))], [(b"n", (5, b"\xff"))], [(b"n", (1, 2))],
-                                               [(b"n", (7, (b"p", b"a/b", [b"c", b"d"])))], [(b"n", (9, [(b"b", (0, None)), (b"a", (0, None))]))]]))
+        writes = [odd_write(chance) for _ in range(chance.choice([1] * 9 + [2, 0]))] if chance.random() < 0.98 else [spell_delete([b"rooms", b"a"])] * chance.choice([500, 501])
+        payload = spell_enqueue(chance.choice([1, 2, 3, 2**64 - 1]), chance.choice([0, 0, 0, FIRST_SECOND, FIRST_SECOND - 1, LAST_SECOND, LAST_SECOND + 1]),
+                                chance.choice([0, 0, 999_999_999, 1_000_000_000]), writes)
         if chance.random() < 0.3:
             payload = chance.choice([change_byte, cut, grow])(chance, payload)
         return appended(content, payload)
@@ -419,15 +524,7 @@ def random_pair(chance):
 # ---- the comparison -----------------------------------------------------------------------------------------------
 
 def wanted_answers(documents):
-    lines = []
-    for name in NAMES:
-        fields = documents.get((b"rooms", name))
-        body = {"exists": fields is not None, "name": NAME_FRONT + "rooms/" + name.decode(),
-                "state": "unknown" if fields is None else "pending"}
-        if fields:
-            body["fields"] = fields
-        lines.append({"document": body})
-    return lines
+    return [{"document": {**documents.shown("rooms/" + name.decode()), "name": NAME_FRONT + "rooms/" + name.decode()}} for name in NAMES]
 
 
 def put_files(folder, contents):
@@ -497,8 +594,8 @@ def show(paths):
     print("file %d counts, generation %d, %d payloads, first closed gate at byte %d" % (counting, generation, len(payloads), end))
     for payload in payloads:
         try:
-            batch, key, fields = read_enqueue(payload)
-            print(batch, "/".join(part.decode() for part in key), json.dumps(fields, ensure_ascii=False))
+            batch, at, writes = read_enqueue(payload)
+            print(batch, at, json.dumps(writes, ensure_ascii=False))
         except NoCommit:
             print("no commit:", payload.hex())
     return 0

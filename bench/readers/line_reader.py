@@ -5,18 +5,16 @@
     bench/readers/line_reader.py answer [DATABASE] < LINES
 
 `compare` feeds the program the damaged lines of fuzz_lines.py, and lines that are built with several faults at once, and each
-answer must be, byte for byte, the one that this reader gives: the numbers of an `ok`, the printed document, or the number, the
-member and the name of a refusal. `answer` prints what this reader answers to lines over an empty store. The JSON itself is
-read by Python's json.
+answer must be, byte for byte, the one that this reader gives: the numbers of an `ok`, the printed document with the pending
+writes laid over it, or the number, the member and the name of a refusal. What writes make of a document is worked out here by
+what stands at each path, and not by setting one path after another. `answer` prints what this reader answers to lines over an
+empty store. The JSON itself is read by Python's json.
 """
 import argparse
-import base64
-import datetime
 import json
 import math
 import os
 import random
-import re
 import shutil
 import subprocess
 import sys
@@ -26,6 +24,7 @@ import time
 sys.dont_write_bytecode = True
 sys.path.insert(0, os.path.dirname(os.path.dirname(os.path.abspath(__file__))))
 from client import find_program, memory_folder, run_lines  # noqa: E402
+from readers.effects import Documents, given, path_names, read_bytes, read_time, read_whole  # noqa: E402
 from trials.fuzz_lines import items_of, keep, random_line, sample_lines  # noqa: E402
 
 sys.set_int_max_str_digits(0)
@@ -35,16 +34,16 @@ DEEPEST_TEXT = 127
 DEEPEST_VALUE = 20
 DATABASE = "projects/demo/databases/(default)"
 
-SHAPE, DEEP, UNSUPPORTED, NAME, LENGTH = 1, 4, 3, 2, 11
-CAUSES = {SHAPE: "BadLine", DEEP: "TooDeep", UNSUPPORTED: "Unsupported", NAME: "BadName", LENGTH: "LineTooLong"}
+SHAPE, DEEP, UNSUPPORTED, NAME, COUNT, LENGTH = 1, 4, 3, 2, 5, 11
+CAUSES = {SHAPE: "BadLine", DEEP: "TooDeep", UNSUPPORTED: "Unsupported", NAME: "BadName", COUNT: "BadWrites", LENGTH: "LineTooLong"}
 ORDER = [SHAPE, DEEP, UNSUPPORTED, NAME]
 
 UNBUILT_LINES = {"listen", "unlisten", "open", "close", "watch", "written", "timer"}
-UNBUILT_IN_WRITE = {"currentDocument", "updateMask", "updateTransforms"}
 ALTERNATIVES = ("delete", "transform", "update")
-
-TIME = re.compile(r"([0-9]{4})-([0-9]{2})-([0-9]{2})T([0-9]{2}):([0-9]{2}):([0-9]{2})(?:\.([0-9]{1,9}))?Z")
-WHOLE = re.compile(r"-?(?:0|[1-9][0-9]*)")
+ARITHMETIC = ("increment", "maximum", "minimum")
+OF_ARRAYS = ("appendMissingElements", "removeAllFromArray")
+MOST_WRITES = 500
+MOST_NAMES = 21
 
 
 class NoJson(Exception):
@@ -109,44 +108,6 @@ def read_json(line):
     return merged(tree)
 
 
-# ---- scalars ------------------------------------------------------------------------------------------------------
-
-def read_time(text):
-    """The printed form of a time, or None."""
-    found = TIME.fullmatch(text)
-    if not found:
-        return None
-    year, month, day, hour, minute, second = map(int, found.groups()[:6])
-    try:
-        datetime.datetime(year, month, day, hour, minute, second)
-    except ValueError:
-        return None
-    digits = (found.group(7) or "").rstrip("0")
-    digits += "0" * (-len(digits) % 3)
-    return text[:19] + ("." + digits if digits else "") + "Z"
-
-
-def read_whole(tree):
-    if isinstance(tree, str):
-        tree = int(tree) if WHOLE.fullmatch(tree) else None
-    if isinstance(tree, bool) or not isinstance(tree, int) or not -2**63 <= tree < 2**63:
-        return None
-    return tree
-
-
-def read_bytes(text):
-    """The printed form of base64, or None: one alphabet, whole padding or none, zero bits left over."""
-    bare = text.rstrip("=")
-    if not re.fullmatch(r"[A-Za-z0-9+/]*|[A-Za-z0-9_-]*", bare, re.ASCII) or text.endswith("\n"):
-        return None
-    whole = bare + "=" * (-len(bare) % 4)
-    if len(bare) % 4 == 1 or text not in (bare, whole):
-        return None
-    standard = whole.replace("-", "+").replace("_", "/")
-    printed = base64.b64encode(base64.b64decode(standard)).decode()
-    return printed if printed == standard else None
-
-
 # ---- names --------------------------------------------------------------------------------------------------------
 
 def is_reserved(text):
@@ -181,12 +142,22 @@ def field_name_fault(name):
     return "ReservedField" if is_reserved(name) else None
 
 
+def path_faults(name, tree):
+    """The faults of what is to be the path of a field in a write, under that name."""
+    names = path_names(tree) if isinstance(tree, str) else None
+    if not isinstance(tree, str):
+        yield (SHAPE, name)
+    elif names is None:
+        yield (NAME, "BadPath", tree)
+    elif len(names) > MOST_NAMES:
+        yield (DEEP,)
+    elif any(field_name_fault(name) == "BadPath" for name in names):
+        yield (NAME, "BadPath", tree)
+    elif any(map(is_reserved, names)):
+        yield (NAME, "ReservedField", tree)
+
+
 # ---- the walk: each yields its faults in order, as (number, member) or (NAME, fault, text) --------------------------
-
-def given(members):
-    """The members that aren't null, in the order of the bytes of their names."""
-    return [(name, members[name]) for name in sorted(members, key=str.encode) if members[name] is not None]
-
 
 def in_order(members, readers, required, unknown):
     """The faults of an object's members: those of known ones by their readers, a required one at its own place."""
@@ -281,6 +252,91 @@ def value_faults(tree, name, limit):
             yield (SHAPE, member)
 
 
+def values_faults(tree, limit):
+    if not isinstance(tree, list):
+        yield (SHAPE, "values")
+        return
+    for item in tree:
+        yield from value_faults(item, "values", limit)
+
+
+def object_faults(tree, name, readers, required=()):
+    if not isinstance(tree, dict):
+        yield (SHAPE, name)
+        return
+    yield from in_order(tree, readers, required, bad_member)
+
+
+def mask_faults(tree):
+    def paths(items):
+        if not isinstance(items, list):
+            yield (SHAPE, "fieldPaths")
+            return
+        for item in items:
+            yield from path_faults("fieldPaths", item)
+    yield from object_faults(tree, "updateMask", {"fieldPaths": paths})
+
+
+def condition_faults(tree):
+    if isinstance(tree, dict) and sum(tree.get(name) is not None for name in ("exists", "updateTime")) != 1:
+        yield (SHAPE, "currentDocument")
+        return
+
+    def exists(inner):
+        if not isinstance(inner, bool):
+            yield (SHAPE, "exists")
+
+    def update_time(inner):
+        if not isinstance(inner, str) or read_time(inner) is None:
+            yield (SHAPE, "updateTime")
+    yield from object_faults(tree, "currentDocument", {"exists": exists, "updateTime": update_time})
+
+
+def operand_faults(name, tree):
+    """A value that is a whole number. One of another kind, or of two, is a fault under the transform's own name."""
+    if isinstance(tree, dict):
+        kinds = [kind for kind in tree if kind in SCALARS + NEVER + ("arrayValue", "mapValue") and tree[kind] is not None]
+        if kinds not in (["integerValue"], ["doubleValue"]):
+            yield (SHAPE, name)
+            return
+
+    def unsupported(inner):
+        yield (UNSUPPORTED, "doubleValue")
+    yield from object_faults(tree, name, {"integerValue": lambda inner: scalar_faults("integerValue", inner), "doubleValue": unsupported})
+
+
+def transform_faults(tree):
+    chosen = [name for name in ARITHMETIC + OF_ARRAYS + ("setToServerValue",) if isinstance(tree, dict) and tree.get(name) is not None]
+    if len(chosen) != 1:
+        yield (SHAPE, "updateTransforms")
+        return
+    path = tree.get("fieldPath")
+    names = path_names(path) if isinstance(path, str) else None
+    limit = DEEPEST_VALUE
+    if chosen[0] in OF_ARRAYS and names is not None:
+        limit -= len(names)
+        if limit < 0:
+            yield (DEEP,)
+
+    def server_time(inner):
+        if inner != "REQUEST_TIME":
+            yield (SHAPE, "setToServerValue")
+    readers = {"fieldPath": lambda inner: path_faults("fieldPath", inner), "setToServerValue": server_time}
+    for name in ARITHMETIC:
+        readers[name] = lambda inner, name=name: operand_faults(name, inner)
+    for name in OF_ARRAYS:
+        readers[name] = lambda inner, name=name: object_faults(inner, name, {"values": lambda items: values_faults(items, max(limit, 0))})
+    yield from in_order(tree, readers, ("fieldPath",), bad_member)
+
+
+def transforms_faults(tree):
+    if not isinstance(tree, list):
+        yield (SHAPE, "updateTransforms")
+        return
+    for item in tree:
+        yield from transform_faults(item)
+
+
 def fields_faults(tree, limit):
     if not isinstance(tree, dict):
         yield (SHAPE, "fields")
@@ -296,56 +352,46 @@ class Reader:
 
     def __init__(self, database=DATABASE):
         self.front = database + "/documents/"
-        self.documents, self.batches = {}, 0
+        self.documents, self.batches = Documents(), 0
 
-    def name_faults(self, tree):
+    def name_faults(self, tree, name="name"):
         if not isinstance(tree, str):
-            yield (SHAPE, "name")
+            yield (SHAPE, name)
         elif path_fault(tree, self.front):
             yield (NAME, path_fault(tree, self.front), tree)
 
     def update_faults(self, tree):
-        if not isinstance(tree, dict):
-            yield (SHAPE, "update")
-            return
         readers = {"fields": lambda fields: fields_faults(fields, DEEPEST_VALUE), "name": self.name_faults}
-        yield from in_order(tree, readers, ("name",), bad_member)
+        yield from object_faults(tree, "update", readers, ("name",))
 
     def write_faults(self, tree):
-        if not isinstance(tree, dict) or sum(tree.get(name) is not None for name in ALTERNATIVES) != 1:
+        chosen = [name for name in ALTERNATIVES if isinstance(tree, dict) and tree.get(name) is not None]
+        if len(chosen) != 1:
             yield (SHAPE, "writes")
             return
 
-        def unknown(name):
-            unsupported = name in UNBUILT_IN_WRITE or name in ALTERNATIVES
-            yield (UNSUPPORTED if unsupported else SHAPE, name)
-        yield from in_order(tree, {"update": self.update_faults}, (), unknown)
+        def unsupported(inner):
+            yield (UNSUPPORTED, "transform")
+        readers = {"currentDocument": condition_faults, "delete": lambda inner: self.name_faults(inner, "delete")}
+        if chosen != ["delete"]:
+            readers.update({"update": self.update_faults, "updateMask": mask_faults, "updateTransforms": transforms_faults, "transform": unsupported})
+        yield from in_order(tree, readers, (), bad_member)
 
     def writes_faults(self, tree):
         if not isinstance(tree, list):
             yield (SHAPE, "writes")
-        elif len(tree) != 1:
-            yield (UNSUPPORTED, "writes")
-        else:
-            yield from self.write_faults(tree[0])
+            return
+        for write in tree:
+            yield from self.write_faults(write)
 
     def write_line_faults(self, tree):
-        if not isinstance(tree, dict):
-            yield (SHAPE, "write")
-            return
-
         def at(text):
             if not isinstance(text, str) or read_time(text) is None:
                 yield (SHAPE, "at")
-        yield from in_order(tree, {"at": at, "writes": self.writes_faults}, ("at",), bad_member)
-        if tree.get("writes") is None:
-            yield (UNSUPPORTED, "writes")
+        yield from object_faults(tree, "write", {"at": at, "writes": self.writes_faults}, ("at",))
 
     def get_line_faults(self, tree):
-        if not isinstance(tree, dict):
-            yield (SHAPE, "get")
-            return
-        yield from in_order(tree, {"name": self.name_faults}, ("name",), bad_member)
+        yield from object_faults(tree, "get", {"name": self.name_faults}, ("name",))
 
     def line_faults(self, tree):
         members = given(tree) if isinstance(tree, dict) else []
@@ -372,17 +418,13 @@ class Reader:
         if faults:
             return refused(number, min(faults, key=lambda fault: ORDER.index(fault[0])))
         if tree.get("write") is not None:
-            update = tree["write"]["writes"][0]["update"]
-            self.documents[update["name"]] = printed_fields(update.get("fields") or {})
+            writes = tree["write"].get("writes") or []
+            if not 1 <= len(writes) <= MOST_WRITES:
+                return refused(number, (COUNT, len(writes)))
+            self.documents.take(read_time(tree["write"]["at"]), writes)
             self.batches += 1
             return spelled({"ok": {"batch": self.batches, "commit": self.batches}})
-        name = tree["get"]["name"]
-        if name not in self.documents:
-            return spelled({"document": {"exists": False, "name": name, "state": "unknown"}})
-        body = {"exists": True, "name": name, "state": "pending"}
-        if self.documents[name]:
-            body["fields"] = self.documents[name]
-        return spelled({"document": body})
+        return spelled({"document": self.documents.shown(tree["get"]["name"])})
 
 
 # ---- what is printed ----------------------------------------------------------------------------------------------
@@ -397,33 +439,9 @@ def refused(number, fault):
         body["member"] = fault[1]
     if fault[0] == NAME:
         body["fault"], body["name"] = fault[1:]
+    if fault[0] == COUNT:
+        body["count"] = fault[1]
     return spelled({"refused": body})
-
-
-def printed_fields(tree):
-    return {name: printed_value(inner) for name, inner in given(tree)}
-
-
-def printed_value(tree):
-    kind = "nullValue"
-    for name, inner in given(tree):
-        kind = name
-    inner = tree[kind]
-    if kind == "nullValue":
-        return {kind: None}
-    if kind == "integerValue":
-        return {kind: str(read_whole(inner))}
-    if kind == "timestampValue":
-        return {kind: read_time(inner)}
-    if kind == "bytesValue":
-        return {kind: read_bytes(inner)}
-    if kind == "arrayValue":
-        values = [printed_value(item) for item in inner.get("values") or []]
-        return {kind: {"values": values} if values else {}}
-    if kind == "mapValue":
-        fields = printed_fields(inner.get("fields") or {})
-        return {kind: {"fields": fields} if fields else {}}
-    return {kind: inner}
 
 
 # ---- lines with several faults ------------------------------------------------------------------------------------
@@ -475,6 +493,54 @@ def nested_value(chance, tree):
     return tree
 
 
+PATHS = ["a", "b", "c", "a.b", "a.b.c", "a.a", "b.a", "c.a.b", "`a`", "`a`.`b`", "`1a`.a", "`\u00e9`.a", "a b".join("``"), "`\\``.a", "_"]
+WRONG_PATHS = ["", ".", "a.", ".a", "a..b", "`a", "a`", "``", "`a`b", "`\\a`", "1a", "a b", "\u00e9", "__a__", "a.__b__", "`__a__`", "__name__",
+               "__name__.a", "__", "x" * 1500, "x" * 1501, ".".join(["a"] * 20), ".".join(["a"] * 21), ".".join(["a"] * 22), ".".join(["__a__"] * 22)]
+INTEGERS = ["0", "1", "-1", "5", "9223372036854775807", "-9223372036854775808", "9223372036854775806", 3]
+
+
+def plain_value(chance, depth):
+    """A value that masks and transforms find something in."""
+    kind = chance.randrange(5)
+    if depth and kind == 0:
+        return {"mapValue": {"fields": plain_fields(chance, depth - 1)}}
+    if depth and kind == 1:
+        return {"arrayValue": {"values": [plain_value(chance, depth - 1) for _ in range(chance.randint(0, 3))]}}
+    return {"integerValue": chance.choice(INTEGERS)} if kind < 4 else dict([chance.choice(RIGHT)])
+
+
+def plain_fields(chance, depth):
+    return {name: plain_value(chance, depth) for name in chance.sample(["a", "b", "c"], chance.randint(0, 3))}
+
+
+def built_path(chance, wrong):
+    return chance.choice(WRONG_PATHS + [5, None] if chance.random() < wrong / 3 else PATHS)
+
+
+def built_elements(chance, wrong):
+    values = [plain_value(chance, 1) if chance.random() < 0.7 else built_value(chance, wrong, 2) for _ in range(chance.randint(0, 3))]
+    if values and chance.random() < 0.1:
+        values[0] = nested_value(chance, values[0])
+    return spoil(chance, wrong / 3, {"values": values})
+
+
+def built_transform(chance, wrong):
+    name = chance.choice(("setToServerValue",) + ARITHMETIC + OF_ARRAYS)
+    if name == "setToServerValue":
+        operand = "REQUEST_TIME" if chance.random() > wrong / 3 else chance.choice(["REQUEST", 1, {}])
+    elif name in OF_ARRAYS:
+        operand = built_elements(chance, wrong)
+    else:
+        operand = {"integerValue": chance.choice(INTEGERS)} if chance.random() > wrong / 3 else dict([chance.choice(WRONG + RIGHT)])
+        operand = spoil(chance, wrong / 3, operand)
+    return spoil(chance, wrong / 3, {"fieldPath": built_path(chance, wrong), name: operand})
+
+
+def built_condition(chance, wrong):
+    right = [{"exists": True}, {"exists": False}, {"updateTime": "2024-05-01T00:00:01Z"}]
+    return spoil(chance, wrong / 3, dict(chance.choice(right if chance.random() > wrong / 3 else [{"exists": 1}, {"updateTime": "x"}, {}, {"exists": True, "updateTime": "2024-05-01T00:00:01Z"}])))
+
+
 def spoil(chance, wrong, tree):
     """The object with a member more, fewer or left out by a null, with this chance each."""
     if chance.random() < wrong:
@@ -487,18 +553,36 @@ def spoil(chance, wrong, tree):
     return tree
 
 
+def built_name(chance, wrong):
+    return DATABASE + "/documents/" + chance.choice(DOCUMENT_NAMES if chance.random() < wrong else DOCUMENT_NAMES[:3])
+
+
+def built_write(chance, wrong):
+    if chance.random() < 0.1:
+        write = {"delete": built_name(chance, wrong)}
+    else:
+        fields = plain_fields(chance, 3) if chance.random() < 0.6 else built_fields(chance, wrong, 3)
+        if fields and chance.random() < 0.05:
+            deep = chance.choice(sorted(fields))
+            fields[deep] = nested_value(chance, fields[deep])
+        write = {chance.choice(["update"] * 19 + ["transform"]): spoil(chance, wrong, {"fields": fields, "name": built_name(chance, wrong)})}
+    if chance.random() < (0.5 if "delete" not in write else wrong / 3):
+        write["updateMask"] = spoil(chance, wrong / 3, {"fieldPaths": [built_path(chance, wrong) for _ in range(chance.randint(0, 4))]})
+    if chance.random() < (0.4 if "delete" not in write else wrong / 3):
+        write["updateTransforms"] = [built_transform(chance, wrong) for _ in range(chance.randint(0, 3))]
+    if chance.random() < 0.2:
+        write["currentDocument"] = built_condition(chance, wrong)
+    return spoil(chance, wrong / 2, write)
+
+
 def built_line(chance):
-    wrong = chance.choice([0, 0.05, 0.2, 0.5])
-    name = DATABASE + "/documents/" + chance.choice(DOCUMENT_NAMES if chance.random() < wrong else DOCUMENT_NAMES[:3])
+    wrong = chance.choice([0, 0, 0.05, 0.2, 0.5])
     if chance.random() < 0.4:
-        return json.dumps({"get": spoil(chance, wrong, {"name": name})}, ensure_ascii=chance.random() < 0.5).encode()
-    fields = built_fields(chance, wrong, 3)
-    if fields and chance.random() < 0.1:
-        deep = chance.choice(sorted(fields))
-        fields[deep] = nested_value(chance, fields[deep])
-    update = spoil(chance, wrong, {"fields": fields, "name": name})
-    write = spoil(chance, wrong, {chance.choice(["update"] * 9 + ["delete", "transform"]): update})
-    line = spoil(chance, wrong, {"at": chance.choice(["2024-05-01T00:00:01Z"] * 9 + ["2024-05-01"]), "writes": [write] * chance.choice([1] * 9 + [0, 2])})
+        return json.dumps({"get": spoil(chance, wrong, {"name": built_name(chance, wrong)})}, ensure_ascii=chance.random() < 0.5).encode()
+    count = chance.choice([1] * 15 + [2] * 4 + [3] * 2) if chance.random() > wrong / 10 else chance.choice([0, 500, 501])
+    writes = [built_write(chance, wrong) for _ in range(min(count, 3))]
+    writes += writes[:1] * (count - len(writes))
+    line = spoil(chance, wrong, {"at": chance.choice(["2024-05-01T00:00:01Z", "2024-05-01T00:00:02.5Z"] * 9 + ["2024-05-01"]), "writes": writes})
     return json.dumps({"write": line}, ensure_ascii=chance.random() < 0.5).encode()
 
 

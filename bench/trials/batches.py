@@ -1,9 +1,11 @@
-"""What the trials of crashes share: numbered batches, and what must be found of them. Batch b writes the number b into one of 40 documents."""
+"""What the trials of crashes share: numbered batches, and what must be found of them. Batch b leaves the number b in the one field
+of one of 40 documents, by writes of one kind or another."""
 import json
 import os
 import subprocess
 
-from client import get_line, run_lines, write_line
+from client import NAME_FRONT, get_line, run_lines
+from readers.effects import Documents
 from readers.journal_reader import get_files, read_enqueue, read_pair
 
 DOCUMENTS = 40
@@ -11,6 +13,33 @@ DOCUMENTS = 40
 
 def path_of(batch):
     return "rooms/d%d" % (batch % DOCUMENTS)
+
+
+def writes_of(name, number):
+    """Writes that leave the number, in a document that has no greater one: an update whole or masked, behind a delete, or a transform."""
+    update = {"update": {"name": name, "fields": {"n": {"integerValue": str(number)}}}}
+    if number % 4 == 1:
+        return [{**update, "updateMask": {"fieldPaths": ["n"]}}]
+    if number % 4 == 2:
+        return [{"delete": name}, update]
+    if number % 4 == 3:
+        transform = {"fieldPath": "n", "maximum": {"integerValue": str(number)}}
+        return [{"update": {"name": name}, "updateMask": {"fieldPaths": []}, "updateTransforms": [transform]}]
+    return [update]
+
+
+def batch_line(path, number):
+    """A line that leaves the number in the document's one field."""
+    line = {"write": {"at": "2024-05-01T00:00:01Z", "writes": writes_of(NAME_FRONT + path, number)}}
+    return json.dumps(line, separators=(",", ":")).encode() + b"\n"
+
+
+def is_sent(batch, writes):
+    """Whether the writes are those of the batch: they leave the batch's number in its document, and name no other."""
+    documents = Documents()
+    documents.found[path_of(batch)] = {"n": {"integerValue": "0"}}
+    documents.take("", writes)
+    return documents.found == {path_of(batch): {"n": {"integerValue": str(batch)}}}
 
 
 def check_journal(store):
@@ -21,9 +50,9 @@ def check_journal(store):
     if found[0] != "counts" or found[2] != 1:
         raise AssertionError("the files give %s" % (found[:3],))
     for number, payload in enumerate(found[3], 1):
-        batch, key, fields = read_enqueue(payload)
-        if (batch, b"/".join(key).decode(), fields) != (number, path_of(number), {"n": {"integerValue": str(number)}}):
-            raise AssertionError("record %d is batch %d of %s: %s" % (number, batch, key, fields))
+        batch, _, writes = read_enqueue(payload)
+        if batch != number or not is_sent(number, writes):
+            raise AssertionError("record %d is batch %d: %s" % (number, batch, writes))
     return len(found[3])
 
 
@@ -41,7 +70,7 @@ def check_reopened(program, store, batches):
             raise AssertionError("%s shows %d, and its newest batch is %d" % (path_of(number), shown, newest))
     if len(answers) != DOCUMENTS:
         raise AssertionError("%d answers to %d gets" % (len(answers), DOCUMENTS))
-    status, output = run_lines(program, store, [write_line(path_of(batches + 1), batches + 1)])
+    status, output = run_lines(program, store, [batch_line(path_of(batches + 1), batches + 1)])
     if status != 0 or json.loads(output) != {"ok": {"batch": batches + 1, "commit": batches + 1}}:
         raise AssertionError("the next write answers %r, status %d" % (output, status))
 

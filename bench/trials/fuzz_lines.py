@@ -25,7 +25,8 @@ from client import ROOT, find_program, get_line, memory_folder, run_lines  # noq
 from readers.journal_reader import get_files, put_files, random_pair, read_pair  # noqa: E402
 
 LONGEST = 4194304
-CAUSES = {1: ("BadLine", {"member"}), 2: ("BadName", {"fault", "name"}), 3: ("Unsupported", {"member"}), 4: ("TooDeep", set()), 11: ("LineTooLong", set())}
+CAUSES = {1: ("BadLine", {"member"}), 2: ("BadName", {"fault", "name"}), 3: ("Unsupported", {"member"}), 4: ("TooDeep", set()), 5: ("BadWrites", {"count"}),
+          11: ("LineTooLong", set())}
 NAMING_FAULTS = {"WrongRoot", "BadSegment", "OddLength", "BadPath", "ReservedField"}
 
 
@@ -96,7 +97,8 @@ def odd_value(chance):
 
 def odd_name(chance):
     return chance.choice(["", "a", "n", "name", "fields", "write", "writes", "get", "at", "update", "delete", "listen",
-                          "updateMask", "currentDocument", "transform", "integerValue", "stringValue", "bytesValue", "arrayValue", "mapValue",
+                          "updateMask", "fieldPaths", "updateTransforms", "fieldPath", "increment", "maximum", "appendMissingElements", "removeAllFromArray",
+                          "setToServerValue", "currentDocument", "exists", "updateTime", "transform", "integerValue", "stringValue", "bytesValue", "arrayValue", "mapValue",
                           "values", "__type__", "doubleValue", "nullValue", "null", "__a__", "\u00e9", "x" * 20, "x" * 21, "1a", "a b", "\u0000"])
 
 
@@ -213,7 +215,7 @@ def fault_of(number, line, answer, batches):
     cause, besides = CAUSES.get(body.get("number"), (None, set()))
     if kind != "refused" or cause is None or cause != body.get("cause") or body.get("line") != number:
         return "a refusal with a known number and the line's number is due"
-    if set(body) != {"cause", "line", "number"} | besides or not all(isinstance(body[name], str) for name in besides):
+    if set(body) != {"cause", "line", "number"} | besides or not all(isinstance(body[name], int if name == "count" else str) for name in besides):
         return "the refusal has other members"
     return None if body.get("fault", "BadSegment") in NAMING_FAULTS else "a known fault of a name is due"
 
