@@ -1,9 +1,10 @@
 //! The tests of the crates that stand on no disk and no input: names, values, writes, their JSON and their bytes.
 //!
 //! It has tests and nothing else. They stand apart since a crate with tests is proved twice, so `document_keys`,
-//! `value_model`, `mutations`, `json_model`, `record_codec` and `queries` have none, and are tried through what they export.
-//! A module for each of them, cut where one grew long: `names`, `times`, `order`, `fields`, `messages`, `stores`,
-//! `writes`, `effects`, `matching`, `paths`, `records`, `trees`. What several need to make a value stands in `fixtures`.
+//! `value_model`, `mutations`, `json_model`, `json_rpc`, `record_codec` and `queries` have none, and are tried through what they
+//! export. A module for each of them, cut where one grew long: `names`, `times`, `order`, `fields`, `messages`, `stores`,
+//! `writes`, `effects`, `matching`, `paths`, `records`, `requests`, `trees`. What several need to make a value stands in
+//! `fixtures`.
 //! A test function owns one value, and hands it on by reference.
 #![tactic(auto)]
 
@@ -25,6 +26,8 @@ mod order;
 mod paths;
 #[cfg(test)]
 mod records;
+#[cfg(test)]
+mod requests;
 #[cfg(test)]
 mod stores;
 #[cfg(test)]

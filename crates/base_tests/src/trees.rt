@@ -91,7 +91,7 @@ static OTHERS: [(&str, u8, &str); 9] = [
 ];
 
 /// The number of a kind of fault.
-fn number(fault: &JsonFault) -> u8 {
+pub(crate) fn number(fault: &JsonFault) -> u8 {
     match fault {
         JsonFault::BadShape(_) => 1,
         JsonFault::BadTime(_) => 2,
@@ -104,7 +104,7 @@ fn number(fault: &JsonFault) -> u8 {
 }
 
 /// The member, or the name, of a fault.
-fn member(fault: &JsonFault) -> &str {
+pub(crate) fn member(fault: &JsonFault) -> &str {
     match fault {
         JsonFault::BadShape(name) => name.as_str(),
         JsonFault::BadTime(name) => name.as_str(),
