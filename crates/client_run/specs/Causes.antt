@@ -25,7 +25,8 @@ pub record NoFaults (before after : ℕ) (old new : View) : Type 0 where
 -- A run over files that are a store's, of fewer items than the budget, in which no count of faults
 -- rose, comes to the end of its source, or to want of memory.
 abbrev pub Completes : List Item → ℕ → Status → ℕ → ℕ → View → View → Type 0
-Completes items budget status before after old new = Keeps old → length items < budget → NoFaults before after old new
+Completes items budget status before after old new =
+    Keeps old → length items < budget → NoFaults before after old new
     → (status ≡ ended.Done) ⊎ (status ≡ ended.NoMemory)
 
 -- the files are no store; nothing was written, and nothing of the files changed

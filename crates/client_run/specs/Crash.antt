@@ -61,21 +61,23 @@ IsAsBefore old out files = (out ≡ old.out) × old.may_leave files
 
 -- The two opening syncs were done at this time, from the start to the end. Up to it a crash left a
 -- pair that it could leave at the start; at each moment from it on it leaves what `Survives` says.
-pub record Synced (status : Status) (call : Call) (rs : List Reading) (old new : View) : Type 0 where
+pub record Synced (how : Status) (call : Call) (rs : List Reading) (old new : View) : Type 0 where
   pub time : ℕ
   pub from : old.moment ≤ time
   pub to : time ≤ new.moment
   pub before : Spans old new (λ o c. IsAsBefore old o c ⊎ new.left_since time o c)
   pub later : (o : List ℕ) (c : Files) → new.left_since time o c → Survives call o c
-  pub at_end : (c : Files) → new.may_leave c → FindsAtEnd status call rs c
+  pub at_end : (c : Files) → new.may_leave c → FindsAtEnd how call rs c
 
 -- An opening sync failed, or there was no memory before it: nothing was handled or taken, and a
 -- crash leaves a pair that it could leave at the start.
-pub record Unsynced (status : Status) (call : Call) (rs : List Reading) (left : List ℕ) (old new : View) : Type 0 where
-  pub stopped : (status ≡ ended.DiskFault) ⊎ (status ≡ ended.NoMemory)
+pub record Unsynced (how : Status) (call : Call) (rs : List Reading)
+    (left : List ℕ) (old new : View) : Type 0 where
+  pub stopped : (how ≡ ended.DiskFault) ⊎ (how ≡ ended.NoMemory)
   pub nothing : TookNothing call rs left
   pub before : Stays old new
 
 -- what a crash may leave at each moment of a run
 abbrev pub Crashes : Status → Call → List Reading → List ℕ → View → View → Type 0
-Crashes status call rs left old new = Synced status call rs old new ⊎ Unsynced status call rs left old new
+Crashes status call rs left old new =
+    Synced status call rs old new ⊎ Unsynced status call rs left old new

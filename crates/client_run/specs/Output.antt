@@ -81,7 +81,8 @@ next_text call readings reading =
 pub record WrotePart (call : Call) (readings : List Reading) (out : List ℕ) : Type 0 where
   pub reading : Reading
   pub read : AreRead call.root call.items (readings ++ reading ∷ [])
-  pub part : IsTrue call.tells_out → IsPart (next_text call readings reading) (out_after call readings) out
+  pub part : IsTrue call.tells_out
+      → IsPart (next_text call readings reading) (out_after call readings) out
 
 -- ---- how a run ends
 
@@ -103,12 +104,16 @@ BelowBudget call readings = length readings < call.budget
 
 -- how many items were handled, which were taken, and what was written
 abbrev pub EndsAs : Status → Call → List Reading → List ℕ → List ℕ → Type 0
-EndsAs ended.Done c rs left out = Ends (HandledAll c rs) (TookHandled c rs left) (WroteHandled c rs out)
-EndsAs ended.Budget c rs left out = Ends (SpentBudget c rs) (TookHandled c rs left) (WroteHandled c rs out)
-EndsAs ended.SourceFault c rs left out = Ends (BelowBudget c rs) (TookAndFailed c rs left) (WroteHandled c rs out)
+EndsAs ended.Done c rs left out =
+    Ends (HandledAll c rs) (TookHandled c rs left) (WroteHandled c rs out)
+EndsAs ended.Budget c rs left out =
+    Ends (SpentBudget c rs) (TookHandled c rs left) (WroteHandled c rs out)
+EndsAs ended.SourceFault c rs left out =
+    Ends (BelowBudget c rs) (TookAndFailed c rs left) (WroteHandled c rs out)
 EndsAs ended.DiskFault c rs left out =
     Ends (BelowBudget c rs) (TookNext c rs left ⊎ TookNothing c rs left) (WroteHandled c rs out)
-EndsAs ended.SinkFault c rs left out = Ends (BelowBudget c rs) (TookNext c rs left) (WrotePart c rs out)
+EndsAs ended.SinkFault c rs left out =
+    Ends (BelowBudget c rs) (TookNext c rs left) (WrotePart c rs out)
 EndsAs ended.NoMemory c rs left out =
     Ends (BelowBudget c rs) (TookAndFailed c rs left ⊎ TookNext c rs left) (WroteHandled c rs out)
 EndsAs _ c rs left out = ⊥

@@ -4,7 +4,6 @@ ghost use Rattle.serde_json.specs.View.{view};
 ghost use Rattle.serde_json.specs.Written.{has_float};
 ghost use Rattle.json_model.specs.Printed.{printed_document};
 ghost use Rattle.local_store.specs.Documents.{document_of, standing_of};
-
 ghost use Rattle.client_run.specs.Turn.{Turn, printed};
 ghost use Rattle.client_run.specs.Turned.{shown, IsOutcome};
 ghost use Rattle.client_run.specs.Lines.{line_of, tree_of, text_of, ok_tree, too_long_tree, bad_line_tree, too_deep_tree, ids_spent_tree, bad_writes_tree, unsupported_tree, bad_name_tree, naming_text as naming_text_of, refused_tree, missing_tree, existing, document_tree};

@@ -4,7 +4,6 @@ use Rattle.std.proofs.lemmas.Grind.{flat_map-append}
 use Rattle.document_keys.specs.Names.{Root}
 use Rattle.client_run.specs.Lines.{Out, line_of, tree_of, text_of}
 use Rattle.local_store.specs.State.{State}
-
 use Rattle.client_run.specs.Turned.{shown}
 use Rattle.client_run.specs.declared.out.Out.{Out as Handed}
 use Rattle.client_run.proofs.lines.print_lines.Goals as goal

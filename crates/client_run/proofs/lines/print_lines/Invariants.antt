@@ -1,6 +1,5 @@
 use Rattle.std.proofs.Common.{◌≡◌, map, take, string_bytes}
 use Rattle.client_run.specs.Lines.{text_of}
-
 use Rattle.client_run.specs.Turned.{shown}
 use Rattle.client_run.proofs.lines.print_lines.Given as goal
 
