@@ -3,7 +3,7 @@
 ghost use Rattle.std.specs.Prelude.{◌≡◌, ◌++◌, ◌∷◌, [], ℕ, List, None, IsTrue, IfOk, OnOk, OnErr};
 ghost use Rattle.std.specs.List.{All};
 ghost use Rattle.mutation_queue.specs.Queue.{HasRoom};
-ghost use Rattle.overlays.specs.Table.{IsBatchOfFields, has_place, overlay_of};
+ghost use Rattle.overlays.specs.Table.{IsBatchOfFields, SameOverlays, has_place, overlay_of};
 ghost use Rattle.local_store.specs.Laying.{AreLaid, AreReady, put_over};
 
 use document_keys::NoMemory;
@@ -22,7 +22,7 @@ pub(crate) fn readied(
     batch: &Batch,
 ) -> Result<Vec<Overlay>, NoMemory>
     requires { IsBatchOfFields batch.now }
-    ensures same { (q : List (List ℕ)) → overlay_of overlays.new q ≡ overlay_of overlays.old q }
+    ensures same { SameOverlays overlays.old overlays.new }
     ensures ready { IfOk result (λ ready. AreReady overlays.new batch.now ready.items) }
 {
     let mut ready = Vec::new(alloc);

@@ -1,5 +1,5 @@
 -- How often keys stand in a list, and a table that counts them.
-use Rattle.std.specs.Prelude.{ℕ, List, Bool, count_by, is_some, unwrap_or}
+use Rattle.std.specs.Prelude.{◌≡◌, ℕ, List, Bool, count_by, is_some, unwrap_or, IsTrue}
 use Rattle.std.specs.Map.{lookup}
 use Rattle.document_keys.specs.KeySet.{is_key}
 
@@ -18,3 +18,11 @@ count_of counts key = unwrap_or (lookup (is_key key) counts) 0
 -- the table has a place for the key
 abbrev pub has_place : Counts → List (List ℕ) → Bool
 has_place counts key = is_some (lookup (is_key key) counts)
+
+-- no count changes
+abbrev pub SameCounts : Counts → Counts → Type 0
+SameCounts old new = (key : List (List ℕ)) → count_of new key ≡ count_of old key
+
+-- every place stays
+abbrev pub KeepsPlaces : Counts → Counts → Type 0
+KeepsPlaces old new = (key : List (List ℕ)) → IsTrue (has_place old key) → IsTrue (has_place new key)

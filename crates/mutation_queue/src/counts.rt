@@ -1,6 +1,6 @@
 ghost use Rattle.std.specs.Prelude.{◌≡◌, ◌↔◌, ◌+◌, ◌<◌, ◌≤◌, ◌^◌, ℕ, List, [], length, IsTrue, IsOk, OnOk, if◌then◌else◌};
 ghost use Rattle.document_keys.specs.KeySet.{is_key};
-ghost use Rattle.mutation_queue.specs.Counts.{count_of, has_place, times};
+ghost use Rattle.mutation_queue.specs.Counts.{KeepsPlaces, SameCounts, count_of, has_place, times};
 ghost use Rattle.mutation_queue.specs.Queue.{HavePlaces, keys_of};
 
 use crate::written::written_key;
@@ -49,8 +49,8 @@ impl KeyCounts {
     /// # Errors
     /// `NoMemory`
     pub(crate) fn make_place(&mut self, alloc: Global, key: &DocumentKey) -> Result<(), NoMemory>
-        ensures counts { (q : List (List ℕ)) → count_of self.new q ≡ count_of self.old q }
-        ensures places { (q : List (List ℕ)) → IsTrue (has_place self.old q) → IsTrue (has_place self.new q) }
+        ensures counts { SameCounts self.old self.new }
+        ensures places { KeepsPlaces self.old self.new }
         ensures made { OnOk result (IsTrue (has_place self.new key.now)) }
         ensures kept { IsTrue (has_place self.old key.now) → IsOk result }
     {
@@ -65,7 +65,7 @@ impl KeyCounts {
         requires place { IsTrue (has_place self.old key.now) }
         requires within { count_of self.old key.now + 1 < 2 ^ 64 }
         ensures counts { (q : List (List ℕ)) → count_of self.new q ≡ count_of self.old q + (if is_key key.now q then 1 else 0) }
-        ensures places { (q : List (List ℕ)) → IsTrue (has_place self.old q) → IsTrue (has_place self.new q) }
+        ensures places { KeepsPlaces self.old self.new }
     {
         let Some(count) = self.counts.get_mut(key) else {
             return;
@@ -93,7 +93,7 @@ impl KeyCounts {
     /// # Errors
     /// `NoMemory`
     pub(crate) fn make_places(&mut self, alloc: Global, writes: &[Write]) -> Result<(), NoMemory>
-        ensures counts { (q : List (List ℕ)) → count_of self.new q ≡ count_of self.old q }
+        ensures counts { SameCounts self.old self.new }
         ensures made { OnOk result (HavePlaces self.new writes.now) }
         ensures kept { HavePlaces self.old writes.now → IsOk result }
     {

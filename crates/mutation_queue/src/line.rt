@@ -1,4 +1,5 @@
-ghost use Rattle.std.specs.Prelude.{◌≡◌, ◌+◌, ◌<◌, ◌≤◌, [], ◌∷◌, ◌++◌, IsOk, OnOk, MatchOption};
+ghost use Rattle.std.specs.Prelude.{◌≡◌, ◌+◌, ◌<◌, ◌≤◌, [], ◌∷◌, ◌++◌, IsOk, OnOk};
+ghost use Rattle.mutation_queue.specs.Line.{TakesFirst};
 
 use document_keys::NoMemory;
 use mutations::{Batch, Writes};
@@ -95,7 +96,7 @@ impl Line {
 
     /// Takes the first batch out, or nothing where none waits.
     pub(crate) fn take_first(&mut self, alloc: Global) -> Option<Batch>
-        ensures { MatchOption result ((self.old.batches ≡ []) × (self.new.batches ≡ [])) (λ batch. self.old.batches ≡ batch ∷ self.new.batches) }
+        ensures { TakesFirst self.old.batches result self.new.batches }
     {
         if self.left == self.batches.len() {
             return None;

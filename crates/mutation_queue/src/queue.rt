@@ -1,5 +1,6 @@
-ghost use Rattle.std.specs.Prelude.{◌≡◌, ◌↔◌, [], ◌∷◌, ◌++◌, length, IsTrue, IsOk, OnOk, OnErr, MatchOption, option_map};
+ghost use Rattle.std.specs.Prelude.{◌≡◌, ◌↔◌, [], ◌∷◌, ◌++◌, length, IsTrue, IsOk, OnOk, OnErr, option_map};
 ghost use Rattle.std.specs.List.{Contains, slice_get};
+ghost use Rattle.mutation_queue.specs.Line.{TakesFirst};
 ghost use Rattle.mutation_queue.specs.Queue.{HasRoom, named_keys};
 
 use crate::counts::KeyCounts;
@@ -103,7 +104,7 @@ impl MutationQueue {
 
     /// Takes the first batch out; `None` exactly where there is none. Room that was made may be gone then.
     pub fn remove_first(&mut self) -> Option<Batch>
-        ensures { MatchOption result ((self.old.batches ≡ []) × (self.new.batches ≡ [])) (λ batch. self.old.batches ≡ batch ∷ self.new.batches) }
+        ensures { TakesFirst self.old.batches result self.new.batches }
     {
         let first = self.line.take_first(self.alloc)?;
         let writes = first.writes.as_slice();

@@ -1,5 +1,5 @@
 -- The overlays, as contracts see them: a finite map from keys to optional documents, and beside it the room for more.
-use Rattle.std.specs.Prelude.{ℕ, List, Bool, Option, Some, None, is_some, option_and_then, unwrap_or}
+use Rattle.std.specs.Prelude.{◌≡◌, ℕ, List, Bool, Option, Some, None, is_some, option_and_then, unwrap_or, IsTrue, if◌then◌else◌}
 use Rattle.std.specs.Coded.{Coded, coded×, coded_list, coded_ℕ}
 use Rattle.std.specs.List.{All}
 use Rattle.std.specs.Map.{lookup}
@@ -42,3 +42,15 @@ shown table key base = unwrap_or (overlay_of table key) base
 -- no path of a batch's writes is `__name__`
 abbrev pub IsBatchOfFields : Batch → Type 0
 IsBatchOfFields batch = All IsOfFieldsOnly batch.writes
+
+-- no overlay changes
+abbrev pub SameOverlays : Table → Table → Type 0
+SameOverlays old new = (key : List (List ℕ)) → overlay_of new key ≡ overlay_of old key
+
+-- one key has this overlay, or none, and every other the one that it had
+abbrev pub Changes : List (List ℕ) → Option (Option Document) → Table → Table → Type 0
+Changes key overlay old new = (q : List (List ℕ)) → overlay_of new q ≡ (if is_key key q then overlay else overlay_of old q)
+
+-- every place stays
+abbrev pub KeepsPlaces : Table → Table → Type 0
+KeepsPlaces old new = (key : List (List ℕ)) → IsTrue (has_place old key) → IsTrue (has_place new key)

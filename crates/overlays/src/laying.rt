@@ -1,9 +1,10 @@
 //! Writes laid on a document.
 
-ghost use Rattle.std.specs.Prelude.{◌≡◌, ◌↔◌, IsTrue, IfOk, option_map};
+ghost use Rattle.std.specs.Prelude.{◌≡◌, ◌↔◌, IsTrue, IfOk};
 ghost use Rattle.std.specs.List.{All};
 ghost use Rattle.mutations.specs.Effect.{IsOfFieldsOnly};
-ghost use Rattle.overlays.specs.LocalDocument.{after_batch, base_of, local_document};
+ghost use Rattle.overlays.specs.Lent.{known};
+ghost use Rattle.overlays.specs.LocalDocument.{after_batch, local_document};
 ghost use Rattle.overlays.specs.Table.{IsBatchOfFields};
 
 use document_keys::{DocumentKey, NoMemory};
@@ -45,7 +46,7 @@ pub fn are_of_fields(batches: &[Batch]) -> bool
 
 /// The document that an entry knows of.
 pub(crate) fn base(alloc: Global, entry: Option<&Entry>) -> Result<Option<Document>, NoMemory>
-    ensures { IfOk result (λ document. document ≡ base_of (option_map (λ e. e.now) entry.entry)) }
+    ensures { IfOk result (λ document. document ≡ known entry.entry) }
 {
     let Some(Entry::Found(fields, version)) = entry else {
         return Ok(None);

@@ -1,12 +1,11 @@
-ghost use Rattle.std.specs.Prelude.{◌≡◌, ◌↔◌, ℕ, List, [], ◌++◌, Some, None, IsTrue, IsOk, OnOk, IfOk, option_map, if◌then◌else◌};
+ghost use Rattle.std.specs.Prelude.{◌≡◌, ◌↔◌, ℕ, List, Some, None, IsTrue, IsOk, OnOk, IfOk};
 ghost use Rattle.std.specs.List.{All, AllPairs, Contains};
-ghost use Rattle.std.specs.Option.{ForSome, IsSome, option_to_list};
-ghost use Rattle.document_keys.specs.KeySet.{is_key};
+ghost use Rattle.std.specs.Option.{ForSome, IsSome};
 ghost use Rattle.document_keys.specs.Order.{PathBefore};
 ghost use Rattle.value_model.specs.Documents.{IsIn};
-ghost use Rattle.value_model.specs.declared.document.Document.{Document as DocumentData};
-ghost use Rattle.overlays.specs.LocalDocument.{after_batch, base_of, local_document};
-ghost use Rattle.overlays.specs.Table.{IsBatchOfFields, document_in, has_place, overlay_of, shown};
+ghost use Rattle.overlays.specs.Lent.{known, lent_document, with_more};
+ghost use Rattle.overlays.specs.LocalDocument.{after_batch, local_document};
+ghost use Rattle.overlays.specs.Table.{Changes, IsBatchOfFields, KeepsPlaces, SameOverlays, document_in, has_place, overlay_of, shown};
 
 use crate::laying::{all_laid_on, base, laid_on};
 use crate::slot::Slot;
@@ -44,7 +43,7 @@ impl Model for Overlays {
 
 /// The fields and the update time of the entry's document.
 fn lent<'a>(entry: Option<&'a Entry>) -> Option<(&'a Fields, Option<Timestamp>)>
-    ensures { option_map (λ d. record { fields = d.0.now; update_time = d.1 }) result ≡ base_of (option_map (λ e. e.now) entry.entry) }
+    ensures { lent_document result ≡ known entry.entry }
 {
     match entry {
         Some(Entry::Found(fields, version)) => Some((fields, Some(*version))),
@@ -57,7 +56,7 @@ fn owned(
     alloc: Global,
     document: Option<(&Fields, Option<Timestamp>)>,
 ) -> Result<Option<Document>, NoMemory>
-    ensures { IfOk result (λ copy. copy ≡ option_map (λ d. record { fields = d.0.now; update_time = d.1 }) document.entry) }
+    ensures { IfOk result (λ copy. copy ≡ lent_document document.entry) }
 {
     let Some((fields, update_time)) = document else {
         return Ok(None);
@@ -103,7 +102,8 @@ impl Overlays {
         requires batches { All IsBatchOfFields batches.now }
         requires more { ForSome more (λ batch. IsBatchOfFields batch.now) }
         ensures key { IfOk result (λ overlay. overlay.key ≡ key.now) }
-        ensures document { IfOk result (λ overlay. overlay.document ≡ local_document key.now (base_of (option_map (λ e. e.now) entry.entry)) (batches.now ++ option_to_list (option_map (λ b. b.now) more.entry))) }
+        ensures document { IfOk result (λ overlay. overlay.document ≡
+            local_document key.now (known entry.entry) (with_more batches.now more.entry)) }
     {
         let document = base(alloc, entry)?;
         let document = all_laid_on(alloc, key, document, batches)?;
@@ -129,7 +129,8 @@ impl Overlays {
     ) -> Result<Overlay, NoMemory>
         requires { IsBatchOfFields more.now }
         ensures key { IfOk result (λ overlay. overlay.key ≡ key.now) }
-        ensures document { IfOk result (λ overlay. overlay.document ≡ after_batch key.now (shown self.now key.now (base_of (option_map (λ e. e.now) entry.entry))) more.now) }
+        ensures document { IfOk result (λ overlay. overlay.document ≡
+            after_batch key.now (shown self.now key.now (known entry.entry)) more.now) }
     {
         let document = owned(alloc, self.document(key, entry))?;
         let document = laid_on(alloc, key, document, more)?;
@@ -142,10 +143,10 @@ impl Overlays {
     /// # Errors
     /// `NoMemory`, never where there is a place.
     pub fn reserve(&mut self, key: &DocumentKey) -> Result<(), NoMemory>
-        ensures same { (q : List (List ℕ)) → overlay_of self.new q ≡ overlay_of self.old q }
+        ensures same { SameOverlays self.old self.new }
         ensures room { OnOk result (IsTrue (has_place self.new key.now)) }
         ensures kept { IsTrue (has_place self.old key.now) → IsOk result }
-        ensures places { (q : List (List ℕ)) → IsTrue (has_place self.old q) → IsTrue (has_place self.new q) }
+        ensures places { KeepsPlaces self.old self.new }
     {
         if !self.slots.contains_key(key) {
             self.slots.insert(key.copy(self.alloc)?, Slot::Reserved)?;
@@ -156,8 +157,8 @@ impl Overlays {
     /// Puts the overlay in place of its key's old one, where there is a place. It takes no memory.
     pub fn set(&mut self, overlay: Overlay)
         requires { IsTrue (has_place self.old overlay.key) }
-        ensures done { (q : List (List ℕ)) → overlay_of self.new q ≡ (if is_key overlay.key q then Some overlay.document else overlay_of self.old q) }
-        ensures places { (q : List (List ℕ)) → IsTrue (has_place self.old q) → IsTrue (has_place self.new q) }
+        ensures done { Changes overlay.key (Some overlay.document) self.old self.new }
+        ensures places { KeepsPlaces self.old self.new }
     {
         let Some(slot) = self.slots.get_mut(&overlay.key) else {
             return;
@@ -167,7 +168,7 @@ impl Overlays {
 
     /// Takes the key's overlay away, if there is one, and its place.
     pub fn remove(&mut self, key: &DocumentKey)
-        ensures { (q : List (List ℕ)) → overlay_of self.new q ≡ (if is_key key.now q then None else overlay_of self.old q) }
+        ensures { Changes key.now None self.old self.new }
     {
         self.slots.remove(key);
     }
@@ -179,7 +180,7 @@ impl Overlays {
         key: &DocumentKey,
         entry: Option<&'a Entry>,
     ) -> Option<(&'a Fields, Option<Timestamp>)>
-        ensures { option_map (λ d. record { fields = d.0.now; update_time = d.1 }) result ≡ shown self.now key.now (base_of (option_map (λ e. e.now) entry.entry)) }
+        ensures { lent_document result ≡ shown self.now key.now (known entry.entry) }
     {
         match self.slots.get(key) {
             Some(Slot::Laid(Some(document))) => Some((&document.fields, document.update_time)),
@@ -198,7 +199,8 @@ impl Overlays {
         collection: &CollectionPath,
     ) -> Result<Vec<DocumentKey>, NoMemory>
         ensures ascending { IfOk result (λ keys. AllPairs PathBefore keys.items) }
-        ensures members { IfOk result (λ keys. (key : List (List ℕ)) → Contains keys.items key ↔ (IsIn collection.now key × IsSome (shown self.now key None))) }
+        ensures members { IfOk result (λ keys. (key : List (List ℕ)) →
+            Contains keys.items key ↔ (IsIn collection.now key × IsSome (shown self.now key None))) }
     {
         let mut keys = Vec::new(alloc);
         for (key, slot) in self.slots.iter() {
