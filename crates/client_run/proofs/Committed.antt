@@ -1,5 +1,5 @@
 -- What a store's files find.
-use Rattle.std.proofs.Common.{◌≡◌, ◌⊎◌, inl, inr, ℕ, Option, Some, None, List, refl}
+use Rattle.std.proofs.Common.{◌≡◌, ◌⊎◌, inl, ℕ, Option, Some, None, List, refl}
 use Rattle.std.specs.Option.{ForSome}
 use Rattle.host_api.specs.Host.{Files, View, Emits}
 use Rattle.host_api.proofs.Spans.{spans_none}

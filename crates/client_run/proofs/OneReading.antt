@@ -28,7 +28,7 @@ use Rattle.client_run.specs.declared.event.Event.{Event}
 use Rattle.client_run.specs.declared.event.Event.TheVariants as event
 use Rattle.client_run.specs.declared.refusal.Refusal.{Refusal}
 use Rattle.client_run.specs.declared.reading.Reading.{Reading}
-use Rattle.client_run.specs.declared.reading.Reading.TheVariants.{Line, Refused}
+use Rattle.client_run.specs.declared.reading.Reading.TheVariants.{Refused}
 
 pub one_line : (root : Root) (d : Data) → IsOne (LineFaults root d)
 one_line root d a b first second = faults_one (caller root) max_nesting (place.Object object.Line) [] d a b first second

@@ -18,7 +18,7 @@ use Rattle.client_run.specs.Run.{Ran, LeavesAll, Kept}
 use Rattle.local_store.specs.Files.{FindsState}
 use Rattle.local_store.specs.State.{State}
 use Rattle.local_store.specs.Store.{IsSpent, IsStored}
-use Rattle.client_run.specs.Turn.{Past, run, one_more, next_turn, turn, heard, now, after, printed, output_of, commits_of, after_all}
+use Rattle.client_run.specs.Turn.{Past, run, one_more, next_turn, turn, heard, now, printed, output_of, commits_of, after_all}
 use Rattle.client_run.specs.Turned.{StandsFor, Turned, Writes, TurnCounts, state_then, heard_then, status_of}
 use Rattle.local_store.specs.Store.{Store}
 use Rattle.client_run.specs.declared.reading.Reading.{Reading}

@@ -1,5 +1,5 @@
 -- what is read of writes has a spelling as a batch
-use Rattle.std.proofs.Common.{◌≡◌, ℕ, ◌<◌, ◌≤◌, ◌^◌, suc, List, [], ◌∷◌, length, Option, Some, None, IfSome, arith}
+use Rattle.std.proofs.Common.{ℕ, ◌<◌, ◌^◌, List, [], ◌∷◌, length, Option, Some, None, IfSome, arith}
 use Rattle.std.specs.List.{All}
 use Rattle.std.specs.Str.{IsUtf8}
 use Rattle.std.proofs.lemmas.List.Elements.{All-nil, All-cons, All-head, All-tail, All-weaker}
@@ -16,8 +16,8 @@ use Rattle.mutations.specs.declared.write.Precondition.{Precondition}
 use Rattle.mutations.specs.declared.write.Precondition.TheVariants.{Free, Exists, UpdateTime}
 use Rattle.mutations.specs.declared.write.Write.{Write}
 use Rattle.mutations.specs.declared.write.Write.TheVariants.{Update, Delete}
-use Rattle.json_rpc.specs.Storable.{AreAllStorable, AreStorableElements, HasStorableParts, IsStorableChange, IsStorableCondition, IsStorableTransform, IsStorableWithin, IsStorableWrite}
-use Rattle.record_codec.specs.Spelling.{AreSpelled, AreSpelledElements, IsNameText, IsSpelledBatch, IsSpelledChange, IsSpelledKey, IsSpelledPath, IsSpelledPrecondition, IsSpelledTransform, IsSpelledValue, IsSpelledWrite}
+use Rattle.json_rpc.specs.Storable.{AreAllStorable, AreStorableElements, HasStorableParts, IsStorableChange, IsStorableCondition, IsStorableTransform, IsStorableWrite}
+use Rattle.record_codec.specs.Spelling.{AreSpelled, AreSpelledElements, IsNameText, IsSpelledBatch, IsSpelledChange, IsSpelledKey, IsSpelledPath, IsSpelledPrecondition, IsSpelledTransform, IsSpelledWrite}
 use Rattle.client_run.specs.Reading.{AreStorableWrites}
 
 all_spelled : {X : Type 0} {Holds Fits : X → Type 0} → ((x : X) → Holds x → Fits x) → (xs : List X) → AreAllStorable Holds xs → AreSpelled Fits xs

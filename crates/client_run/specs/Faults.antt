@@ -1,5 +1,5 @@
 -- The faults of a line's tree.
-use Rattle.std.specs.Prelude.{ℕ, List, []}
+use Rattle.std.specs.Prelude.{List, []}
 use Rattle.serde_json.specs.Data.{Data}
 use Rattle.document_keys.specs.Names.{Root}
 use Rattle.json_model.specs.declared.side.Side.TheVariants.{Caller}

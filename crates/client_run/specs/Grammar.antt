@@ -1,6 +1,6 @@
 -- The events that the trees of lines without faults spell. The form of these trees is said by their faults. A member whose value
 -- is null counts as left out.
-use Rattle.std.specs.Prelude.{◌≡◌, ℕ, List, Bool, true, false, codes}
+use Rattle.std.specs.Prelude.{ℕ, List, Bool, true, false, codes}
 use Rattle.serde_json.specs.Data.{Data, Members}
 use Rattle.document_keys.specs.Names.{Root}
 use Rattle.value_model.specs.declared.timestamp.Timestamp.{Timestamp}

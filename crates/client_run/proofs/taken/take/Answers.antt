@@ -1,5 +1,4 @@
 use Rattle.std.proofs.Common.{refl}
-use Rattle.client_run.specs.Turn.{turn}
 use Rattle.client_run.proofs.Committed.{nothing_moves}
 use Rattle.client_run.proofs.Handled.{moves_as}
 use Rattle.client_run.proofs.taken.take.Goals as goal
