@@ -1,0 +1,12 @@
+pub mod Counted
+pub mod Documents
+pub mod Ended
+pub mod Handed
+pub mod Loops
+pub mod Mapped
+pub mod Members
+pub mod Messages
+pub mod Requests
+pub mod Searched
+pub mod Targets
+pub mod Waiting

@@ -1,0 +1,7 @@
+use Rattle.std.proofs.Common.{◌≡◌, map, take}
+use Rattle.watch_aggregator.specs.Steps.{AreAscending}
+use Rattle.watch_aggregator.specs.Told.{for_ids, settle}
+use Rattle.watch_aggregator.proofs.told.settle.Given as goal
+
+abbrev pub invariant-loop-id : goal.invariant-loop-id
+invariant-loop-id l = AreAscending l.fn.watched.items → l.watched.items ≡ map (for_ids (take l.id-index l.ids) (settle)) l.fn.watched.items
