@@ -1,6 +1,6 @@
 //! What is kept of one target id, and of all under a change of targets.
 
-ghost use Rattle.std.specs.Prelude.{◌≡◌, ◌&&◌, ◌==◌, ◌+◌, not, if◌then◌else◌, IfOk, IfErr, length, map, List, ℕ, true};
+ghost use Rattle.std.specs.Prelude.{◌≡◌, ◌&&◌, ◌==◌, ◌+◌, not, if◌then◌else◌, IfOk, IfErr, length, map, List, ℕ, true, false, None};
 ghost use Rattle.listen_protocol.specs.Calls.{Calls, is_of, is_remove, lists};
 ghost use Rattle.std.specs.List.{filter};
 ghost use Rattle.std.specs.List.Sorted.{IsSearchInRange};
@@ -47,6 +47,14 @@ pub(crate) fn is_of(ids: &[i32], id: i32) -> bool
     ids.is_empty() || lists(ids, id)
 }
 
+/// A start, by an ADD or a RESET: neither CURRENT nor a token is known since.
+fn begin(watched: &mut Watched)
+    ensures { watched.new ≡ record watched.old { current = false; token = None } }
+{
+    watched.current = false;
+    watched.token = None;
+}
+
 /// A change of targets came, with the place of its token if it brings one.
 pub(crate) fn change(
     alloc: Global,
@@ -64,8 +72,7 @@ pub(crate) fn change(
         ChangeKind::Add => {
             if watched.wanted && watched.opened == 1 && !watched.counts {
                 watched.counts = true;
-                watched.current = false;
-                watched.token = None;
+                begin(watched);
             }
         }
         ChangeKind::Remove => {
@@ -76,8 +83,7 @@ pub(crate) fn change(
         ChangeKind::Reset => {
             if watched.counts {
                 watched.told = KeySet::new(alloc);
-                watched.current = false;
-                watched.token = None;
+                begin(watched);
             }
         }
     }
