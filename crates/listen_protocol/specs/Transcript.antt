@@ -1,5 +1,4 @@
--- What a list of calls says of a target id: its incarnations, from where its newest counts, the keys that it was told, its
--- token; and the entries that wait for the next point.
+-- What a list of calls says of a target id: when its newest incarnation counts, its told keys, CURRENT and its token.
 use Rattle.std.specs.Prelude.{◌≡◌, ℕ, ◌+◌, ◌-◌, ℤ, Bool, true, false, ◌&&◌, ◌||◌, not, ◌==◌, if◌then◌else◌, IsTrue, Option, None, MatchOption, List, [], ◌∷◌}
 use Rattle.std.specs.List.{Contains, list_any, find}
 use Rattle.std.specs.Ordering.{int_eq}
