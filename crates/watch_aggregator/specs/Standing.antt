@@ -1,9 +1,9 @@
 -- Which lists of calls an aggregator stands for: one clause for each part that it stores.
-use Rattle.std.specs.Prelude.{◌≡◌, ◌≢◌, ◌<ℤ◌, ℕ, ℤ, true, false, List}
+use Rattle.std.specs.Prelude.{◌≡◌, ◌≢◌, ◌<ℤ◌, ℕ, ℤ, true, false, List, ◌∷◌}
 use Rattle.std.specs.List.{All, AllPairs}
 use Rattle.watch_aggregator.specs.declared.watched.Watched.{Watched}
 use Rattle.watch_aggregator.specs.declared.aggregator.Aggregator.{Aggregator}
-use Rattle.listen_protocol.specs.Calls.{Calls}
+use Rattle.listen_protocol.specs.Calls.{Call, Calls}
 use Rattle.listen_protocol.specs.ToldKeys.{StartsAscend, told_keys}
 use Rattle.watch_aggregator.specs.Buffer.{IsBuffer}
 use Rattle.watch_aggregator.specs.Steps.{HasToken}
@@ -32,3 +32,11 @@ pub record StandsFor (a : Aggregator) (h : Calls) : Type 0 where
   pub targets : AreWatched a.tokens.items a.watched.items h
   pub buffer : IsBuffer a.buffer h
   pub starts : StartsAscend h
+
+-- what stood for a list stands for it with the call
+abbrev pub Takes : Aggregator → Aggregator → Call → Type 0
+Takes old new call = (h : Calls) → StandsFor old h → StandsFor new (call ∷ h)
+
+-- what stood for a list stands for it still
+abbrev pub Stays : Aggregator → Aggregator → Type 0
+Stays old new = (h : Calls) → StandsFor old h → StandsFor new h

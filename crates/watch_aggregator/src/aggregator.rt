@@ -8,7 +8,7 @@ ghost use Rattle.watch_aggregator.specs.Effects.{Gives, GivesTarget, Refuses, Re
 ghost use Rattle.watch_aggregator.specs.Points.{IsPointOf};
 ghost use Rattle.listen_protocol.specs.ToldKeys.{told_keys};
 ghost use Rattle.listen_protocol.specs.Transcript.{counts, is_asked_in, is_current_in};
-ghost use Rattle.watch_aggregator.specs.Standing.{StandsFor};
+ghost use Rattle.watch_aggregator.specs.Standing.{StandsFor, Stays, Takes};
 
 use crate::buffer::{keep_left, left_by_change, left_by_delete};
 use crate::effect::{Effect, WatchFault};
@@ -56,8 +56,8 @@ impl Aggregator {
         start: KeySet,
         document: Option<DocumentKey>,
     ) -> Result<(), NoMemory>
-        ensures done { OnOk result ((h : Calls) → StandsFor self.old h → StandsFor self.new (call.asked id start document ∷ h)) }
-        ensures undone { OnErr result ((h : Calls) → StandsFor self.old h → StandsFor self.new h) }
+        ensures done { OnOk result (Takes self.old self.new (call.asked id start document)) }
+        ensures undone { OnErr result (Stays self.old self.new) }
     {
         // the set's order, which a proof learns from a call of the set
         let _count = start.len();
@@ -94,7 +94,7 @@ impl Aggregator {
 
     /// A remove request of the id went out.
     pub fn request_remove(&mut self, id: i32)
-        ensures { (h : Calls) → StandsFor self.old h → StandsFor self.new (call.unasked id ∷ h) }
+        ensures { Takes self.old self.new (call.unasked id) }
     {
         match place(self.watched.as_slice(), &id) {
             Ok(at) => {
@@ -126,8 +126,8 @@ impl Aggregator {
 
     /// A change of a document came.
     fn change_document(&mut self, alloc: Global, change: &DocumentChange) -> Result<(), NoMemory>
-        ensures done { OnOk result ((h : Calls) → StandsFor self.old h → StandsFor self.new (call.came (sent.Change change.now) ∷ h)) }
-        ensures undone { OnErr result ((h : Calls) → StandsFor self.old h → StandsFor self.new h) }
+        ensures done { OnOk result (Takes self.old self.new (call.came (sent.Change change.now))) }
+        ensures undone { OnErr result (Stays self.old self.new) }
     {
         let left = match left_by_change(alloc, self.watched.as_slice(), change) {
             Ok(left) => left,
@@ -158,8 +158,8 @@ impl Aggregator {
 
     /// A delete of a document came.
     fn delete_document(&mut self, alloc: Global, delete: &DocumentDelete) -> Result<(), NoMemory>
-        ensures done { OnOk result ((h : Calls) → StandsFor self.old h → StandsFor self.new (call.came (sent.Delete delete.now) ∷ h)) }
-        ensures undone { OnErr result ((h : Calls) → StandsFor self.old h → StandsFor self.new h) }
+        ensures done { OnOk result (Takes self.old self.new (call.came (sent.Delete delete.now))) }
+        ensures undone { OnErr result (Stays self.old self.new) }
     {
         let left = match left_by_delete(alloc, self.watched.as_slice(), delete) {
             Ok(left) => left,
@@ -179,7 +179,7 @@ impl Aggregator {
 
     /// A document left some targets.
     fn remove_document(&mut self, remove: &DocumentRemove)
-        ensures { (h : Calls) → StandsFor self.old h → StandsFor self.new (call.came (sent.Remove remove.now) ∷ h) }
+        ensures { Takes self.old self.new (call.came (sent.Remove remove.now)) }
     {
         take_out(
             &mut self.watched,
@@ -242,7 +242,7 @@ impl Aggregator {
     /// `NoMemory`: it stands for the same lists as before.
     pub fn apply_point(&mut self, alloc: Global) -> Result<WatchPoint, NoMemory>
         ensures done { IfOk result (λ point. (h : Calls) → StandsFor self.old h → IsPointOf h point × StandsFor self.new (call.applied ∷ h)) }
-        ensures undone { OnErr result ((h : Calls) → StandsFor self.old h → StandsFor self.new h) }
+        ensures undone { OnErr result (Stays self.old self.new) }
     {
         let room = Vec::with_capacity(alloc, self.buffer.len())?;
         let targets = targets_of(alloc, self.tokens.as_slice(), self.watched.as_slice())?;
@@ -255,7 +255,7 @@ impl Aggregator {
 
     /// The point is skipped: the tokens that came are dropped.
     pub fn skip_point(&mut self)
-        ensures { (h : Calls) → StandsFor self.old h → StandsFor self.new (call.skipped ∷ h) }
+        ensures { Takes self.old self.new call.skipped }
     {
         drop_tokens(&mut self.watched);
         self.tokens.clear();
