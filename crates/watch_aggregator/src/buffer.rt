@@ -3,8 +3,8 @@
 ghost use Rattle.std.specs.Prelude.{◌≡◌, ◌||◌, OnOk, OnErr, IfOk};
 ghost use Rattle.std.specs.List.{list_any};
 ghost use Rattle.std.specs.Option.{option_copied};
-ghost use Rattle.listen_protocol.specs.Buffer.{changed_entry, deleted_entry, is_earlier, stays};
-ghost use Rattle.watch_aggregator.specs.Buffer.{Keeps, KeepsLeft, Same, counts_in};
+ghost use Rattle.listen_protocol.specs.Buffer.{is_earlier, stays};
+ghost use Rattle.watch_aggregator.specs.Buffer.{Keeps, KeepsLeft, Same, changed_by, counts_in, deleted_by};
 ghost use Rattle.watch_aggregator.specs.Steps.{AreAscending};
 
 use crate::watched::{Watched, place};
@@ -96,7 +96,7 @@ pub(crate) fn left_by_change(
     watched: &[Watched],
     change: &DocumentChange,
 ) -> Result<Option<(DocumentKey, Entry)>, NoMemory>
-    ensures { IfOk result (λ left. AreAscending watched.now → left ≡ changed_entry (list_any (counts_in watched.now) change.now.target_ids || list_any (counts_in watched.now) change.now.removed_target_ids) change.now) }
+    ensures { IfOk result (λ left. AreAscending watched.now → left ≡ changed_by watched.now change.now) }
 {
     if !either_counting(
         watched,
@@ -116,7 +116,7 @@ pub(crate) fn left_by_delete(
     watched: &[Watched],
     delete: &DocumentDelete,
 ) -> Result<Option<(DocumentKey, Entry)>, NoMemory>
-    ensures { IfOk result (λ left. AreAscending watched.now → left ≡ deleted_entry (list_any (counts_in watched.now) delete.now.removed_target_ids) delete.now) }
+    ensures { IfOk result (λ left. AreAscending watched.now → left ≡ deleted_by watched.now delete.now) }
 {
     if !counting(watched, delete.removed_target_ids.as_slice()) {
         return Ok(None);
