@@ -3,3 +3,5 @@ pub mod Locally
 pub mod Masking
 pub mod Steps
 pub mod Taking
+pub mod Touching
+pub mod Wholes

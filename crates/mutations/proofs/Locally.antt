@@ -6,13 +6,15 @@ use Rattle.value_model.specs.Changes.{with_value_at, without_value_at}
 use Rattle.value_model.specs.Data.{Data, Entries, array_of}
 use Rattle.value_model.specs.Paths.{value_at}
 use Rattle.value_model.specs.Same.{same_value}
+use Rattle.value_model.specs.declared.document.Document.{Document}
 use Rattle.value_model.specs.declared.timestamp.Timestamp.{Timestamp}
 use Rattle.value_model.proofs.Same.{same_values}
 use Rattle.mutations.specs.declared.transform.Change.{Change}
 use Rattle.mutations.specs.declared.transform.Change.TheVariants.{ServerTime, Increment, Maximum, Minimum, Append, RemoveAll}
 use Rattle.mutations.specs.declared.transform.Transform.{Transform}
 use Rattle.mutations.specs.Changes.{Appends, all_added, there, added, Removes, none_left, taken, kept, Changed, Transformed, all_made, made, items_at}
-use Rattle.mutations.specs.Local.{is_among, appended, others, changed, transformed, taken_over, masked}
+use Rattle.mutations.specs.Local.{is_among, appended, others, changed, transformed, taken_over, masked, set}
+use Rattle.mutations.specs.Effect.{SetsFields, Updates, fields_of, update_time_of}
 use Rattle.mutations.proofs.Changing.{append_laws, remove_laws, behind, in_front, either, empty}
 use Rattle.mutations.proofs.Steps.{from}
 
@@ -69,6 +71,21 @@ changed_is found (Minimum other) at value is = is
 changed_is found (Append values) at value is = is.1 ∙ ap array_of (append_laws.one (items_at found) values is.0 (appended (items_at found) values) is.2 (appends_by (items_at found) values))
 changed_is found (RemoveAll values) at value is = is.1 ∙ ap array_of (remove_laws.one values (items_at found) is.0 (others values (items_at found)) is.2 (removes_by values (items_at found)))
 
+changed_by : (found : Option Data) (change : Change) (at : Timestamp) → Changed found change at (changed found change at)
+changed_by found ServerTime at = refl
+changed_by found (Increment by) at = refl
+changed_by found (Maximum other) at = refl
+changed_by found (Minimum other) at = refl
+changed_by found (Append values) at = (appended (items_at found) values, refl, appends_by (items_at found) values)
+changed_by found (RemoveAll values) at = (others values (items_at found), refl, removes_by values (items_at found))
+
+pub transformed_by_all : (at : Timestamp) (fields : Entries) (transforms : List Transform) → Transformed at fields transforms (transformed at fields transforms)
+transformed_by_all at fields [] = all_made at fields
+transformed_by_all at fields (transform ∷ rest) =
+    let value = changed (value_at fields transform.path) transform.change at in
+    made at fields (transformed at (with_value_at fields transform.path value) rest) transform rest value (changed_by (value_at fields transform.path) transform.change at)
+    (transformed_by_all at (with_value_at fields transform.path value) rest)
+
 pub transformed_is : (at : Timestamp) (fields after : Entries) (transforms : List Transform) → Transformed at fields transforms after → after ≡ transformed at fields transforms
 transformed_is at fields after transforms (all_made _ _) = refl
 transformed_is at fields after transforms (made _ _ _ transform rest value change next) =
@@ -92,3 +109,14 @@ mask_more old input fields after mask i path below is so step =
 
 pub mask_last : (old input fields : Entries) (mask : List (List (List ℕ))) (i : ℕ) → length mask ≤ i → fold (taken_over input) fields (drop i mask) ≡ masked old input mask → fields ≡ masked old input mask
 mask_last old input fields mask i past so = sym (ap (fold (taken_over input) fields) (drop_all i mask past)) ∙ so
+
+-- ---- an update
+
+pub updates_by : (old new : Option Document) (input fields : Entries) (mask : Option (List (List (List ℕ)))) (transforms : List Transform) (at : Timestamp) → SetsFields (fields_of old) input mask (set (fields_of old) input mask) → fields ≡ transformed at (set (fields_of old) input mask) transforms → new ≡ Some (record { fields = fields; update_time = update_time_of old }) → Updates old input mask transforms at new
+updates_by old new input fields mask transforms at sets so is = record {
+  set = set (fields_of old) input mask;
+  sets = sets;
+  fields = fields;
+  transformed = subst (Transformed at (set (fields_of old) input mask) transforms) (sym so) (transformed_by_all at (set (fields_of old) input mask) transforms);
+  document = is;
+}

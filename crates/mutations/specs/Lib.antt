@@ -3,3 +3,4 @@ pub mod Effect
 pub mod Laws
 pub mod Local
 pub mod Masks
+pub mod Touched

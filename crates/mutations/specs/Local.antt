@@ -18,7 +18,8 @@ use Rattle.mutations.specs.declared.write.Precondition.TheVariants.{Free, Exists
 use Rattle.mutations.specs.declared.write.Write.{Write}
 use Rattle.mutations.specs.declared.write.Write.TheVariants.{Update, Delete}
 use Rattle.mutations.specs.Changes.{number_at, items_at}
-use Rattle.mutations.specs.Effect.{condition_of, fields_of, update_time_of}
+use Rattle.mutations.specs.Effect.{SetsFields, condition_of, fields_of, update_time_of}
+use Rattle.mutations.specs.Masks.{Masked}
 
 -- the value is one of the items
 abbrev pub is_among : List Data → Data → Bool
@@ -61,6 +62,13 @@ masked old input mask = fold (taken_over input) old mask
 abbrev pub set : Entries → Entries → Option (List (List (List ℕ))) → Entries
 set old input None = input
 set old input (Some mask) = masked old input mask
+
+-- the relations hold of what these two give
+abbrev pub MasksRight : Entries → Entries → List (List (List ℕ)) → Type 0
+MasksRight old input mask = Masked old input mask (masked old input mask)
+
+abbrev pub SetsRight : Entries → Entries → Option (List (List (List ℕ))) → Type 0
+SetsRight old input mask = SetsFields old input mask (set old input mask)
 
 -- the document was last changed at the time
 abbrev pub is_of_time : Option Timestamp → Timestamp → Bool

@@ -1,6 +1,6 @@
 //! What a write makes of a document before the backend has answered.
 
-ghost use Rattle.std.specs.Prelude.{◌≡◌, ◌↔◌, IsTrue, IfOk, OnOk, OnErr, Some};
+ghost use Rattle.std.specs.Prelude.{◌≡◌, ◌↔◌, [], IsTrue, IfOk, OnOk, OnErr, Some};
 ghost use Rattle.std.specs.List.{All};
 ghost use Rattle.mutations.specs.Effect.{HasEffect, HasMaskOfFields, HavePathsOfFields, Holds, IsOfFields, IsOfFieldsOnly, SetsFields, Updates, fields_of, update_time_of};
 ghost use Rattle.mutations.specs.Local as function;
@@ -8,6 +8,7 @@ ghost use Rattle.mutations.specs.Local as function;
 use crate::change::transformed;
 use crate::lists::Mask;
 use crate::mask::masked;
+use crate::touched::update_touched;
 use crate::transform::{Transform, Transforms};
 use crate::write::{Precondition, Write};
 use document_keys::{FieldPath, NoMemory};
@@ -43,72 +44,96 @@ impl Precondition {
     }
 }
 
-/// A copy of the document's fields, or no fields.
-fn fields_copied(alloc: Global, document: &Option<Document>) -> Result<Fields, NoMemory>
-    ensures { IfOk result (λ fields. fields ≡ fields_of document.now) }
-{
-    match document {
-        Some(document) => document.fields.copy(alloc),
-        None => Ok(Fields::new(alloc)),
-    }
-}
-
-/// The document's update time, where there is one and it has one.
-fn update_time(document: &Option<Document>) -> Option<Timestamp>
-    ensures { result ≡ update_time_of document.now }
-{
-    match document {
-        Some(document) => document.update_time,
-        None => None,
-    }
-}
-
-/// The fields that an update sets: all of the input's, or those of its mask.
-fn set(
-    alloc: Global,
-    document: &Option<Document>,
-    input: &Fields,
-    mask: &Option<Mask>,
-) -> Result<Fields, NoMemory>
+/// The fields that an update sets where there were none: all of the input's, or those of its mask.
+fn set(alloc: Global, input: &Fields, mask: &Option<Mask>) -> Result<Fields, NoMemory>
     requires { HasMaskOfFields mask.now }
-    ensures sets { IfOk result (λ fields. SetsFields (fields_of document.now) input.now mask.now fields) }
-    ensures exact { IfOk result (λ fields. fields ≡ function.set (fields_of document.now) input.now mask.now) }
+    ensures sets { IfOk result (λ fields. SetsFields [] input.now mask.now fields) }
+    ensures exact { IfOk result (λ fields. fields ≡ function.set [] input.now mask.now) }
 {
     match mask {
         None => input.copy(alloc),
-        Some(mask) => masked(
-            alloc,
-            fields_copied(alloc, document)?,
-            input,
-            mask.as_slice(),
-        ),
+        Some(mask) => masked(alloc, Fields::new(alloc), input, mask.as_slice()),
     }
 }
 
-/// The document after an update.
-fn updated(
+/// The fields after an update where there were none.
+fn made(
     alloc: Global,
-    document: &Option<Document>,
     input: &Fields,
     mask: &Option<Mask>,
     transforms: &Transforms,
     at: Timestamp,
-) -> Result<Option<Document>, NoMemory>
+) -> Result<Fields, NoMemory>
     requires mask { HasMaskOfFields mask.now }
     requires transforms { HavePathsOfFields transforms.now }
-    ensures updates { IfOk result (λ new. Updates document.now input.now mask.now transforms.now at new) }
-    ensures exact { IfOk result (λ new. new ≡ Some (record {
-      fields = function.transformed at (function.set (fields_of document.now) input.now mask.now) transforms.now;
-      update_time = update_time_of document.now;
-    })) }
+    ensures sets { OnOk result (function.SetsRight [] input.now mask.now) }
+    ensures exact { IfOk result (λ fields. fields ≡ function.transformed at (function.set [] input.now mask.now) transforms.now) }
 {
-    let fields = set(alloc, document, input, mask)?;
+    let fields = set(alloc, input, mask)?;
     let fields = transformed(alloc, fields, transforms.as_slice(), at)?;
-    let update_time = update_time(document);
-    Ok(Some(Document {
-        fields,
-        update_time,
-    }))
+    Ok(fields)
+}
+
+/// Makes of a document's fields what an update makes of them.
+fn update_fields(
+    alloc: Global,
+    fields: &mut Fields,
+    input: &Fields,
+    mask: &Option<Mask>,
+    transforms: &Transforms,
+    at: Timestamp,
+) -> Result<(), NoMemory>
+    requires mask { HasMaskOfFields mask.now }
+    requires transforms { HavePathsOfFields transforms.now }
+    ensures sets { OnOk result (function.SetsRight fields.old input.now mask.now) }
+    ensures exact { OnOk result (fields.new ≡ function.transformed at (function.set fields.old input.now mask.now) transforms.now) }
+    ensures undone { OnErr result (fields.new ≡ fields.old) }
+{
+    match mask {
+        Some(mask) => update_touched(
+            alloc,
+            fields,
+            input,
+            mask.as_slice(),
+            transforms.as_slice(),
+            at,
+        )?,
+        None => *fields = made(alloc, input, &None, transforms, at)?,
+    }
+    Ok(())
+}
+
+/// Makes of the document, or of there being none, what an update makes of it.
+fn update(
+    alloc: Global,
+    doc: &mut Option<Document>,
+    input: &Fields,
+    mask: &Option<Mask>,
+    transforms: &Transforms,
+    at: Timestamp,
+) -> Result<(), NoMemory>
+    requires mask { HasMaskOfFields mask.now }
+    requires transforms { HavePathsOfFields transforms.now }
+    ensures updates { OnOk result (Updates doc.old input.now mask.now transforms.now at doc.new) }
+    ensures exact { OnOk result (doc.new ≡ Some (record {
+      fields = function.transformed at (function.set (fields_of doc.old) input.now mask.now) transforms.now;
+      update_time = update_time_of doc.old;
+    })) }
+    ensures undone { OnErr result (doc.new ≡ doc.old) }
+{
+    match doc {
+        Some(document) => {
+            update_fields(alloc, &mut document.fields, input, mask, transforms, at)?;
+        }
+        None => {
+            let fields = made(alloc, input, mask, transforms, at)?;
+            *doc = Some(Document {
+                fields,
+                update_time: None,
+            });
+        }
+    }
+    Ok(())
 }
 
 /// Makes of the document what the write makes of it, until the backend has answered; `at` is the write's local time. No
@@ -142,7 +167,7 @@ pub fn apply_local(
             condition,
         } => {
             if condition.holds(doc) {
-                *doc = updated(alloc, doc, fields, mask, transforms, at)?;
+                update(alloc, doc, fields, mask, transforms, at)?;
             }
         }
     }

@@ -12,6 +12,7 @@ mod effect;
 mod laws;
 mod lists;
 mod mask;
+mod touched;
 mod transform;
 mod write;
 
