@@ -1,4 +1,5 @@
 pub mod Changing
+pub mod Effects
 pub mod Locally
 pub mod Masking
 pub mod Steps

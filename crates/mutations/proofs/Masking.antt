@@ -19,7 +19,7 @@ use Rattle.mutations.proofs.Taking.{name_cases}
 -- ---- values that are alike at each path
 
 -- the same stands there, or maps do
-abbrev Alike : Option Data → Option Data → Type 0
+abbrev pub Alike : Option Data → Option Data → Type 0
 Alike a b = (a ≡ b) ⊎ (IsMap a × IsMap b)
 
 orderly_at : (es : Entries) (n : List ℕ) (x : Data) → AreOrderly (members_of es) → field es n ≡ Some x → IsOrderly x
@@ -146,8 +146,15 @@ fills input path masked = by (leads_cases path masked) (value_at input masked) r
     by (inl leads) None is = inr (λ both. let no : IsSome {T = Data} None = subst IsSome is both.1 in cc)
     by (inr not) o is = inr (λ both. not both.0)
 
+-- fields in order that are alike at each path are the same
+pub same_fields : (new other : Entries) → ((q : List (List ℕ)) → Alike (value_at new q) (value_at other q)) → HasOrder new → HasOrder other → new ≡ other
+same_fields new other alike wholly also =
+    let whole : (es : Entries) → HasOrder es → IsOrderly (map_of es) = λ es is. (subst AreFields (sym (entries_members es)) is.0, is.1) in
+    let same : map_of new ≡ map_of other = same_data (depth (map_of new)) (map_of new) (map_of other) (omega arith) (whole new wholly) (whole other also) alike in
+    sym (entries_members new) ∙ ap (λ d. members_in d) same ∙ entries_members other
+
 module _ (old input new other : Entries) (mask : List (List (List ℕ))) (this : Masked old input mask new) (that : Masked old input mask other) where
-  agree : (q : List (List ℕ)) → Alike (value_at new q) (value_at other q)
+  pub agree : (q : List (List ℕ)) → Alike (value_at new q) (value_at other q)
   agree q = by (some_cases (Extends q) (extends_cases q) mask) (some_cases (λ m. LeadsTo q m × IsSome (value_at input m)) (fills input q) mask) (map_cases (value_at old q))
     where
       by : IsMasked mask q ⊎ ¬ (IsMasked mask q) → ((m : List (List ℕ)) × Contains mask m × (LeadsTo q m × IsSome (value_at input m))) ⊎ ¬ ((m : List (List ℕ)) × Contains mask m × (LeadsTo q m × IsSome (value_at input m))) → IsMap (value_at old q) ⊎ ¬ (IsMap (value_at old q)) → Alike (value_at new q) (value_at other q)
@@ -159,12 +166,6 @@ module _ (old input new other : Entries) (mask : List (List (List ℕ))) (this :
       by (inr not) (inr unfilled) (inr was) =
           let none : ¬ (IsFilledBelow input mask q) = λ is. unfilled (is.0, is.1, (is.2, is.3)) in
           inl (this.left q not none was ∙ sym (that.left q not none was))
-
-  pub one_result : HasOrder new → HasOrder other → new ≡ other
-  one_result wholly also =
-      let whole : (es : Entries) → HasOrder es → IsOrderly (map_of es) = λ es is. (subst AreFields (sym (entries_members es)) is.0, is.1) in
-      let same : map_of new ≡ map_of other = same_data (depth (map_of new)) (map_of new) (map_of other) (omega arith) (whole new wholly) (whole other also) agree in
-      sym (entries_members new) ∙ ap (λ d. members_in d) same ∙ entries_members other
 
 reordered : (old input new : Entries) (mask other : List (List (List ℕ))) → ((path : List (List ℕ)) → Contains mask path ↔ Contains other path) → Masked old input mask new → Masked old input other new
 reordered old input new mask other same is =
@@ -182,4 +183,4 @@ pub mask_laws : MasksHold
 mask_laws = record { order = reordered; one = one_result_of }
   where
     one_result_of : (old input new other : Entries) (mask : List (List (List ℕ))) → HasOrder new → HasOrder other → Masked old input mask new → Masked old input mask other → new ≡ other
-    one_result_of old input new other mask wholly also this that = one_result old input new other mask this that wholly also
+    one_result_of old input new other mask wholly also this that = same_fields new other (agree old input new other mask this that) wholly also

@@ -4,10 +4,13 @@ use Rattle.std.specs.Int.{w64}
 use Rattle.std.specs.List.{Contains}
 use Rattle.value_model.specs.Data.{Data, integer, map, Members, no_members, member, Entries, entries_of, members_of}
 use Rattle.value_model.specs.Fields.{AreFields}
+use Rattle.value_model.specs.declared.document.Document.{Document}
 use Rattle.value_model.specs.declared.timestamp.Timestamp.{Timestamp}
 use Rattle.mutations.specs.declared.transform.Change.{Change}
 use Rattle.mutations.specs.declared.transform.Change.TheVariants.{Increment}
+use Rattle.mutations.specs.declared.write.Write.{Write}
 use Rattle.mutations.specs.Changes.{Appends, Removes, Changed}
+use Rattle.mutations.specs.Effect.{HasEffect, fields_of}
 use Rattle.mutations.specs.Masks.{Masked}
 
 -- a value whose maps, also those in its maps, have fields in their order
@@ -56,3 +59,7 @@ pub record ChangesHold : Type 0 where
   pub within : (number by : ℤ) (at : Timestamp) (value : Data) → FitsSigned w64 (number +ℤ by) → Changed (Some (integer number)) (Increment by) at value → value ≡ integer (number +ℤ by)
   pub above : (number by : ℤ) (at : Timestamp) (value : Data) → pos (2 ^ 63 - 1) ≤ℤ (number +ℤ by) → Changed (Some (integer number)) (Increment by) at value → value ≡ integer (pos (2 ^ 63 - 1))
   pub below : (number by : ℤ) (at : Timestamp) (value : Data) → (number +ℤ by) ≤ℤ negsuc (2 ^ 63 - 1) → Changed (Some (integer number)) (Increment by) at value → value ≡ integer (negsuc (2 ^ 63 - 1))
+
+-- documents that a write makes of one document at one time are the same, where all their maps have fields in their order
+abbrev pub EffectsAreOne : Type 0
+EffectsAreOne = (old new other : Option Document) (write : Write) (at : Timestamp) → HasOrder (fields_of new) → HasOrder (fields_of other) → HasEffect old write at new → HasEffect old write at other → new ≡ other

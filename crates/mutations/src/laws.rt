@@ -1,6 +1,6 @@
 //! Laws of masks and transforms. Nothing is done when they run.
 
-ghost use Rattle.mutations.specs.Laws.{AppendsHold, ChangesHold, MasksHold, RemovesHold};
+ghost use Rattle.mutations.specs.Laws.{AppendsHold, ChangesHold, EffectsAreOne, MasksHold, RemovesHold};
 
 /// The order of a mask's paths doesn't matter, and a mask leaves one result.
 pub fn masks_hold()
@@ -20,4 +20,9 @@ pub fn removes_hold()
 /// A change makes one value, most changes may be repeated, and a sum stops at the ends of its range.
 pub fn changes_hold()
     ensures { ChangesHold }
+{}
+
+/// A write has one effect on a document at one time.
+pub fn effects_are_one()
+    ensures { EffectsAreOne }
 {}

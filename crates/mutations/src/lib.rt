@@ -18,7 +18,7 @@ mod write;
 
 pub use batch::{Batch, Writes};
 pub use effect::apply_local;
-pub use laws::{appends_hold, changes_hold, masks_hold, removes_hold};
+pub use laws::{appends_hold, changes_hold, effects_are_one, masks_hold, removes_hold};
 pub use lists::{Mask, Values};
 pub use transform::{Change, Transform, Transforms};
 pub use write::{Precondition, Write};
