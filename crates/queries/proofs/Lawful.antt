@@ -1,6 +1,5 @@
 -- the laws of queries
-use Rattle.std.proofs.Common.{◌≡◌, ◌≢◌, ◌∙◌, ◌⊎◌, inl, inr, ℕ, zero, suc, ◌+◌, ◌<◌, Bool, true, false, List, [], ◌∷◌, length, get_or, Option, Some, refl, sym, ap, subst, arith}
-use Rattle.std.specs.List.{Contains}
+use Rattle.std.proofs.Common.{◌≡◌, ◌≢◌, ◌∙◌, ◌⊎◌, inl, inr, ℕ, zero, suc, ◌<◌, Bool, true, false, List, [], ◌∷◌, length, get_or, Option, Some, refl, sym, ap, subst, arith}
 use Rattle.document_keys.specs.Names.{Root}
 use Rattle.value_model.specs.Data.{Data, Entries, null, reference}
 use Rattle.value_model.proofs.Lawful.{ordered}
@@ -14,7 +13,7 @@ use Rattle.queries.specs.Laws.{WholeOrdersAreOne, RowsAreOrdered, AnswersAreOrde
 use Rattle.queries.specs.Matching.{Matches, MatchesCollection, IsBefore, ComesBefore}
 use Rattle.queries.specs.Orders.{paths_of}
 use Rattle.queries.specs.Rows.{DirectedBefore, HasValues, Precedes}
-use Rattle.queries.proofs.Ordered.{not_itself, values_length, value_of}
+use Rattle.queries.proofs.Ordered.{not_itself, values_length}
 use Rattle.queries.proofs.Whole.{whole_once}
 
 pub whole_law : WholeOrdersAreOne
@@ -118,5 +117,15 @@ answers_total : (target : Target) (root : Root) (key : List (List ℕ)) (fields 
 answers_total (Document wanted) root key fields other others checked a b apart = absurd (apart (a ∙ sym b))
 answers_total (Collection target) root key fields other others checked a b apart = ahead target root key fields other others checked a b apart
 
+answers_transitive : (target : Target) (root : Root) (key : List (List ℕ)) (fields : Entries) (other : List (List ℕ)) (others : Entries) (last : List (List ℕ)) (lasts : Entries) → IsBefore target root key fields other others → IsBefore target root other others last lasts → IsBefore target root key fields last lasts
+answers_transitive (Document wanted) root key fields other others last lasts first second = first
+answers_transitive (Collection target) root key fields other others last lasts first second = record {
+  xs = first.xs;
+  ys = second.ys;
+  has = first.has;
+  other_has = second.other_has;
+  precedes = transitive target.orders first.xs first.ys second.ys first.precedes (subst (λ m. Precedes target.orders m second.ys) (values_once (standing root other others) target.orders second.xs first.ys second.has first.other_has) second.precedes);
+}
+
 pub answers_law : AnswersAreOrdered
-answers_law = record { strict = answers_strict; total = answers_total }
+answers_law = record { strict = answers_strict; transitive = answers_transitive; total = answers_total }

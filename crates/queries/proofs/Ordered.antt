@@ -3,11 +3,11 @@ use Rattle.std.proofs.Common.{◌≡◌, ◌≢◌, ◌∙◌, inl, inr, ℕ, ze
 use Rattle.std.proofs.lemmas.List.{take_all, take_more}
 use Rattle.std.proofs.lemmas.List.Elements.{All-head, All-tail}
 use Rattle.std.specs.List.{All}
-use Rattle.value_model.specs.Data.{Data}
-use Rattle.value_model.specs.Order.{RanksValues}
+use Rattle.std.specs.Prelude.{unwrap_or}
+use Rattle.value_model.specs.Data.{Data, null}
 use Rattle.value_model.proofs.Lawful.{ordered}
 use Rattle.queries.specs.declared.order.Order.{Order}
-use Rattle.queries.specs.Rows.{DirectedBefore, HasValues, Precedes, RanksDirected, RanksRows}
+use Rattle.queries.specs.Rows.{DirectedBefore, HasValues, Precedes, RanksDirected, RanksRows, row_values}
 
 pub not_itself : (d : Bool) (x : Data) → DirectedBefore d x x → ⊥
 not_itself false x before = ordered.strict x before
@@ -106,9 +106,25 @@ pub rows_go_on : (xs ys : List Data) (i : ℕ) (d e x y : Data) → i < length x
 rows_go_on xs ys i d e x y in_xs in_ys same x_is y_is tie =
     take_more xs i d in_xs ∙ (λ k. same k ++ (sym x_is ∙ tie ∙ y_is) k ∷ []) ∙ sym (take_more ys i e in_ys)
 
--- what is ranked, under other names
-pub ranks_as : (r : Ordering) (a b x y : Data) → Some a ≡ Some x → Some b ≡ Some y → RanksValues r a b → RanksValues r x y
-ranks_as r a b x y a_is b_is ranks =
-    let e : a ≡ x = cc in
-    let f : b ≡ y = cc in
-    subst (λ d. RanksValues r d y) e (subst (λ d. RanksValues r a d) f ranks)
+-- with null for what is missing a document has as many values as there are orders
+pub row_values_length : (at : List (List ℕ) → Option Data) (os : List Order) → length (row_values at os) ≡ length os
+row_values_length at [] = refl
+row_values_length at (o ∷ os) = ap suc (row_values_length at os)
+
+row_value_for : (at : List (List ℕ) → Option Data) (os : List Order) (i : ℕ) (o : Order) (d : Data) → i < length os → unwrap_or (at (get_or os i o).path) null ≡ get_or (row_values at os) i d
+row_value_for at [] i o d below = absurd (omega arith)
+row_value_for at (p ∷ os) zero o d below = refl
+row_value_for at (p ∷ os) (suc i) o d below = row_value_for at os i o d (omega arith)
+
+pub row_value_of : (at : List (List ℕ) → Option Data) (os : List Order) (i : ℕ) (o : Order) (d : Data) → i < length os → o ≡ get_or os i o → unwrap_or (at o.path) null ≡ get_or (row_values at os) i d
+row_value_of at os i o d below is = ap (λ (p : Order). unwrap_or (at p.path) null) is ∙ row_value_for at os i o d below
+
+-- where nothing is missing they are the document's values
+pub row_values_are : (at : List (List ℕ) → Option Data) (os : List Order) (xs : List Data) → HasValues at os xs → row_values at os ≡ xs
+row_values_are at [] [] has = refl
+row_values_are at [] (x ∷ xs) has = absurd has
+row_values_are at (o ∷ os) [] has = absurd has
+row_values_are at (o ∷ os) (x ∷ xs) has =
+    let first : unwrap_or (at o.path) null ≡ x = ap (λ v. unwrap_or v null) has.0 in
+    let rest = row_values_are at os xs has.1 in
+    λ i. first i ∷ rest i

@@ -2,8 +2,10 @@
 use Rattle.std.specs.Prelude.{◌≡◌, ◌≢◌, ◌⊎◌, ℕ, List, length, Option}
 use Rattle.document_keys.specs.Names.{Root}
 use Rattle.value_model.specs.Data.{Data, Entries}
+use Rattle.value_model.specs.Documents.{DocumentMap}
 use Rattle.queries.specs.declared.order.Order.{Order}
 use Rattle.queries.specs.declared.target.Target.{Target}
+use Rattle.queries.specs.Answer.{IsAnswer}
 use Rattle.queries.specs.Checked.{IsChecked}
 use Rattle.queries.specs.Filters.{FilterData}
 use Rattle.queries.specs.Matching.{Matches, IsBefore}
@@ -20,8 +22,15 @@ pub record RowsAreOrdered : Type 0 where
   pub transitive : (orders : List Order) (xs ys zs : List Data) → Precedes orders xs ys → Precedes orders ys zs → Precedes orders xs zs
   pub total : (orders : List Order) (xs ys : List Data) → length xs ≡ length orders → length ys ≡ length orders → Precedes orders xs ys ⊎ ((xs ≡ ys) ⊎ Precedes orders ys xs)
 
--- The documents that match a checked query are in a strict order, in which of two with different keys one is before the other.
+-- Documents are in a strict order of a query, in which of two with different keys that match the checked query one is before the other.
 pub record AnswersAreOrdered : Type 0 where
   pub strict : (target : Target) (root : Root) (key : List (List ℕ)) (fields : Entries) → IsBefore target root key fields key fields → ⊥
+  pub transitive : (target : Target) (root : Root) (key : List (List ℕ)) (fields : Entries) (other : List (List ℕ)) (others : Entries) (last : List (List ℕ)) (lasts : Entries)
+      → IsBefore target root key fields other others → IsBefore target root other others last lasts → IsBefore target root key fields last lasts
   pub total : (target : Target) (root : Root) (key : List (List ℕ)) (fields : Entries) (other : List (List ℕ)) (others : Entries)
       → IsChecked target → Matches target root key fields → Matches target root other others → key ≢ other → IsBefore target root key fields other others ⊎ IsBefore target root other others key fields
+
+-- a query has one answer over the documents of a store
+abbrev pub AnswersAreOne : Type 0
+AnswersAreOne = (target : Target) (root : Root) (documents : DocumentMap) (keys others : List (List (List ℕ)))
+    → IsAnswer target root documents keys → IsAnswer target root documents others → keys ≡ others

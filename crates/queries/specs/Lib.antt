@@ -1,3 +1,4 @@
+pub mod Answer
 pub mod Checked
 pub mod Codes
 pub mod Falls

@@ -1,9 +1,9 @@
 -- How documents stand in the order of a query, and to its cursors (StructuredQuery.Order and Cursor).
-use Rattle.std.specs.Prelude.{◌≡◌, ◌↔◌, ◌⊎◌, ℕ, ◌≤◌, Bool, true, false, List, [], ◌∷◌, length, take, Option, Some, None, IsTrue}
+use Rattle.std.specs.Prelude.{◌≡◌, ◌↔◌, ◌⊎◌, ℕ, ◌≤◌, Bool, true, false, List, [], ◌∷◌, length, take, Option, Some, None, IsTrue, unwrap_or}
 use Rattle.std.specs.declared.cmp.Ordering.{Ordering}
 use Rattle.std.specs.declared.cmp.Ordering.TheVariants.{Less, Equal, Greater}
 use Rattle.document_keys.specs.Names.{Root}
-use Rattle.value_model.specs.Data.{Data, Entries}
+use Rattle.value_model.specs.Data.{Data, Entries, null}
 use Rattle.value_model.specs.Order.{Before, RanksValues}
 use Rattle.queries.specs.declared.order.Order.{Order}
 use Rattle.queries.specs.declared.order.Cursor.{Cursor}
@@ -61,16 +61,20 @@ abbrev pub RanksAgainst : (List (List ℕ) → Option Data) → List Order → L
 RanksAgainst at orders values order = (xs : List Data) → HasValues at orders xs
     → length values ≤ length orders → RanksRows orders xs values order
 
--- what a comparison of two documents answers, where both have values for the orders
-abbrev pub RanksDocuments : List Order → List (List ℕ) → Entries → List (List ℕ) → Entries → Ordering → Type 0
-RanksDocuments orders key fields other others order = (root : Root) (xs ys : List Data)
-    → HasValues (standing root key fields) orders xs → HasValues (standing root other others) orders ys
-    → RanksRows orders xs ys order
+-- the values of a document at the fields of the orders, with null where it has none
+abbrev pub row_values : (List (List ℕ) → Option Data) → List Order → List Data
+row_values at [] = []
+row_values at (o ∷ os) = unwrap_or (at o.path) null ∷ row_values at os
 
--- what a comparison of two documents at a path answers, where both have a value there
+-- what a comparison of two documents answers, where null stands for a value that is missing
+abbrev pub RanksDocuments : List Order → List (List ℕ) → Entries → List (List ℕ) → Entries → Ordering → Type 0
+RanksDocuments orders key fields other others order = (root : Root)
+    → RanksRows orders (row_values (standing root key fields) orders) (row_values (standing root other others) orders) order
+
+-- what a comparison of two documents at a path answers, where null stands for a value that is missing
 abbrev pub RanksAt : List (List ℕ) → List (List ℕ) → Entries → List (List ℕ) → Entries → Ordering → Type 0
-RanksAt path key fields other others order = (root : Root) (x y : Data)
-    → standing root key fields path ≡ Some x → standing root other others path ≡ Some y → RanksValues order x y
+RanksAt path key fields other others order = (root : Root)
+    → RanksValues order (unwrap_or (standing root key fields path) null) (unwrap_or (standing root other others path) null)
 
 -- what is answered on whether a cursor that fits the orders keeps a document that has values for them
 abbrev pub TellsKept : (List Order → List Data → Option Cursor → Type 0) → (List (List ℕ) → Option Data) → List Order → Option Cursor → Bool → Type 0

@@ -1,6 +1,6 @@
 //! Laws of queries. Nothing is done when they run.
 
-ghost use Rattle.queries.specs.Laws.{WholeOrdersAreOne, RowsAreOrdered, AnswersAreOrdered};
+ghost use Rattle.queries.specs.Laws.{WholeOrdersAreOne, RowsAreOrdered, AnswersAreOrdered, AnswersAreOne};
 
 /// The explicit orders and the filter determine the whole list of orders.
 pub fn whole_orders_are_one()
@@ -15,4 +15,9 @@ pub fn rows_are_ordered()
 /// The documents that match a checked query are in a strict order, which is total on different keys.
 pub fn answers_are_ordered()
     ensures { AnswersAreOrdered }
+{}
+
+/// A query has one answer over the documents of a store.
+pub fn answers_are_one()
+    ensures { AnswersAreOne }
 {}

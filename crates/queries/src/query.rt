@@ -1,10 +1,10 @@
-ghost use Rattle.std.specs.Prelude.{◌≡◌, ◌≢◌, ◌↔◌, ◌∷◌, [], length, IsTrue, IfOk, IfErr, MatchOption};
+ghost use Rattle.std.specs.Prelude.{◌≡◌, ◌≢◌, ◌↔◌, ◌∷◌, [], length, IsTrue, IfOk, IfErr, MatchOption, IsPermutation};
 ghost use Rattle.queries.specs.Found.{standing_at, IsMatch};
-ghost use Rattle.queries.specs.Checked.{IsCheckedCollection, IsLimit};
+ghost use Rattle.queries.specs.Checked.{IsChecked, IsCheckedCollection, IsLimit};
 ghost use Rattle.queries.specs.Orders.{AreWhole};
 ghost use Rattle.queries.specs.Queried.{IsSameLimit, IsTargetOf, IsQueryOf, HasQueryFault};
 ghost use Rattle.queries.specs.Rules.{BadLimit, IsSound};
-ghost use Rattle.queries.specs.Matching.{MeetsAny, Matches, TellsBefore};
+ghost use Rattle.queries.specs.Matching.{MeetsAny, Matches, TellsBefore, RanksInOrder, SortsRows};
 
 use crate::candidate::Candidate;
 use crate::checking::broken_rule;
@@ -15,6 +15,7 @@ use crate::target::{CollectionTarget, Target};
 use crate::whole_orders::whole_orders;
 use document_keys::{CollectionPath, Database, DocumentKey, NoMemory, Segment, Sequence};
 use std::alloc::Global;
+use std::cmp::Ordering;
 use std::marker::Model;
 use value_model::{DocRef, Fields};
 
@@ -145,6 +146,14 @@ impl Query {
         }
     }
 
+    /// What is sent and stored of the query, lent.
+    pub fn as_target(&self) -> &Target
+        ensures same { result.now ≡ self.now }
+        ensures checked { IsChecked self.now }
+    {
+        &self.target
+    }
+
     /// What is sent and stored of the query: a copy.
     ///
     /// # Errors
@@ -169,13 +178,29 @@ impl Query {
         }
     }
 
+    /// The order of two documents in the order of the query, where null stands for a value that is missing.
+    fn compare(&self, a: DocRef<'_>, b: DocRef<'_>) -> Ordering
+        ensures { RanksInOrder self.now a.entry.key.now a.entry.fields.now b.entry.key.now b.entry.fields.now result }
+    {
+        match &self.target {
+            Target::Document(_) => Ordering::Equal,
+            Target::Collection(target) => compare_rows(target.orders.as_slice(), a, b),
+        }
+    }
+
     /// Whether one of two documents that match the query comes before the other. It takes no memory.
     pub fn before(&self, a: DocRef<'_>, b: DocRef<'_>) -> bool
         ensures { TellsBefore self.now a.entry.key.now a.entry.fields.now b.entry.key.now b.entry.fields.now result }
     {
-        match &self.target {
-            Target::Document(_) => false,
-            Target::Collection(target) => compare_rows(target.orders.as_slice(), a, b).is_lt(),
-        }
+        self.compare(a, b).is_lt()
+    }
+
+    /// Puts documents that match the query, and have different keys, in its order. It takes no memory.
+    pub fn sort(&self, rows: &mut [DocRef<'_>])
+        ensures permutation { IsPermutation rows.old rows.new }
+        ensures sorted { SortsRows self.now rows.old rows.new }
+    {
+        let _target = &self.target;
+        rows.sort_unstable_by(|a, b| self.compare(*a, *b));
     }
 }

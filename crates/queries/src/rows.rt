@@ -1,6 +1,6 @@
 //! Where documents stand in the order of a query.
 
-ghost use Rattle.std.specs.Prelude.{◌↔◌, IsTrue};
+ghost use Rattle.std.specs.Prelude.{◌≡◌, ◌↔◌, IsTrue, option_map, unwrap_or};
 ghost use Rattle.value_model.specs.Data as Data;
 ghost use Rattle.value_model.specs.Order.{RanksValues};
 ghost use Rattle.queries.specs.Found.{standing_at};
@@ -10,7 +10,7 @@ use crate::candidate::Candidate;
 use crate::order::{Cursor, Order};
 use document_keys::FieldPath;
 use std::cmp::Ordering;
-use value_model::{DocRef, Value};
+use value_model::{DocRef, Kind, Value};
 
 /// A comparison's answer in the direction of an order.
 fn directed(order: Ordering, descending: bool) -> Ordering
@@ -48,20 +48,29 @@ fn compare_to_values(candidate: &Candidate<'_>, orders: &[Order], values: &[Valu
     Ordering::Equal
 }
 
-/// The order of the values at a path that two documents have.
+/// The value that was found, or null in its place.
+fn or_null<'a>(found: Option<&'a Value>, null: &'a Value) -> &'a Value
+    requires { null.now ≡ Data.null }
+    ensures { result.now ≡ unwrap_or (option_map (λ value. value.now) found.entry) Data.null }
+{
+    match found {
+        Some(value) => value,
+        None => null,
+    }
+}
+
+/// The order of the values of two documents at a path, where null stands for a value that is missing.
 fn compare_at(path: &FieldPath, left: DocRef<'_>, right: DocRef<'_>) -> Ordering
     ensures { RanksAt path.now left.entry.key.now left.entry.fields.now right.entry.key.now right.entry.fields.now result }
 {
     if path.is_document_name() {
         return left.key.compare(right.key);
     }
-    match (left.fields.at(path), right.fields.at(path)) {
-        (Some(x), Some(y)) => x.compare(y),
-        _ => Ordering::Equal,
-    }
+    let null = Value { kind: Kind::Null };
+    or_null(left.fields.at(path), &null).compare(or_null(right.fields.at(path), &null))
 }
 
-/// The order of two documents that have the values of the orders.
+/// The order of two documents by their values for the orders, where null stands for a value that is missing.
 pub(crate) fn compare_rows(orders: &[Order], left: DocRef<'_>, right: DocRef<'_>) -> Ordering
     ensures { RanksDocuments orders.now left.entry.key.now left.entry.fields.now right.entry.key.now right.entry.fields.now result }
 {

@@ -1,4 +1,4 @@
-use Rattle.std.proofs.Common.{◌≡◌, ◌∙◌, ◌++◌, [], map, option_to_list, append_assoc, ap, subst}
+use Rattle.std.proofs.Common.{◌∙◌, ◌++◌, [], map, option_to_list, append_assoc, ap, subst}
 use Rattle.std.proofs.lemmas.Result.{IfOk-weaker}
 use Rattle.queries.specs.Orders.{Gathers, IsNameOrder, all_nodes, last_direction, order_by}
 use Rattle.queries.proofs.Gathered.{whole_from}

@@ -1,0 +1,100 @@
+-- lists that are the answer of a query
+use Rattle.std.proofs.Common.{◌≡◌, ◌≢◌, ◌∙◌, ◌⊎◌, inl, inr, ℕ, ◌<◌, ◌≤◌, List, [], length, get_or, take, Option, Some, None, IfSome, sym, subst, arith}
+use Rattle.std.specs.List.{All, AllPairs, Contains}
+use Rattle.std.proofs.lemmas.List.{get_or-take, get_or_default, length-take}
+use Rattle.std.proofs.lemmas.List.Elements.{All-contains, All-take, Contains-get_or}
+use Rattle.std.proofs.lemmas.Bool.{cases_lt}
+use Rattle.document_keys.specs.Names.{Root}
+use Rattle.value_model.specs.Documents.{DocumentMap, Stored}
+use Rattle.queries.specs.declared.target.Target.{Target}
+use Rattle.queries.specs.Answer.{Finds, KeyBefore, ComeBefore, limit_of, IsAnswer, IsPastLimit}
+use Rattle.queries.specs.Matching.{IsBefore}
+use Rattle.queries.proofs.Counting.{in_order_apart, no_more_before, same_in_order}
+use Rattle.queries.proofs.Lawful.{answers_law}
+
+module _ (target : Target) (root : Root) (documents : DocumentMap) where
+  -- of two keys not each comes before the other
+  pub one_way : (key other : List (List ℕ)) → KeyBefore target root documents key other → KeyBefore target root documents other key → ⊥
+  one_way key other ahead back =
+      let e : Some ahead.stored ≡ Some back.others = sym ahead.there ∙ back.other_there in
+      let f : Some ahead.others ≡ Some back.stored = sym ahead.other_there ∙ back.there in
+      let same : ahead.stored ≡ back.others = cc in
+      let also : ahead.others ≡ back.stored = cc in
+      let before : IsBefore target root other back.stored.fields key ahead.stored.fields = subst (λ (s : Stored). IsBefore target root other back.stored.fields key s.fields) (sym same) back.before in
+      let after : IsBefore target root other ahead.others.fields key ahead.stored.fields = subst (λ (s : Stored). IsBefore target root other s.fields key ahead.stored.fields) (sym also) before in
+      answers_law.strict target root key ahead.stored.fields
+      (answers_law.transitive target root key ahead.stored.fields other ahead.others.fields key ahead.stored.fields ahead.before after)
+
+  -- it is a chain
+  pub chained : (key other last : List (List ℕ)) → KeyBefore target root documents key other → KeyBefore target root documents other last → KeyBefore target root documents key last
+  chained key other last first second =
+      let e : Some first.others ≡ Some second.stored = sym first.other_there ∙ second.there in
+      let same : first.others ≡ second.stored = cc in
+      record {
+        stored = first.stored;
+        others = second.others;
+        there = first.there;
+        other_there = second.other_there;
+        before = answers_law.transitive target root key first.stored.fields other first.others.fields last second.others.fields first.before
+            (subst (λ (s : Stored). IsBefore target root other s.fields last second.others.fields) (sym same) second.before);
+      }
+
+  module _ (keys : List (List (List ℕ))) (ordered : AllPairs (KeyBefore target root documents) keys) where
+    -- an answer is no longer than the limit
+    pub within_limit : (limit : ℕ) → All (Finds target root documents) keys
+        → ((key : List (List ℕ)) → Contains keys key → (earlier : List (List (List ℕ))) → ComeBefore target root documents earlier key → length earlier < limit)
+        → length keys ≤ limit
+    within_limit limit found below =
+        elim (cases_lt limit (length keys)) [
+          | inl longer ↦
+              let key = get_or keys limit [] in
+              let first = take limit keys in
+              let long = length-take limit keys in
+              let earlier : ComeBefore target root documents first key = record {
+                distinct = λ i j d before inside. subst (λ x. get_or first i d ≢ x) (sym (get_or-take limit keys j d (omega arith)))
+                    (subst (λ x. x ≢ get_or keys j d) (sym (get_or-take limit keys i d (omega arith))) (in_order_apart (KeyBefore target root documents) one_way keys ordered i j d before (omega arith)));
+                found = All-take (Finds target root documents) limit keys found;
+                before = λ k d inside. subst (λ x. KeyBefore target root documents x key) (sym (get_or-take limit keys k d (omega arith)))
+                    (subst (λ x. KeyBefore target root documents (get_or keys k d) x) (get_or_default keys limit d [] longer) (ordered k limit d (omega arith) longer));
+              } in
+              let fewer = below key (Contains-get_or keys limit [] longer) first earlier in
+              absurd (omega arith)
+          | inr nolonger ↦ omega arith
+        ]
+
+    -- A list of matching documents in order is the answer where each other one is past the limit.
+    module _ (found : All (Finds target root documents) keys) (short : IfSome (limit_of target) (λ limit. length keys ≤ limit))
+        (covers : (key : List (List ℕ)) → Finds target root documents key → Contains keys key ⊎ IsPastLimit target root documents keys key) where
+      within : (limit : Option ℕ) → IfSome limit (λ n. length keys ≤ n) → (key : List (List ℕ)) → Contains keys key → IfSome limit (λ n. (earlier : List (List (List ℕ))) → ComeBefore target root documents earlier key → length earlier < n)
+      within None fits key there = tt
+      within (Some n) fits key there = λ earlier come.
+          let all : All (Contains keys) earlier = λ k d inside.
+          elim (covers (get_or earlier k d) (come.found k d inside)) [
+            | inl in_keys ↦ in_keys
+            | inr past ↦ absurd (one_way key (get_or earlier k d) (All-contains (λ other. KeyBefore target root documents other (get_or earlier k d)) keys key past.3 there) (come.before k d inside))
+          ] in
+          let most = no_more_before (KeyBefore target root documents) one_way keys there.0 key earlier ordered there.1 there.2 come.distinct all come.before in
+          let place = there.1 in
+          omega arith
+
+      not_past : (limit : Option ℕ) (n : ℕ) (key : List (List ℕ)) → limit ≡ Some n → n ≤ length keys → All (λ other. KeyBefore target root documents other key) keys
+          → IfSome limit (λ m. (earlier : List (List (List ℕ))) → ComeBefore target root documents earlier key → length earlier < m) → ⊥
+      not_past None n key is long before fits = cc
+      not_past (Some m) n key is long before fits =
+          let same : m ≡ n = cc in
+          let fewer = fits keys (record { distinct = in_order_apart (KeyBefore target root documents) one_way keys ordered; found = found; before = before }) in
+          omega arith
+
+      pub answer_from : IsAnswer target root documents keys
+      answer_from = record {
+        ordered = ordered;
+        members = λ key. (
+          λ there. (All-contains (Finds target root documents) keys key found there, within (limit_of target) short key there),
+          λ both. elim (covers key both.0) [ inl there ↦ there | inr past ↦ absurd (not_past (limit_of target) past.0 key past.1 past.2 past.3 both.1) ],
+        );
+      }
+
+  pub answers_once : (keys others : List (List (List ℕ))) → IsAnswer target root documents keys → IsAnswer target root documents others → keys ≡ others
+  answers_once keys others one two =
+      same_in_order (KeyBefore target root documents) one_way keys others one.ordered two.ordered
+      (λ key. ((λ there. (two.members key).1 ((one.members key).0 there)), (λ there. (one.members key).1 ((two.members key).0 there))))
