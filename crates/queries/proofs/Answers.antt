@@ -1,12 +1,14 @@
 -- lists that are the answer of a query
-use Rattle.std.proofs.Common.{◌≡◌, ◌≢◌, ◌∙◌, ◌⊎◌, inl, inr, ℕ, ◌<◌, ◌≤◌, List, [], length, get_or, take, Option, Some, None, IfSome, sym, subst, arith}
+use Rattle.std.proofs.Common.{◌≡◌, ◌≢◌, ◌∙◌, ◌↔◌, ◌⊎◌, inl, inr, ℕ, ◌+◌, ◌<◌, ◌≤◌, List, [], ◌∷◌, length, get_or, take, Option, Some, None, IfSome, option_map, option_to_list, refl, sym, ap, subst, arith}
+use Rattle.std.specs.FinMap as map
 use Rattle.std.specs.List.{All, AllPairs, Contains}
 use Rattle.std.proofs.lemmas.List.{get_or-take, get_or_default, length-take}
-use Rattle.std.proofs.lemmas.List.Elements.{All-contains, All-take, Contains-get_or}
+use Rattle.std.proofs.lemmas.List.Elements.{All-cons, All-nil, All-contains, All-take, Contains-get_or}
 use Rattle.std.proofs.lemmas.Bool.{cases_lt}
 use Rattle.document_keys.specs.Names.{Root}
 use Rattle.value_model.specs.Documents.{DocumentMap, Stored}
 use Rattle.queries.specs.declared.target.Target.{Target}
+use Rattle.queries.specs.declared.target.Target.TheVariants.{Document, Collection}
 use Rattle.queries.specs.Answer.{Finds, KeyBefore, ComeBefore, limit_of, IsAnswer, IsPastLimit}
 use Rattle.queries.specs.Matching.{IsBefore}
 use Rattle.queries.proofs.Counting.{in_order_apart, no_more_before, same_in_order}
@@ -98,3 +100,15 @@ module _ (target : Target) (root : Root) (documents : DocumentMap) where
   answers_once keys others one two =
       same_in_order (KeyBefore target root documents) one_way keys others one.ordered two.ordered
       (λ key. ((λ there. (two.members key).1 ((one.members key).0 there)), (λ there. (one.members key).1 ((two.members key).0 there))))
+
+-- the answer of a query of one document is its key, where there is such a document
+module _ (wanted : List (List ℕ)) (root : Root) (documents : DocumentMap) where
+  answer_as : (found : Option Stored) → map.get documents wanted ≡ found → IsAnswer (Document wanted) root documents (option_to_list (option_map (λ _. wanted) found))
+  answer_as None is = answer_from (Document wanted) root documents [] (λ i j d before inside. absurd (omega arith)) (λ k d inside. absurd (omega arith)) tt
+      (λ key finds. absurd (let there : None ≡ Some finds.stored = sym is ∙ ap (map.get documents) (sym finds.matches) ∙ finds.there in cc))
+  answer_as (Some stored) is = answer_from (Document wanted) root documents (wanted ∷ []) (λ i j d before inside. absurd (omega arith))
+      (All-cons (Finds (Document wanted) root documents) wanted [] (record { stored = stored; there = is; matches = refl }) (All-nil (Finds (Document wanted) root documents))) tt
+      (λ key finds. inl (0, omega arith, sym finds.matches))
+
+  pub document_answer : IsAnswer (Document wanted) root documents (option_to_list (option_map (λ _. wanted) (map.get documents wanted)))
+  document_answer = answer_as (map.get documents wanted) refl

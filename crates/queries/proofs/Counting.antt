@@ -105,10 +105,10 @@ module _ {K : Type 0} where
         λ i. first i ∷ rest i
 
 -- whether two keys are the same
-abbrev same_key_test : List (List ℕ) → List (List ℕ) → Bool
+abbrev pub same_key_test : List (List ℕ) → List (List ℕ) → Bool
 same_key_test a b = pointwise (pointwise nat_eq) a b
 
-same_key_decides : (a b : List (List ℕ)) → Decides (same_key_test a b) (a ≡ b)
+pub same_key_decides : (a b : List (List ℕ)) → Decides (same_key_test a b) (a ≡ b)
 same_key_decides a b = pointwise_decides bytes_decides a b
 
 module _ {X : Type 0} (key : X → List (List ℕ)) where

@@ -1,10 +1,12 @@
 -- Laws of queries.
-use Rattle.std.specs.Prelude.{◌≡◌, ◌≢◌, ◌⊎◌, ℕ, List, length, Option}
+use Rattle.std.specs.Prelude.{◌≡◌, ◌≢◌, ◌⊎◌, ℕ, List, length, Option, option_map, option_to_list}
+use Rattle.std.specs.FinMap as map
 use Rattle.document_keys.specs.Names.{Root}
 use Rattle.value_model.specs.Data.{Data, Entries}
 use Rattle.value_model.specs.Documents.{DocumentMap}
 use Rattle.queries.specs.declared.order.Order.{Order}
 use Rattle.queries.specs.declared.target.Target.{Target}
+use Rattle.queries.specs.declared.target.Target.TheVariants.{Document}
 use Rattle.queries.specs.Answer.{IsAnswer}
 use Rattle.queries.specs.Checked.{IsChecked}
 use Rattle.queries.specs.Filters.{FilterData}
@@ -34,3 +36,8 @@ pub record AnswersAreOrdered : Type 0 where
 abbrev pub AnswersAreOne : Type 0
 AnswersAreOne = (target : Target) (root : Root) (documents : DocumentMap) (keys others : List (List (List ℕ)))
     → IsAnswer target root documents keys → IsAnswer target root documents others → keys ≡ others
+
+-- the answer of a query of one document is its key, where there is such a document
+abbrev pub DocumentsAnswer : Type 0
+DocumentsAnswer = (wanted : List (List ℕ)) (root : Root) (documents : DocumentMap)
+    → IsAnswer (Document wanted) root documents (option_to_list (option_map (λ _. wanted) (map.get documents wanted)))

@@ -1,6 +1,6 @@
 //! Laws of queries. Nothing is done when they run.
 
-ghost use Rattle.queries.specs.Laws.{WholeOrdersAreOne, RowsAreOrdered, AnswersAreOrdered, AnswersAreOne};
+ghost use Rattle.queries.specs.Laws.{WholeOrdersAreOne, RowsAreOrdered, AnswersAreOrdered, AnswersAreOne, DocumentsAnswer};
 
 /// The explicit orders and the filter determine the whole list of orders.
 pub fn whole_orders_are_one()
@@ -20,4 +20,9 @@ pub fn answers_are_ordered()
 /// A query has one answer over the documents of a store.
 pub fn answers_are_one()
     ensures { AnswersAreOne }
+{}
+
+/// The answer of a query of one document is its key, where there is such a document.
+pub fn documents_answer()
+    ensures { DocumentsAnswer }
 {}

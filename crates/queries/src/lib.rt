@@ -23,7 +23,9 @@ mod target;
 mod whole_orders;
 
 pub use filter::{Filter, FilterKind, Junction, Operator, UnaryOp};
-pub use laws::{answers_are_one, answers_are_ordered, rows_are_ordered, whole_orders_are_one};
+pub use laws::{
+    answers_are_one, answers_are_ordered, documents_answer, rows_are_ordered, whole_orders_are_one,
+};
 pub use listen_request::{ListenRequest, Resume};
 pub use order::{Cursor, Order};
 pub use query::Query;
