@@ -1,5 +1,5 @@
 -- lists that are the answer of a query
-use Rattle.std.proofs.Common.{◌≡◌, ◌≢◌, ◌∙◌, ◌↔◌, ◌⊎◌, inl, inr, ℕ, ◌+◌, ◌<◌, ◌≤◌, List, [], ◌∷◌, length, get_or, take, Option, Some, None, IfSome, option_map, option_to_list, refl, sym, ap, subst, arith}
+use Rattle.std.proofs.Common.{◌≡◌, ◌≢◌, ◌∙◌, ◌⊎◌, inl, inr, ℕ, ◌<◌, ◌≤◌, List, [], ◌∷◌, length, get_or, take, Option, Some, None, IfSome, option_map, option_to_list, refl, sym, ap, subst, arith}
 use Rattle.std.specs.FinMap as map
 use Rattle.std.specs.List.{All, AllPairs, Contains}
 use Rattle.std.proofs.lemmas.List.{get_or-take, get_or_default, length-take}
@@ -7,11 +7,13 @@ use Rattle.std.proofs.lemmas.List.Elements.{All-cons, All-nil, All-contains, All
 use Rattle.std.proofs.lemmas.Bool.{cases_lt}
 use Rattle.document_keys.specs.Names.{Root}
 use Rattle.value_model.specs.Documents.{DocumentMap, Stored}
+use Rattle.queries.specs.declared.target.CollectionTarget.{CollectionTarget}
 use Rattle.queries.specs.declared.target.Target.{Target}
 use Rattle.queries.specs.declared.target.Target.TheVariants.{Document, Collection}
 use Rattle.queries.specs.Answer.{Finds, KeyBefore, ComeBefore, limit_of, IsAnswer, IsPastLimit}
+use Rattle.queries.specs.Laws.{AnswersAreFronts, AnswersStay, without_limit}
 use Rattle.queries.specs.Matching.{IsBefore}
-use Rattle.queries.proofs.Counting.{in_order_apart, no_more_before, same_in_order}
+use Rattle.queries.proofs.Counting.{in_order_apart, no_more_before, pairs_taken, same_in_order}
 use Rattle.queries.proofs.Lawful.{answers_law}
 
 module _ (target : Target) (root : Root) (documents : DocumentMap) where
@@ -112,3 +114,80 @@ module _ (wanted : List (List ℕ)) (root : Root) (documents : DocumentMap) wher
 
   pub document_answer : IsAnswer (Document wanted) root documents (option_to_list (option_map (λ _. wanted) (map.get documents wanted)))
   document_answer = answer_as (map.get documents wanted) refl
+
+-- the same query without its limit finds the same documents, and has the same order
+module _ (target : CollectionTarget) (root : Root) (documents : DocumentMap) where
+  finds_less : (key : List (List ℕ)) → Finds (Collection target) root documents key → Finds (Collection (without_limit target)) root documents key
+  finds_less key finds = let m = finds.matches in record {
+    stored = finds.stored;
+    there = finds.there;
+    matches = record { inside = m.inside; meets = m.meets; values = m.values; ordered = m.ordered; from_start = m.from_start; to_end = m.to_end };
+  }
+
+  finds_more : (key : List (List ℕ)) → Finds (Collection (without_limit target)) root documents key → Finds (Collection target) root documents key
+  finds_more key finds = let m = finds.matches in record {
+    stored = finds.stored;
+    there = finds.there;
+    matches = record { inside = m.inside; meets = m.meets; values = m.values; ordered = m.ordered; from_start = m.from_start; to_end = m.to_end };
+  }
+
+  before_more : (key other : List (List ℕ)) → KeyBefore (Collection (without_limit target)) root documents key other → KeyBefore (Collection target) root documents key other
+  before_more key other ahead = let b = ahead.before in record {
+    stored = ahead.stored;
+    others = ahead.others;
+    there = ahead.there;
+    other_there = ahead.other_there;
+    before = record { xs = b.xs; ys = b.ys; has = b.has; other_has = b.other_has; precedes = b.precedes };
+  }
+
+  front_answers : (limit : ℕ) (all : List (List (List ℕ))) → target.limit ≡ Some limit → IsAnswer (Collection (without_limit target)) root documents all → IsAnswer (Collection target) root documents (take limit all)
+  front_answers limit all is answer =
+      let R = KeyBefore (Collection target) root documents in
+      let long = length-take limit all in
+      let ordered : AllPairs R all = λ i j d before inside. before_more (get_or all i d) (get_or all j d) (answer.ordered i j d before inside) in
+      let found : All (Finds (Collection target) root documents) all = λ k d inside. finds_more (get_or all k d) ((answer.members (get_or all k d)).0 (Contains-get_or all k d inside)).0 in
+      let short : IfSome target.limit (λ n. length (take limit all) ≤ n) = subst (λ o. IfSome o (λ n. length (take limit all) ≤ n)) (sym is) (omega arith) in
+      answer_from (Collection target) root documents (take limit all) (pairs_taken R limit all ordered) (All-take (Finds (Collection target) root documents) limit all found) short
+      (λ key finds.
+      let there = (answer.members key).1 (finds_less key finds, tt) in
+      let inside = there.1 in
+      elim (cases_lt there.0 limit) [
+        | inl first ↦ inl (there.0, omega arith, get_or-take limit all there.0 key first ∙ there.2)
+        | inr later ↦ inr (
+          limit,
+          is,
+          omega arith,
+          λ k d below. subst (λ x. R x key) (sym (get_or-take limit all k d (omega arith)))
+              (subst (λ x. R (get_or all k d) x) (get_or_default all there.0 d key inside ∙ there.2) (ordered k there.0 d (omega arith) inside)),
+        )
+      ])
+
+pub fronts_answer : AnswersAreFronts
+fronts_answer target root documents limit keys all is answer whole =
+    answers_once (Collection target) root documents keys (take limit all) answer (front_answers target root documents limit all is whole)
+
+module _ (target : Target) (root : Root) (before after : DocumentMap) (keys : List (List (List ℕ))) (answer : IsAnswer target root before keys) (same : All (λ key. map.get after key ≡ map.get before key) keys) where
+  found_before : All (Finds target root before) keys
+  found_before k d inside = ((answer.members (get_or keys k d)).0 (Contains-get_or keys k d inside)).0
+
+  short_by : (limit : Option ℕ) → ((key : List (List ℕ)) → Contains keys key → IfSome limit (λ n. (earlier : List (List (List ℕ))) → ComeBefore target root before earlier key → length earlier < n)) → IfSome limit (λ n. length keys ≤ n)
+  short_by None below = tt
+  short_by (Some n) below = within_limit target root before keys answer.ordered n found_before below
+
+  still_ordered : AllPairs (KeyBefore target root after) keys
+  still_ordered i j d ahead inside = let b = answer.ordered i j d ahead inside in record {
+    stored = b.stored;
+    others = b.others;
+    there = same i d (omega arith) ∙ b.there;
+    other_there = same j d inside ∙ b.other_there;
+    before = b.before;
+  }
+
+  still_found : All (Finds target root after) keys
+  still_found k d inside = let f = found_before k d inside in record { stored = f.stored; there = same k d inside ∙ f.there; matches = f.matches }
+
+  stays : ((key : List (List ℕ)) → Finds target root after key → Contains keys key ⊎ IsPastLimit target root after keys key) → IsAnswer target root after keys
+  stays covers = answer_from target root after keys still_ordered still_found (short_by (limit_of target) (λ key there. ((answer.members key).0 there).1)) covers
+
+pub answers_stay : AnswersStay
+answers_stay target root before after keys answer same covers = stays target root before after keys answer same covers

@@ -28,6 +28,12 @@ module _ {K : Type 0} where
   pub pairs_head : (R : K → K → Type 0) (x : K) (xs : List K) (e : K) → AllPairs R (x ∷ xs) → Contains xs e → R x e
   pairs_head R x xs e pairs there = let inside = there.1 in subst (R x) there.2 (pairs 0 (suc there.0) e (omega arith) (omega arith))
 
+  pub pairs_taken : (R : K → K → Type 0) (n : ℕ) (xs : List K) → AllPairs R xs → AllPairs R (take n xs)
+  pairs_taken R n xs pairs i j d before inside =
+      let long = length-take n xs in
+      subst (λ x. R x (get_or (take n xs) j d)) (sym (get_or-take n xs i d (omega arith)))
+      (subst (λ x. R (get_or xs i d) x) (sym (get_or-take n xs j d (omega arith))) (pairs i j d before (omega arith)))
+
   -- what is in a list is in what a removal of another item leaves
   left_over : (ys : List K) (i : ℕ) (x e : K) → i < length ys → x ≡ get_or ys i x → (x ≡ e → ⊥) → Contains ys e → Contains (remove ys i) e
   left_over ys i x e inside is apart there =

@@ -1,13 +1,15 @@
 -- Laws of queries.
-use Rattle.std.specs.Prelude.{◌≡◌, ◌≢◌, ◌⊎◌, ℕ, List, length, Option, option_map, option_to_list}
+use Rattle.std.specs.Prelude.{◌≡◌, ◌≢◌, ◌⊎◌, ℕ, List, length, take, Option, Some, None, option_map, option_to_list}
 use Rattle.std.specs.FinMap as map
+use Rattle.std.specs.List.{All, Contains}
 use Rattle.document_keys.specs.Names.{Root}
 use Rattle.value_model.specs.Data.{Data, Entries}
 use Rattle.value_model.specs.Documents.{DocumentMap}
 use Rattle.queries.specs.declared.order.Order.{Order}
+use Rattle.queries.specs.declared.target.CollectionTarget.{CollectionTarget}
 use Rattle.queries.specs.declared.target.Target.{Target}
-use Rattle.queries.specs.declared.target.Target.TheVariants.{Document}
-use Rattle.queries.specs.Answer.{IsAnswer}
+use Rattle.queries.specs.declared.target.Target.TheVariants.{Document, Collection}
+use Rattle.queries.specs.Answer.{Finds, IsAnswer, IsPastLimit}
 use Rattle.queries.specs.Checked.{IsChecked}
 use Rattle.queries.specs.Filters.{FilterData}
 use Rattle.queries.specs.Matching.{Matches, IsBefore}
@@ -41,3 +43,27 @@ AnswersAreOne = (target : Target) (root : Root) (documents : DocumentMap) (keys 
 abbrev pub DocumentsAnswer : Type 0
 DocumentsAnswer = (wanted : List (List ℕ)) (root : Root) (documents : DocumentMap)
     → IsAnswer (Document wanted) root documents (option_to_list (option_map (λ _. wanted) (map.get documents wanted)))
+
+-- the query of a collection without its limit
+abbrev pub without_limit : CollectionTarget → CollectionTarget
+without_limit target = record {
+  collection = target.collection;
+  filter = target.filter;
+  orders = target.orders;
+  start_at = target.start_at;
+  end_at = target.end_at;
+  limit = None;
+}
+
+-- with a limit the answer is the front of what it is without one
+abbrev pub AnswersAreFronts : Type 0
+AnswersAreFronts = (target : CollectionTarget) (root : Root) (documents : DocumentMap) (limit : ℕ) (keys all : List (List (List ℕ))) → target.limit ≡ Some limit
+    → IsAnswer (Collection target) root documents keys → IsAnswer (Collection (without_limit target)) root documents all → keys ≡ take limit all
+
+-- An answer stays where its documents do, and each other document that matches then is past its limit: the answer has as
+-- many keys as the limit, and the documents of all of them come before.
+abbrev pub AnswersStay : Type 0
+AnswersStay = (target : Target) (root : Root) (before after : DocumentMap) (keys : List (List (List ℕ))) → IsAnswer target root before keys
+    → All (λ key. map.get after key ≡ map.get before key) keys
+    → ((key : List (List ℕ)) → Finds target root after key → Contains keys key ⊎ IsPastLimit target root after keys key)
+    → IsAnswer target root after keys

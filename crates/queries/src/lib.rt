@@ -24,7 +24,8 @@ mod whole_orders;
 
 pub use filter::{Filter, FilterKind, Junction, Operator, UnaryOp};
 pub use laws::{
-    answers_are_one, answers_are_ordered, documents_answer, rows_are_ordered, whole_orders_are_one,
+    answers_are_fronts, answers_are_one, answers_are_ordered, answers_stay, documents_answer,
+    rows_are_ordered, whole_orders_are_one,
 };
 pub use listen_request::{ListenRequest, Resume};
 pub use order::{Cursor, Order};

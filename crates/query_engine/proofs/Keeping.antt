@@ -145,10 +145,10 @@ module _ (target : CollectionTarget) (root : Root) (documents : DocumentMap) (ke
       ])
 
 -- what is listed of a key where something was found, and where nothing was
-pub listed : {X : Type 0} (f : X → Stored) (found : Option X) (got : Option Stored) (key : List (List ℕ)) → option_map f found ≡ got → is_some found ≡ true → option_to_list (option_map (λ _. key) got) ≡ key ∷ []
-listed f None got key is said = absurd (let no : false ≡ true = said in cc)
-listed f (Some x) got key is said = ap (λ o. option_to_list (option_map (λ _. key) o)) (sym is)
+pub listed : (found : Option Stored) (key : List (List ℕ)) → is_some found ≡ true → option_to_list (option_map (λ _. key) found) ≡ key ∷ []
+listed None key is = absurd (let no : false ≡ true = is in cc)
+listed (Some stored) key is = refl
 
-pub unlisted : {X : Type 0} (f : X → Stored) (found : Option X) (got : Option Stored) (key : List (List ℕ)) → option_map f found ≡ got → is_some found ≡ false → option_to_list (option_map (λ _. key) got) ≡ []
-unlisted f (Some x) got key is said = absurd (let no : true ≡ false = said in cc)
-unlisted f None got key is said = ap (λ o. option_to_list (option_map (λ _. key) o)) (sym is)
+pub unlisted : (found : Option Stored) (key : List (List ℕ)) → is_some found ≡ false → option_to_list (option_map (λ _. key) found) ≡ []
+unlisted (Some stored) key is = absurd (let no : true ≡ false = is in cc)
+unlisted None key is = refl

@@ -13,19 +13,13 @@ use Rattle.queries.specs.declared.target.Target.{Target}
 use Rattle.queries.specs.Answer.{Finds, KeyBefore}
 use Rattle.queries.specs.Checked.{IsChecked}
 use Rattle.queries.proofs.Answers.{one_way, chained}
-use Rattle.queries.proofs.Counting.{in_order_apart, no_more_before, same_key_test, same_key_decides}
+use Rattle.queries.proofs.Counting.{in_order_apart, no_more_before, pairs_taken, same_key_test, same_key_decides}
 use Rattle.queries.proofs.Lawful.{answers_law}
 use Rattle.query_engine.specs.Kept.{IsBehind, KeepsKeys, front}
 
 same_or_not : (r : Bool) (key other : List (List ℕ)) → Decides r (key ≡ other) → (key ≡ other) ⊎ (key ≢ other)
 same_or_not true key other decides = inl (decides.0 refl)
 same_or_not false key other decides = inr (λ same. let e = decides.1 same in cc)
-
-taken_pairs : {K : Type 0} (R : K → K → Type 0) (n : ℕ) (ks : List K) → AllPairs R ks → AllPairs R (take n ks)
-taken_pairs R n ks pairs i j d before inside =
-    let long = length-take n ks in
-    subst (λ x. R x (get_or (take n ks) j d)) (sym (get_or-take n ks i d (omega arith)))
-    (subst (λ x. R (get_or ks i d) x) (sym (get_or-take n ks j d (omega arith))) (pairs i j d before (omega arith)))
 
 module _ (target : Target) (root : Root) (documents : DocumentMap) where
   -- two keys of matching documents are the same, or one comes before the other
@@ -52,7 +46,7 @@ module _ (target : Target) (root : Root) (documents : DocumentMap) where
         let within : All (Contains ss) (take n ks) = λ k e inside.
         subst (Contains ss) (sym (get_or-take n ks k e (omega arith))) (Contains-permutation ks ss (get_or ks k e) moves (Contains-get_or ks k e (omega arith))) in
         let too_many : All (λ other. KeyBefore target root documents other b) (take n ks) → ⊥ = λ all.
-        let most = no_more_before (KeyBefore target root documents) (one_way target root documents) ss j b (take n ks) ordered (omega arith) is (taken_pairs ◌≢◌ n ks distinct) within all in
+        let most = no_more_before (KeyBefore target root documents) (one_way target root documents) ss j b (take n ks) ordered (omega arith) is (pairs_taken ◌≢◌ n ks distinct) within all in
         omega arith in
         elim (ranked checked b key b_found finds) [
           | inl ahead ↦ ahead
@@ -93,7 +87,7 @@ module _ (target : Target) (root : Root) (documents : DocumentMap) where
 
     front_pairs : (limit : Option ℕ) → AllPairs (KeyBefore target root documents) (front limit ss)
     front_pairs None = ordered
-    front_pairs (Some n) = taken_pairs (KeyBefore target root documents) n ss ordered
+    front_pairs (Some n) = pairs_taken (KeyBefore target root documents) n ss ordered
 
     front_all : (P : List (List ℕ) → Type 0) (limit : Option ℕ) → All P ks → All P (front limit ss)
     front_all P None all = All-permutation P ks ss moves all

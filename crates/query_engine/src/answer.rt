@@ -1,6 +1,7 @@
 //! The answer of a query.
 
-ghost use Rattle.std.specs.Prelude.{◌≡◌, ◌∷◌, [], IfOk};
+ghost use Rattle.std.specs.Prelude.{◌≡◌, IfOk, is_some};
+ghost use Rattle.std.specs.FinMap as map;
 ghost use Rattle.document_keys.specs.Names.{Root};
 ghost use Rattle.queries.specs.Answer.{IsAnswer};
 ghost use Rattle.queries.specs.Checked.{IsChecked};
@@ -24,6 +25,13 @@ fn copy_keys(alloc: Global, rows: &[DocRef<'_>]) -> Result<Vec<DocumentKey>, NoM
     Ok(keys)
 }
 
+/// Whether there is a document of the key.
+fn has_document<D: Documents>(docs: &D, key: &DocumentKey) -> bool
+    ensures { result ≡ is_some (map.get (D.documents docs.now) key.now) }
+{
+    docs.document(key).is_some()
+}
+
 /// The answer of a query of one document: its key, where there is such a document.
 fn document_rows<D: Documents>(
     alloc: Global,
@@ -33,7 +41,7 @@ fn document_rows<D: Documents>(
     ensures { (root : Root) → IfOk result (λ keys. IsAnswer (Document key.now) root (D.documents docs.now) keys.items) }
 {
     let mut keys = Vec::new(alloc);
-    if docs.document(key).is_some() {
+    if has_document(docs, key) {
         keys.push(key.copy(alloc)?)?;
     }
     Ok(keys)
