@@ -1,17 +1,17 @@
 -- The one alternative of an object without faults.
-use Rattle.std.proofs.Common.{◌≡◌, ◌≢◌, ℕ, ◌-◌, List, [], ◌∷◌, length, Bool, true, false, not, ◌&&◌, cond, codes, refl, sym, ap, subst, ◌∙◌, arith}
+use Rattle.std.proofs.Common.{◌≡◌, ◌≢◌, ℕ, List, [], ◌∷◌, length, Bool, true, false, not, ◌&&◌, ◌||◌, cond, codes, refl, sym, ap, subst, ◌∙◌}
 use Rattle.std.specs.Bool.{if◌then◌else◌}
 use Rattle.serde_json.specs.Data.{Data as Json, Members, no_members, member}
 use Rattle.json_model.specs.declared.place.Object.{Object}
 use Rattle.json_model.specs.declared.place.Object.TheVariants as object
 use Rattle.json_model.specs.declared.fault.JsonFault.TheVariants as json_fault
 use Rattle.json_model.specs.Clean.{IsClean, AreClean}
-use Rattle.json_model.specs.Faults.{FaultsAt, MembersFaults, own_faults}
-use Rattle.json_model.specs.Members.{is_null, takes_null, is_left_out, is_chosen, chosen, is_one_known, only_name, lacks_choice, is_vector_map, later, refined}
+use Rattle.json_model.specs.Faults.{FaultsAt, MembersFaults, levels_inside, own_faults}
+use Rattle.json_model.specs.Members.{is_null, takes_null, is_left_out, is_chosen, chosen, is_one_known, only_name, lacks_array, lacks_choice, is_vector_map, later, refined}
 use Rattle.json_model.specs.Origin.{Origin}
-use Rattle.json_model.specs.Places.{placed, write_rows, transform_rows, member_place, chooses, is_choice, required}
+use Rattle.json_model.specs.Places.{placed, write_rows, transform_rows, field_filter_rows, member_place, chooses, is_choice, required}
 use Rattle.json_model.proofs.Rows.{every_row}
-use Rattle.json_model.proofs.Sound.{sound, first_of, at_clean, not_out}
+use Rattle.json_model.proofs.Sound.{sound, levels_few, first_of, at_clean, not_out}
 
 lacks_none : (kind : Object) (name : List ℕ) (ms : Members) → own_faults kind name ms ≡ [] → lacks_choice kind ms ≡ false
 lacks_none kind name ms none = by (lacks_choice kind ms) none
@@ -23,8 +23,13 @@ lacks_none kind name ms none = by (lacks_choice kind ms) none
 pub choice_there : (o : Origin) (kind : Object) (ms : Members) → AreClean o kind ms → chooses kind ≡ true → is_one_known kind (chosen kind ms) ≡ false → ⊥
 choice_there o kind ms (limit, name, room, clean) must none =
     let lacks = lacks_none kind name ms (sound o limit kind name ms clean).own in
-    let e : lacks_choice kind ms ≡ true = λ i. must i && not (none i) in
+    let e : (chooses kind && not (is_one_known kind (chosen kind ms))) ≡ true = λ i. must i && not (none i) in
+    let f = neither (lacks_array kind ms) (chooses kind && not (is_one_known kind (chosen kind ms))) lacks in
     cc
+  where
+    neither : (a b : Bool) → (a || b) ≡ false → b ≡ false
+    neither true b h = cc
+    neither false b h = h
 
 no_null_write : (k : List ℕ) → not (takes_null (placed write_rows k)) ≡ true
 unfolding write_rows
@@ -34,10 +39,16 @@ no_null_transform : (k : List ℕ) → not (takes_null (placed transform_rows k)
 unfolding transform_rows
 no_null_transform k = every_row (λ p. not (takes_null p)) transform_rows k refl refl
 
+no_null_filter : (k : List ℕ) → not (takes_null (placed field_filter_rows k)) ≡ true
+unfolding field_filter_rows
+no_null_filter k = every_row (λ p. not (takes_null p)) field_filter_rows k refl refl
+
 -- null stands in no object that has another form by its members
 same_place : (kind : Object) (ms : Members) (k : List ℕ) → takes_null (member_place kind k) ≡ true → refined kind ms ≡ kind
 same_place object.Write ms k takes = let e = ap not takes ∙ refl in let h = no_null_write k in cc
 same_place object.Transform ms k takes = let e = ap not takes ∙ refl in let h = no_null_transform k in cc
+same_place object.FieldFilter ms k takes = let e = ap not takes ∙ refl in let h = no_null_filter k in cc
+same_place object.ListOperand ms k takes = cc
 same_place _ ms k takes = refl
 
 kept : (kind : Object) (ms : Members) (k : List ℕ) (d : Json) → is_chosen kind k d ≡ true → is_left_out (member_place (refined kind ms) k) d ≡ false
@@ -78,7 +89,8 @@ chosen_clean o limit kind whole names (member l e ms) k d clean is =
 pub choice_clean : (o : Origin) (kind : Object) (ms : Members) (k : List ℕ) (d : Json) → AreClean o kind ms → chosen kind ms ≡ (k, d) ∷ [] → IsClean o (member_place (refined kind ms) k) d
 choice_clean o kind ms k d (limit, name, room, clean) is =
     let inside = sound o limit kind name ms clean in
-    (limit - inside.levels, k, omega arith, chosen_clean o (limit - inside.levels) kind ms (required (refined kind ms)) ms k d inside.inside is)
+    let left = levels_inside (refined kind ms) limit inside.levels in
+    (left, k, levels_few (refined kind ms) limit inside.levels room, chosen_clean o left kind ms (required (refined kind ms)) ms k d inside.inside is)
 
 -- what is chosen is one of the alternatives
 pub chosen_choice : (kind : Object) (ms : Members) (k : List ℕ) (d : Json) → chosen kind ms ≡ (k, d) ∷ [] → is_choice kind k ≡ true

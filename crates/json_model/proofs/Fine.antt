@@ -1,16 +1,21 @@
 -- Leaves without faults are what is to stand there, and the other way round.
-use Rattle.std.proofs.Common.{ℕ, List, [], length, refl, ap, inl, inr, arith}
-use Rattle.document_keys.specs.Names.{Root}
+use Rattle.std.proofs.Common.{◌≡◌, ◌≢◌, ℕ, ◌<◌, List, [], ◌∷◌, length, Bool, true, false, refl, sym, ap, inl, inr, ◌∙◌, arith}
+use Rattle.std.proofs.lemmas.List.{length-append}
+use Rattle.std.specs.Bool.{if◌then◌else◌}
+use Rattle.document_keys.specs.Names.{Root, path_text, name_text, documents_text}
 use Rattle.document_keys.proofs.Spelled.{spells_one}
 use Rattle.serde_json.specs.Data.{Data as Json, null, boolean, number, string, array, object as an_object}
 use Rattle.json_model.specs.declared.place.Place.TheVariants as place
 use Rattle.json_model.specs.declared.place.Leaf.{Leaf}
 use Rattle.json_model.specs.declared.place.Leaf.TheVariants as leaf
+use Rattle.json_model.specs.declared.place.Constants.{Constants}
 use Rattle.json_model.specs.declared.fault.JsonFault.{JsonFault}
+use Rattle.json_model.specs.declared.fault.JsonFault.TheVariants as json_fault
 use Rattle.json_model.specs.declared.fault.NamingFault.{NamingFault}
 use Rattle.json_model.specs.Clean.{IsClean}
+use Rattle.json_model.specs.Constants.{is_constant, is_untaken}
 use Rattle.json_model.specs.Faults.{FaultsAt}
-use Rattle.json_model.specs.Leaves.{Unless, NamingFaults, InText, in_text, PathFaults, few, HasManyNames, IsTextOf, IsFieldPathText, FitsLeaf, LeafFaults}
+use Rattle.json_model.specs.Leaves.{Unless, NamingFaults, InText, in_text, PathFaults, QueryPathFaults, ParentFaults, IsParentText, IsQueryPathText, few, HasManyNames, IsTextOf, IsFieldPathText, constant_faults, descendants_faults, FitsLeaf, LeafFaults}
 use Rattle.json_model.specs.Origin.{Origin}
 
 -- the faults of a leaf are those of the tree
@@ -34,8 +39,32 @@ named Fact Has text (inr bad) = cc (bad.2)
 path_fine : (text : List ℕ) → PathFaults text [] → IsFieldPathText text
 path_fine text (few many h) = named _ _ text h
 
+query_fine : (text : List ℕ) → QueryPathFaults text [] → IsQueryPathText text
+query_fine text (few many h) = named _ _ text h
+
+parent_fine : (root : Root) (text : List ℕ) → ParentFaults root text [] → IsParentText root text
+parent_fine root text (inl is) = inl is.0
+parent_fine root text (inr other) = inr (named _ _ text other.1)
+
+constant_fine : (which : Constants) (name text : List ℕ) → [] ≡ constant_faults which name text → is_constant which text ≡ true
+constant_fine which name text none = by (is_constant which text) (is_untaken which text) none
+  where
+    by : (b c : Bool) → [] ≡ (if b then [] else if c then json_fault.Unsupported text ∷ [] else json_fault.BadShape name ∷ []) → b ≡ true
+    by true c e = refl
+    by false true e = cc
+    by false false e = cc
+
+descendants_fine : (name : List ℕ) (d : Json) → [] ≡ descendants_faults name d → d ≡ boolean false
+descendants_fine name (boolean false) e = refl
+descendants_fine name (boolean true) e = cc
+descendants_fine name null e = cc
+descendants_fine name (number n) e = cc
+descendants_fine name (string t) e = cc
+descendants_fine name (array ds) e = cc
+descendants_fine name (an_object ms) e = cc
+
 text_fine : (Fact : List ℕ → Type 0) (Faults : List ℕ → List JsonFault → Type 0) (d : Json) (name : List ℕ) → ((text : List ℕ) → Faults text [] → Fact text) → InText d name Faults [] → IsTextOf Fact d
-text_fine Fact Faults d name then (in_text text _ is h) = (text, (is, then text h))
+text_fine Fact Faults d name holds (in_text text _ is h) = (text, (is, holds text h))
 
 pub leaf_fits : (root : Root) (kind : Leaf) (name : List ℕ) (d : Json) → LeafFaults root kind name d [] → FitsLeaf root kind d
 leaf_fits root leaf.Null name d h = fine _ _ h
@@ -48,6 +77,12 @@ leaf_fits root leaf.Reference name d h = text_fine _ _ d name (λ text. named _ 
 leaf_fits root leaf.Name name d h = text_fine _ _ d name (λ text. named _ _ text) h
 leaf_fits root leaf.Path name d h = text_fine _ _ d name path_fine h
 leaf_fits root leaf.ServerTime name d h = fine _ _ h
+leaf_fits root leaf.Id name d h = text_fine _ _ d name (λ text. fine _ _) h
+leaf_fits root leaf.Parent name d h = text_fine _ _ d name (parent_fine root) h
+leaf_fits root leaf.QueryPath name d h = text_fine _ _ d name query_fine h
+leaf_fits root leaf.Limit name d h = fine _ _ h
+leaf_fits root leaf.Descendants name d h = descendants_fine name d h
+leaf_fits root (leaf.Constant which) name d h = text_fine _ _ d name (constant_fine which name) h
 
 -- what a reader of leaves knows
 pub clean_leaf : (o : Origin) (kind : Leaf) (d : Json) → IsClean o (place.Leaf kind) d → FitsLeaf o.root kind d
@@ -58,6 +93,24 @@ not_many text (names, is) (others, spelled, many) =
     let same = ap length (spells_one text names others is.spelled spelled) in
     let few = is.few in
     absurd (omega arith)
+
+pub not_many_in_query : (text : List ℕ) → IsQueryPathText text → HasManyNames text → ⊥
+not_many_in_query text (names, is) (others, spelled, many) =
+    let same = ap length (spells_one text names others is.spelled spelled) in
+    let few = is.few in
+    absurd (omega arith)
+
+-- a document's name is longer than that of the root's `documents`
+pub longer : (root : Root) (key : List (List ℕ)) → 0 < length key → name_text root key ≢ documents_text root
+longer root [] some is = absurd (omega arith)
+longer root (segment ∷ key) some is =
+    let size = ap length is in
+    let parts = length-append (documents_text root) (path_text (segment ∷ key)) in
+    absurd (omega arith)
+
+parent_faults : (root : Root) (text : List ℕ) → IsParentText root text → ParentFaults root text []
+parent_faults root text (inl is) = inl (is, refl)
+parent_faults root text (inr (key, (names, is))) = inr (λ at. longer root key names.some (sym is ∙ at), inl ((key, (names, is)), refl))
 
 pub fits_leaf : (root : Root) (kind : Leaf) (name : List ℕ) (d : Json) → FitsLeaf root kind d → LeafFaults root kind name d []
 fits_leaf root leaf.Null name d h = inl (h, refl)
@@ -70,3 +123,9 @@ fits_leaf root leaf.Reference name d (text, (is, h)) = in_text text [] is (inl (
 fits_leaf root leaf.Name name d (text, (is, h)) = in_text text [] is (inl (h, refl))
 fits_leaf root leaf.Path name d (text, (is, h)) = in_text text [] is (few (not_many text h) (inl (h, refl)))
 fits_leaf root leaf.ServerTime name d h = inl (h, refl)
+fits_leaf root leaf.Id name d (text, (is, h)) = in_text text [] is (inl (h, refl))
+fits_leaf root leaf.Parent name d (text, (is, h)) = in_text text [] is (parent_faults root text h)
+fits_leaf root leaf.QueryPath name d (text, (is, h)) = in_text text [] is (few (not_many_in_query text h) (inl (h, refl)))
+fits_leaf root leaf.Limit name d h = inl (h, refl)
+fits_leaf root leaf.Descendants name d h = ap (descendants_faults name) (sym h)
+fits_leaf root (leaf.Constant which) name d (text, (is, h)) = in_text text [] is (ap (λ b. if b then [] else if is_untaken which text then json_fault.Unsupported text ∷ [] else json_fault.BadShape name ∷ []) (sym h))

@@ -1,5 +1,5 @@
 -- A tree is of the form exactly where it has no fault.
-use Rattle.std.proofs.Common.{◌≡◌, ◌⊎◌, ℕ, ◌-◌, ◌≤◌, List, [], ◌∷◌, ◌++◌, Bool, true, false, nat_lt, codes, refl, sym, ap, subst, inl, inr, arith}
+use Rattle.std.proofs.Common.{◌≡◌, ◌⊎◌, ℕ, ◌≤◌, List, [], ◌∷◌, ◌++◌, Bool, true, false, nat_lt, codes, refl, sym, ap, subst, inl, inr, arith}
 use borrow.Author.Tests.{ltb-true}
 use Rattle.std.specs.Bool.{if◌then◌else◌}
 use Rattle.serde_json.specs.Data.{Data as Json, null, boolean, number, string, array, object as an_object, Members, no_members, member, Items, no_items, item}
@@ -12,7 +12,7 @@ use Rattle.json_model.specs.declared.place.Object.TheVariants as object
 use Rattle.json_model.specs.declared.place.Series.{Series}
 use Rattle.json_model.specs.declared.fault.JsonFault.{JsonFault}
 use Rattle.json_model.specs.declared.fault.JsonFault.TheVariants as json_fault
-use Rattle.json_model.specs.Faults.{FlatFaults, FaultsAt, ItemsFaults, MembersFaults, OwnOr, InLevels, OwnName, AtMember, unknown_faults, own_faults, own_list_faults, depth_faults, missing}
+use Rattle.json_model.specs.Faults.{FlatFaults, FaultsAt, ItemsFaults, MembersFaults, OwnOr, InLevels, OwnName, AtMember, unknown_faults, own_faults, own_list_faults, depth_faults, levels_inside, missing}
 use Rattle.json_model.specs.Fits.{Fits, ItemsFit, MembersFit, FitsFlat, FitsName}
 use Rattle.json_model.specs.Members.{is_left_out, later, lacks_choice, is_vector_map, lacks_only, refined}
 use Rattle.json_model.specs.Origin.{Origin}
@@ -116,7 +116,7 @@ mutual
   clean_fits o limit (place.Object kind) name (an_object ms) h =
       let inside = sound o limit kind name ms h in
       let own = own_choice kind name ms inside.own in
-      record { chooses = own.0; no_vector = own.1; levels = inside.levels; takes = inside.takes; room = inside.room; inside = members_fit o (limit - inside.levels) (refined kind ms) (required (refined kind ms)) ms inside.inside }
+      record { chooses = own.0; no_vector = own.1; levels = inside.levels; takes = inside.takes; room = inside.room; inside = members_fit o (levels_inside (refined kind ms) limit inside.levels) (refined kind ms) (required (refined kind ms)) ms inside.inside }
   clean_fits o limit (place.Series kind) name (an_object ms) h = flat_fits o (place.Series kind) name (an_object ms) h
   clean_fits o limit (place.Leaf kind) name (an_object ms) h = flat_fits o (place.Leaf kind) name (an_object ms) h
   clean_fits o limit place.Unsupported name (an_object ms) h = flat_fits o place.Unsupported name (an_object ms) h
@@ -129,7 +129,7 @@ mutual
       (clean_fits o limit (item_place kind) name d (subst (FaultsAt o limit (item_place kind) name d) (nothing_first first rest none) at), items_fit o limit kind name ds (subst (ItemsFaults o limit kind name ds) (nothing_last first rest none) more))
 
   members_fit : (o : Origin) (limit : ℕ) (kind : Object) (names : List (List ℕ)) (ms : Members) → MembersFaults o limit kind names ms [] → MembersFit o limit kind names ms
-  members_fit o limit kind names no_members h = no_missing names (end_of o limit kind names h)
+  members_fit o limit kind names no_members h = no_missing kind names (end_of o limit kind names h)
   members_fit o limit kind names (member k d ms) h =
       let here = first_of o limit kind names k d ms h in
       (here.none_missed, at_fits o limit kind k d here.at (clean_fits o limit (member_place kind k) k d), members_fit o limit kind (later k names) ms here.rest)
@@ -150,7 +150,7 @@ mutual
   fits_clean o limit place.Ignored name (array ds) h = refl
   fits_clean o limit (place.Object kind) name (an_object ms) h =
       no_own_faults (own_faults kind name ms) (InLevels (refined kind ms) ms limit (λ inner. MembersFaults o inner (refined kind ms) (required (refined kind ms)) ms)) (choice_own kind name ms h.chooses h.no_vector)
-      (record { levels = h.levels; takes = h.takes; inside = []; are = fit_members o (limit - h.levels) (refined kind ms) (required (refined kind ms)) ms h.inside; is = ap (λ (l : List JsonFault). l ++ []) (sym (none_deep limit h.levels h.room)) })
+      (record { levels = h.levels; takes = h.takes; inside = []; are = fit_members o (levels_inside (refined kind ms) limit h.levels) (refined kind ms) (required (refined kind ms)) ms h.inside; is = ap (λ (l : List JsonFault). l ++ []) (sym (none_deep limit h.levels h.room)) })
   fits_clean o limit (place.Series kind) name (an_object ms) h = absurd h
   fits_clean o limit (place.Leaf kind) name (an_object ms) h = fits_flat o (place.Leaf kind) name (an_object ms) h
   fits_clean o limit place.Unsupported name (an_object ms) h = absurd h
@@ -162,6 +162,6 @@ mutual
   fit_items o limit kind name (item d ds) h = ([], [], fits_clean o limit (item_place kind) name d h.0, fit_items o limit kind name ds h.1, refl)
 
   fit_members : (o : Origin) (limit : ℕ) (kind : Object) (names : List (List ℕ)) (ms : Members) → MembersFit o limit kind names ms → MembersFaults o limit kind names ms []
-  fit_members o limit kind names no_members h = ap missing (sym h)
+  fit_members o limit kind names no_members h = ap (missing kind) (sym h)
   fit_members o limit kind names (member k d ms) h =
-      ([], [], fit_at o limit kind k d h.1 (fits_clean o limit (member_place kind k) k d), fit_members o limit kind (later k names) ms h.2, ap (λ l. missing l ++ []) (sym h.0))
+      ([], [], fit_at o limit kind k d h.1 (fits_clean o limit (member_place kind k) k d), fit_members o limit kind (later k names) ms h.2, ap (λ l. missing kind l ++ []) (sym h.0))

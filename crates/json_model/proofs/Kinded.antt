@@ -1,6 +1,7 @@
 -- The faults of trees that aren't looked into, as they are found.
 use Rattle.std.proofs.Common.{◌≡◌, ◌≢◌, ℕ, List, [], ◌∷◌, Vec, Global, Bool, true, false, cond, Option, Some, None, is_some, MatchOption, Result, Ok, Err, IfOk, refl, sym, ap, subst, inl, inr, ◌∙◌}
 use Rattle.serde_json.specs.Data.{Data as Json, null, boolean, number, string, array, object}
+use Rattle.document_keys.specs.Names.{IsSegment}
 use Rattle.serde_json.specs.Find.{as_str, as_bool}
 use Rattle.value_model.specs.declared.timestamp.Timestamp.{Timestamp}
 use Rattle.value_model.specs.Time.{time_of}
@@ -10,6 +11,7 @@ use Rattle.json_model.specs.Bytes.{SpellsBytes}
 use Rattle.json_model.specs.declared.fault.NamingFault.{NamingFault}
 use Rattle.json_model.specs.Faults.{FirstOf, IsFault}
 use Rattle.json_model.specs.Leaves.{Unless, InText, in_text, in_other, IsText, IsTimeText, IsBytesText, IsNameFault, NamingFaults}
+use Rattle.json_model.specs.Ranks.{first_of_least}
 use Rattle.json_model.proofs.Naming.{only, none}
 
 pub unless_none : (Fact : Type 0) (fault : JsonFault) → Fact → FirstOf (Unless Fact fault) None
@@ -103,3 +105,12 @@ found_fault Faults f (Err e) why is = is
 pub lone_fault : {E : Type 0} (fault : JsonFault) (r : Result (Option JsonFault) E) → IfOk r (λ found. found ≡ Some fault) → IfOk r (FirstOf (λ faults. faults ≡ fault ∷ []))
 lone_fault fault (Ok found) is = subst (FirstOf (λ faults. faults ≡ fault ∷ [])) (sym is) (only (λ faults. faults ≡ fault ∷ []) fault refl)
 lone_fault fault (Err e) is = is
+
+-- faults that are told
+pub first_told : {E : Type 0} (faults : List JsonFault) (r : Result (Option JsonFault) E) → IfOk r (λ found. found ≡ first_of_least faults) → IfOk r (FirstOf (λ those. those ≡ faults))
+first_told faults (Ok found) is = record { faults = faults; are = refl; first = is }
+first_told faults (Err e) is = is
+
+pub no_segment : (text : List ℕ) (found : Option (List ℕ)) → MatchOption found (¬ (IsSegment text)) (λ segment. (segment ≡ text) × IsSegment text) → is_some found ≡ false → IsSegment text → ⊥
+no_segment text None is none has = is has
+no_segment text (Some segment) is none has = cc

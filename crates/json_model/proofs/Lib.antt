@@ -7,6 +7,8 @@ pub mod Naming
 pub mod Kinded
 pub mod Firsts
 pub mod Stored
+pub mod Shorts
+pub mod Missing
 pub mod Referred
 pub mod Fine
 pub mod OneLeaf
@@ -20,6 +22,7 @@ pub mod Choices
 pub mod Built
 pub mod OneList
 pub mod Fitting
+pub mod Operands
 pub mod Once
 pub mod Deep
 pub mod ReadBack

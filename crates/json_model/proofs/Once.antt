@@ -133,6 +133,12 @@ scalar_once leaf.Reference d v w s t =
 scalar_once leaf.Name d v w s t = absurd s
 scalar_once leaf.Path d v w s t = absurd s
 scalar_once leaf.ServerTime d v w s t = absurd s
+scalar_once leaf.Id d v w s t = absurd s
+scalar_once leaf.Parent d v w s t = absurd s
+scalar_once leaf.QueryPath d v w s t = absurd s
+scalar_once leaf.Limit d v w s t = absurd s
+scalar_once leaf.Descendants d v w s t = absurd s
+scalar_once (leaf.Constant which) d v w s t = absurd s
 
 -- ---- trees
 

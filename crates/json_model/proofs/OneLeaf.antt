@@ -1,11 +1,11 @@
 -- A leaf has one list of faults, and what a reader answers of a leaf without faults is no fault of it.
-use Rattle.std.proofs.Common.{◌≡◌, ◌∙◌, inl, inr, ℕ, ◌<◌, List, [], ◌∷◌, length, Some, None, codes, Bool, true, false, nat_lt, IsTrue, refl, sym, ap, subst, arith}
+use Rattle.std.proofs.Common.{◌≡◌, ◌≢◌, ◌∙◌, inl, inr, ℕ, ◌<◌, List, [], ◌∷◌, length, Some, None, codes, Bool, true, false, nat_lt, IsTrue, refl, sym, ap, subst, arith}
 use Rattle.std.specs.List.{Contains, slice_index_or}
 use Rattle.std.proofs.lemmas.List.Elements.{All-contains, All-weaker}
 use borrow.Author.Tests.{ltb-true, ltb-false}
-use Rattle.document_keys.specs.Names.{Root, IsRoot, IsKey, HasNameLength, name_text}
+use Rattle.document_keys.specs.Names.{Root, IsRoot, IsKey, HasNameLength, documents_text, name_text}
 use Rattle.document_keys.specs.Faults.{HasKeyFault}
-use Rattle.document_keys.specs.Paths.{IsFieldName, IsFieldPath, SpellsPath}
+use Rattle.document_keys.specs.Paths.{IsFieldName, IsFieldPath, HasReserved, SpellsPath}
 use Rattle.document_keys.specs.declared.faults.NameFault.TheVariants as name_fault
 use Rattle.document_keys.proofs.Lawful.{excluded}
 use Rattle.document_keys.proofs.Spelled.{spells_one}
@@ -17,11 +17,11 @@ use Rattle.json_model.specs.declared.fault.JsonFault.TheVariants as json_fault
 use Rattle.json_model.specs.declared.fault.NamingFault.{NamingFault}
 use Rattle.json_model.specs.declared.fault.NamingFault.TheVariants.{WrongRoot, BadSegment, OddLength, BadPath, ReservedField}
 use Rattle.json_model.specs.Faults.{IsFault}
-use Rattle.json_model.specs.Leaves.{Unless, bad_name, IsNameFault, NamingFaults, ReferenceFaults, DocumentFaults, FieldNameFaults, PathFaults, too_many, few, HasManyNames, HasFieldPathFault, IsFieldPathText, IsReferenceText, IsDocumentText, InText, in_text, in_other, LeafFaults, max_names}
+use Rattle.json_model.specs.Leaves.{Unless, bad_name, IsNameFault, NamingFaults, ReferenceFaults, DocumentFaults, FieldNameFaults, PathFaults, too_many, few, HasManyNames, HasFieldPathFault, IsFieldPathText, HasQueryPathFault, QueryPathFaults, IsQueryPathText, ParentFaults, IsParentText, IsReferenceText, IsDocumentText, InText, in_text, in_other, LeafFaults, max_names}
 use Rattle.json_model.specs.Ranks.{first_of_least}
 use Rattle.json_model.specs.References.{HasReferenceFault, HasDocumentFault, HasFieldFault, IsUnder}
 use Rattle.json_model.proofs.Cuts.{one_root}
-use Rattle.json_model.proofs.Fine.{not_many}
+use Rattle.json_model.proofs.Fine.{not_many, not_many_in_query}
 use Rattle.json_model.proofs.Naming.{only}
 use Rattle.json_model.proofs.Referred.{under_name, same_root, reference_no}
 
@@ -164,6 +164,40 @@ path_one text _ b (too_many many) (few never y) = absurd (never many)
 path_one text a _ (few never x) (too_many many) = absurd (never many)
 path_one text a b (few never x) (few nor y) = naming_one _ _ text (path_none text) (path_fault_one text) a b x y
 
+query_fault_one : (text : List ℕ) (f g : NamingFault) → HasQueryPathFault text f → HasQueryPathFault text g → f ≡ g
+query_fault_one text BadPath BadPath x y = refl
+query_fault_one text BadPath ReservedField x y = absurd (x y.0 y.1 y.2)
+query_fault_one text ReservedField BadPath x y = absurd (y x.0 x.1 x.2)
+query_fault_one text ReservedField ReservedField x y = refl
+query_fault_one text WrongRoot g x y = absurd x
+query_fault_one text BadSegment g x y = absurd x
+query_fault_one text OddLength g x y = absurd x
+query_fault_one text BadPath WrongRoot x y = absurd y
+query_fault_one text BadPath BadSegment x y = absurd y
+query_fault_one text BadPath OddLength x y = absurd y
+query_fault_one text ReservedField WrongRoot x y = absurd y
+query_fault_one text ReservedField BadSegment x y = absurd y
+query_fault_one text ReservedField OddLength x y = absurd y
+
+query_none : (text : List ℕ) (f : NamingFault) → IsQueryPathText text → HasQueryPathFault text f → ⊥
+query_none text BadPath (names, is) has = has names is.spelled is.path.long
+query_none text ReservedField (names, is) (others, spelled, long, reserved) = is.path.free (subst HasReserved (spells_one text others names spelled is.spelled) reserved)
+query_none text WrongRoot is has = has
+query_none text BadSegment is has = has
+query_none text OddLength is has = has
+
+query_one : (text : List ℕ) → IsOne (QueryPathFaults text)
+query_one text _ _ (too_many many) (too_many more) = refl
+query_one text _ b (too_many many) (few never y) = absurd (never many)
+query_one text a _ (few never x) (too_many many) = absurd (never many)
+query_one text a b (few never x) (few nor y) = naming_one _ _ text (query_none text) (query_fault_one text) a b x y
+
+parent_one : (root : Root) (text : List ℕ) → IsOne (ParentFaults root text)
+parent_one root text a b (inl x) (inl y) = x.1 ∙ sym y.1
+parent_one root text a b (inl x) (inr y) = absurd (y.0 x.0)
+parent_one root text a b (inr x) (inl y) = absurd (x.0 y.0)
+parent_one root text a b (inr x) (inr y) = document_text_one root text a b x.1 y.1
+
 -- how a reader of paths counts, and what it answers
 pub many_names : (text : List ℕ) (count : ℕ) → ((names : List (List ℕ)) × (SpellsPath text names × (length names ≡ count))) → (IsTrue (nat_lt max_names count) → HasManyNames text) × (HasManyNames text → IsTrue (nat_lt max_names count))
 many_names text count (names, (spelled, long)) = by (nat_lt max_names count) refl
@@ -203,6 +237,11 @@ leaf_one root leaf.Bytes name d a b x y = in_text_one d name _ (λ text. unless_
 leaf_one root leaf.Reference name d a b x y = in_text_one d name ReferenceFaults reference_one a b x y
 leaf_one root leaf.Name name d a b x y = in_text_one d name (DocumentFaults root) (document_text_one root) a b x y
 leaf_one root leaf.Path name d a b x y = in_text_one d name PathFaults path_one a b x y
+leaf_one root leaf.Id name d a b x y = in_text_one d name _ (λ text. unless_one _ _) a b x y
+leaf_one root leaf.Parent name d a b x y = in_text_one d name (ParentFaults root) (parent_one root) a b x y
+leaf_one root leaf.QueryPath name d a b x y = in_text_one d name QueryPathFaults query_one a b x y
+leaf_one root leaf.Descendants name d a b x y = x ∙ sym y
+leaf_one root (leaf.Constant which) name d a b x y = in_text_one d name _ (λ text. λ f g. λ z w. z ∙ sym w) a b x y
 leaf_one root kind name d a b x y = unless_one _ _ a b x y
 
 -- ---- what is no fault
@@ -225,3 +264,14 @@ no_document_fault root text fault is has =
 
 pub no_path_fault : (text : List ℕ) (fault : JsonFault) → IsFieldPathText text → IsFault (PathFaults text) fault → fault ≡ json_fault.NoMemory
 no_path_fault text fault is has = no_fault (PathFaults text) fault (path_one text) (few (not_many text is) (inl (is, refl))) has
+
+pub query_fault : (text : List ℕ) (fault : JsonFault) → ¬ (HasManyNames text) → IsNameFault (HasQueryPathFault text) text fault → IsFault (QueryPathFaults text) fault
+query_fault text fault never (inl memory) = inl memory
+query_fault text fault never (inr (why, has, is)) = inr (only (QueryPathFaults text) fault (few never (inr (why, has, ap (λ f. f ∷ []) is))))
+
+pub no_query_fault : (text : List ℕ) (fault : JsonFault) → IsQueryPathText text → IsFault (QueryPathFaults text) fault → fault ≡ json_fault.NoMemory
+no_query_fault text fault is has = no_fault (QueryPathFaults text) fault (query_one text) (few (not_many_in_query text is) (inl (is, refl))) has
+
+pub no_parent_fault : (root : Root) (text : List ℕ) (fault : JsonFault) → IsParentText root text → (text ≢ documents_text root) → IsNameFault (HasDocumentFault root text) text fault → fault ≡ json_fault.NoMemory
+no_parent_fault root text fault (inl is) other has = absurd (other is)
+no_parent_fault root text fault (inr is) other has = no_document_fault root text fault is has

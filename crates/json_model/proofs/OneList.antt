@@ -1,5 +1,5 @@
 -- A tree has one list of faults at each place.
-use Rattle.std.proofs.Common.{◌≡◌, ◌∙◌, inl, inr, ℕ, ◌-◌, List, [], ◌∷◌, ◌++◌, length, true, false, Option, Some, refl, sym, ap, subst}
+use Rattle.std.proofs.Common.{◌≡◌, ◌∙◌, inl, inr, ℕ, List, [], ◌∷◌, ◌++◌, length, true, false, Option, Some, refl, sym, ap, subst}
 use Rattle.document_keys.specs.Names.{Root}
 use Rattle.document_keys.specs.Paths.{SpellsPath}
 use Rattle.document_keys.proofs.Spelled.{spells_one}
@@ -11,7 +11,7 @@ use Rattle.json_model.specs.declared.place.Object.TheVariants as object
 use Rattle.json_model.specs.declared.place.Series.{Series}
 use Rattle.json_model.specs.declared.place.Leaf.TheVariants as leaf
 use Rattle.json_model.specs.declared.fault.JsonFault.{JsonFault}
-use Rattle.json_model.specs.Faults.{FlatFaults, FaultsAt, ItemsFaults, MembersFaults, OwnOr, CountsPath, of_path, no_path, Takes, InLevels, InObject, InSeries, OwnName, AtMember, NameFaults, own_faults, own_list_faults, depth_faults, missing}
+use Rattle.json_model.specs.Faults.{FlatFaults, FaultsAt, ItemsFaults, MembersFaults, OwnOr, CountsPath, of_path, no_path, Takes, InLevels, InObject, InSeries, OwnName, AtMember, NameFaults, own_faults, own_list_faults, depth_faults, levels_inside, missing}
 use Rattle.json_model.specs.Members.{missed, later, refined}
 use Rattle.json_model.specs.Origin.{Origin}
 use Rattle.json_model.specs.Places.{member_place, item_place, required}
@@ -40,7 +40,7 @@ takes_one _ ms a b x y = x ∙ sym y
 in_levels_one : (kind : Object) (ms : Members) (limit : ℕ) (Inside : ℕ → List JsonFault → Type 0) → ((inner : ℕ) → IsOne (Inside inner)) → IsOne (InLevels kind ms limit Inside)
 in_levels_one kind ms limit Inside inside a b x y =
     let levels = takes_one kind ms x.levels y.levels x.takes y.takes in
-    let same = inside (limit - y.levels) x.inside y.inside (subst (λ (n : ℕ). Inside (limit - n) x.inside) levels x.are) y.are in
+    let same = inside (levels_inside kind limit y.levels) x.inside y.inside (subst (λ (n : ℕ). Inside (levels_inside kind limit n) x.inside) levels x.are) y.are in
     x.is ∙ (λ i. depth_faults limit (levels i) ++ same i) ∙ sym y.is
 
 in_object_one : (p : Place) (Inside : Object → List JsonFault → Type 0) (Other : List JsonFault → Type 0) → ((kind : Object) → IsOne (Inside kind)) → IsOne Other → IsOne (InObject p Inside Other)
@@ -94,7 +94,7 @@ mutual
   members_one : (o : Origin) (limit : ℕ) (kind : Object) (names : List (List ℕ)) (ms : Members) → IsOne (MembersFaults o limit kind names ms)
   members_one o limit kind names no_members a b x y = x ∙ sym y
   members_one o limit kind names (member name d ms) a b x y =
-      joined_one (AtMember kind name d (FaultsAt o limit (member_place kind name) name d)) (MembersFaults o limit kind (later name names) ms) (missing (missed name d names))
+      joined_one (AtMember kind name d (FaultsAt o limit (member_place kind name) name d)) (MembersFaults o limit kind (later name names) ms) (missing kind (missed name d names))
       (at_member_one kind name d (FaultsAt o limit (member_place kind name) name d) (faults_one o limit (member_place kind name) name d)) (members_one o limit kind (later name names) ms)
       a b x.0 y.0 x.1 y.1 x.2 y.2 x.3 y.3 x.4 y.4
 

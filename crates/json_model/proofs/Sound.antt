@@ -1,5 +1,5 @@
 -- What stands in a tree without faults.
-use Rattle.std.proofs.Common.{rules, ◌≡◌, ◌⊎◌, ℕ, ◌-◌, ◌≤◌, List, [], ◌∷◌, ◌++◌, Bool, true, false, not, ◌&&◌, ◌||◌, cond, nat_lt, Option, Some, None, refl, sym, ap, subst, inl, inr, ◌∙◌, Bor, IfSome, IsSome, option_map, Ordering, Less, Equal, Greater, arith}
+use Rattle.std.proofs.Common.{rules, ◌≡◌, ◌⊎◌, ℕ, ◌≤◌, List, [], ◌∷◌, ◌++◌, Bool, true, false, not, ◌&&◌, ◌||◌, cond, nat_lt, Option, Some, None, refl, sym, ap, subst, inl, inr, ◌∙◌, Bor, IfSome, IsSome, option_map, Ordering, Less, Equal, Greater, arith}
 use borrow.Author.Tests.{ltb-false}
 use Rattle.std.specs.Bool.{if◌then◌else◌}
 use Rattle.std.specs.Option.{option_and_then}
@@ -21,7 +21,7 @@ use Rattle.json_model.specs.declared.place.Series.{Series}
 use Rattle.json_model.specs.declared.fault.JsonFault.{JsonFault}
 use Rattle.json_model.specs.declared.fault.JsonFault.TheVariants as json_fault
 use Rattle.json_model.specs.Clean.{IsClean, AreClean, ItemsAreClean}
-use Rattle.json_model.specs.Faults.{FaultsAt, MembersFaults, ItemsFaults, AtMember, InLevels, OwnOr, Takes, own_faults, own_list_faults, depth_faults, missing, OwnName}
+use Rattle.json_model.specs.Faults.{FaultsAt, MembersFaults, ItemsFaults, AtMember, InLevels, OwnOr, Takes, own_faults, own_list_faults, depth_faults, levels_inside, max_nesting, missing, OwnName}
 use Rattle.json_model.specs.Members.{is_null, takes_null, is_left_out, given, unless_null, missed, later, refined}
 use Rattle.json_model.specs.Origin.{Origin}
 use Rattle.json_model.specs.Places.{member_place, required, is_among}
@@ -40,9 +40,15 @@ pub no_own : (own : List JsonFault) (Inside : List JsonFault → Type 0) → Own
 no_own [] Inside h = (refl, h)
 no_own (fault ∷ own) Inside h = cc
 
-pub no_missing : (names : List (List ℕ)) → [] ≡ missing names → names ≡ []
-no_missing [] e = refl
-no_missing (name ∷ names) e = cc
+pub no_missing : (kind : Object) (names : List (List ℕ)) → [] ≡ missing kind names → names ≡ []
+no_missing kind [] e = refl
+no_missing kind (name ∷ names) e = cc
+
+-- inside an object there are no more levels than a value has
+pub levels_few : (kind : Object) (limit levels : ℕ) → limit ≤ max_nesting → levels_inside kind limit levels ≤ max_nesting
+levels_few object.FieldFilter limit levels room = omega arith
+levels_few object.ListFilter limit levels room = omega arith
+levels_few _ limit levels room = omega arith
 
 -- ---- objects and lists
 
@@ -70,7 +76,7 @@ pub record Sound (o : Origin) (limit : ℕ) (kind : Object) (name : List ℕ) (m
   pub levels : ℕ
   pub takes : Takes (refined kind ms) ms levels
   pub room : levels ≤ limit
-  pub inside : MembersFaults o (limit - levels) (refined kind ms) (required (refined kind ms)) ms []
+  pub inside : MembersFaults o (levels_inside (refined kind ms) limit levels) (refined kind ms) (required (refined kind ms)) ms []
 
 room_of : (limit levels : ℕ) → depth_faults limit levels ≡ [] → levels ≤ limit
 room_of limit levels e = by (nat_lt limit levels) refl e
@@ -89,7 +95,7 @@ sound o limit kind name ms h =
       levels = at.levels;
       takes = at.takes;
       room = room_of limit at.levels (nothing_first (depth_faults limit at.levels) at.inside at.is);
-      inside = subst (MembersFaults o (limit - at.levels) (refined kind ms) (required (refined kind ms)) ms) (nothing_last (depth_faults limit at.levels) at.inside at.is) at.are;
+      inside = subst (MembersFaults o (levels_inside (refined kind ms) limit at.levels) (refined kind ms) (required (refined kind ms)) ms) (nothing_last (depth_faults limit at.levels) at.inside at.is) at.are;
     }
 
 pub sound_list : (o : Origin) (limit : ℕ) (kind : Series) (name : List ℕ) (ds : Items) → FaultsAt o limit (place.Series kind) name (array ds) [] → (own_list_faults kind name ds ≡ []) × ItemsFaults o limit kind name ds []
@@ -114,7 +120,7 @@ at_clean o limit kind k d faults (inr at) none some =
     let here = at.1 in
     (subst (OwnName kind k) (nothing_first here.0 here.1 (sym none ∙ here.4)) here.2, subst (FaultsAt o limit (member_place kind k) k d) (nothing_last here.0 here.1 (sym none ∙ here.4)) here.3)
 
-pub end_of : (o : Origin) (limit : ℕ) (kind : Object) (names : List (List ℕ)) → MembersFaults o limit kind names no_members [] → [] ≡ missing names
+pub end_of : (o : Origin) (limit : ℕ) (kind : Object) (names : List (List ℕ)) → MembersFaults o limit kind names no_members [] → [] ≡ missing kind names
 unfolding FaultsAt
 end_of o limit kind names h = h
 
@@ -127,9 +133,9 @@ pub record First (o : Origin) (limit : ℕ) (kind : Object) (names : List (List 
 pub first_of : (o : Origin) (limit : ℕ) (kind : Object) (names : List (List ℕ)) (k : List ℕ) (d : Json) (ms : Members) → MembersFaults o limit kind names (member k d ms) [] → First o limit kind names k d ms
 unfolding FaultsAt
 first_of o limit kind names k d ms (first, rest, at, more, none) =
-    let both = nothing_last (missing (missed k d names)) (first ++ rest) none in
+    let both = nothing_last (missing kind (missed k d names)) (first ++ rest) none in
     record {
-      none_missed = no_missing (missed k d names) (sym (nothing_first (missing (missed k d names)) (first ++ rest) none));
+      none_missed = no_missing kind (missed k d names) (sym (nothing_first (missing kind (missed k d names)) (first ++ rest) none));
       at = subst (AtMember kind k d (FaultsAt o limit (member_place kind k) k d)) (nothing_first first rest (sym both)) at;
       rest = subst (MembersFaults o limit kind (later k names) ms) (nothing_last first rest (sym both)) more;
     }
@@ -162,7 +168,8 @@ pub given_clean : (o : Origin) (kind : Object) (ms : Members) (k : List ℕ) (d 
 given_clean o kind ms k d (limit, name, room, clean) is =
     let there = given_some (get_member k ms) d is in
     let inside = sound o limit kind name ms clean in
-    (limit - inside.levels, k, omega arith, member_clean o (limit - inside.levels) (refined kind ms) (required (refined kind ms)) ms k d inside.inside there.0 there.1)
+    let left = levels_inside (refined kind ms) limit inside.levels in
+    (left, k, levels_few (refined kind ms) limit inside.levels room, member_clean o left (refined kind ms) (required (refined kind ms)) ms k d inside.inside there.0 there.1)
 
 pub given_all : (o : Origin) (kind : Object) (ms : Members) (k : List ℕ) (found : Option (Bor Value)) → AreClean o kind ms → option_map (λ v. view v.now) found ≡ given k ms → IfSome found (λ v. IsClean o (member_place (refined kind ms) k) (view v.now))
 given_all o kind ms k None clean is = tt
@@ -183,6 +190,14 @@ required_ascending object.Update = refl
 required_ascending object.Transform = refl
 required_ascending object.ArrayTransform = refl
 required_ascending object.Documents = refl
+required_ascending object.Query = refl
+required_ascending object.Selector = refl
+required_ascending object.Order = refl
+required_ascending object.Field = refl
+required_ascending object.CompositeFilter = refl
+required_ascending object.FieldFilter = refl
+required_ascending object.ListFilter = refl
+required_ascending object.UnaryFilter = refl
 required_ascending _ = refl
 
 both_true : (a b : Bool) → (a && b) ≡ true → (a ≡ true) × (b ≡ true)
@@ -253,7 +268,7 @@ is_some_given None d is some = cc
 is_some_given (Some e) d is some = subst (λ b. IsSome (cond b None (Some e))) (sym (ap is_null (let h : e ≡ d = cc in h) ∙ some)) (search rules)
 
 there_from : (o : Origin) (limit : ℕ) (kind : Object) (names : List (List ℕ)) (ms : Members) (k : List ℕ) → ascending names ≡ true → MembersFaults o limit kind names ms [] → is_among k names ≡ true → IsSome (given k ms)
-there_from o limit kind names no_members k up clean among = let none = no_missing names (end_of o limit kind names clean) in let e : is_among k [] ≡ true = subst (λ (l : List (List ℕ)). is_among k l ≡ true) none among in cc
+there_from o limit kind names no_members k up clean among = let none = no_missing kind names (end_of o limit kind names clean) in let e : is_among k [] ≡ true = subst (λ (l : List (List ℕ)). is_among k l ≡ true) none among in cc
 there_from o limit kind names (member l e ms) k up clean among =
     let here = first_of o limit kind names l e ms clean in
     by (slice_cmp nat_cmp k l) refl (step k l e names up here.none_missed among) (there_from o limit kind (later l names) ms k)
@@ -269,7 +284,7 @@ there_from o limit kind names (member l e ms) k up clean among =
 pub required_there : (o : Origin) (kind : Object) (ms : Members) (k : List ℕ) (found : Option (Bor Value)) → AreClean o kind ms → option_map (λ v. view v.now) found ≡ given k ms → is_among k (required (refined kind ms)) ≡ true → IsSome found
 required_there o kind ms k found (limit, name, room, clean) is among =
     let inside = sound o limit kind name ms clean in
-    shown found (subst IsSome (sym is) (there_from o (limit - inside.levels) (refined kind ms) (required (refined kind ms)) ms k (required_ascending (refined kind ms)) inside.inside among))
+    shown found (subst IsSome (sym is) (there_from o (levels_inside (refined kind ms) limit inside.levels) (refined kind ms) (required (refined kind ms)) ms k (required_ascending (refined kind ms)) inside.inside among))
   where
     shown : (o : Option (Bor Value)) → IsSome (option_map (λ v. view v.now) o) → IsSome o
     shown None h = h

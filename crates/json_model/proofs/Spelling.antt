@@ -1,5 +1,5 @@
 -- A tree without faults spells what is to stand there.
-use Rattle.std.proofs.Common.{◌≡◌, ◌⊎◌, ℕ, ◌-◌, List, [], ◌∷◌, Bool, true, false, not, ◌&&◌, cond, codes, Option, Some, None, refl, sym, ap, subst, inl, inr, ◌∙◌, Ordering, Less, Equal, Greater}
+use Rattle.std.proofs.Common.{◌≡◌, ◌⊎◌, ℕ, List, [], ◌∷◌, Bool, true, false, not, ◌&&◌, cond, codes, Option, Some, None, refl, sym, ap, subst, inl, inr, ◌∙◌, Ordering, Less, Equal, Greater}
 use Rattle.std.specs.Ordering.{nat_cmp, match_ordering}
 use Rattle.std.specs.Cmp.Lexicographic.{slice_cmp}
 use Rattle.document_keys.proofs.Order.{texts_compute}
@@ -16,6 +16,7 @@ use Rattle.json_model.specs.declared.place.Leaf.TheVariants as leaf
 use Rattle.json_model.specs.declared.place.Series.{Series}
 use Rattle.json_model.specs.declared.place.Series.TheVariants as series
 use Rattle.json_model.specs.Grammar.{SpellsScalar, SpellsValue, of_kind, SpellsKind, as_scalar, as_array as by_array, as_map as by_map, SpellsList, no_list, a_list, SpellsItems, no_item, an_item, SpellsMap, no_map, a_map, SpellsMembers, no_member, left_out, a_member, is_kind, is_scalar}
+use Rattle.json_model.specs.Faults.{levels_inside}
 use Rattle.json_model.specs.Fits.{Fits, FitsFlat, ItemsFit, MembersFit}
 use Rattle.json_model.specs.Laws.{NoFaultSpells}
 use Rattle.json_model.specs.Leaves.{FitsLeaf}
@@ -56,6 +57,12 @@ leaf_spelled o leaf.Reference d f is = (reference f.1.1.0, (f.1.1.0, ((f.0, (f.1
 leaf_spelled o leaf.Name d f is = cc
 leaf_spelled o leaf.Path d f is = cc
 leaf_spelled o leaf.ServerTime d f is = cc
+leaf_spelled o leaf.Id d f is = cc
+leaf_spelled o leaf.Parent d f is = cc
+leaf_spelled o leaf.QueryPath d f is = cc
+leaf_spelled o leaf.Limit d f is = cc
+leaf_spelled o leaf.Descendants d f is = cc
+leaf_spelled o (leaf.Constant which) d f is = cc
 
 -- a member, by its name
 named_spelled : (kind : Object) (ms : json.Members) (k : List ℕ) (d : json.Data) → AllSpelled kind ms → get_member k ms ≡ Some d → is_null d ≡ false → Spelled (member_place kind k) d
@@ -182,7 +189,7 @@ mutual
   fits_spelled o limit place.Unsupported (json.array ds) h = absurd h
   fits_spelled o limit place.Unknown (json.array ds) h = tt
   fits_spelled o limit place.Ignored (json.array ds) h = tt
-  fits_spelled o limit (place.Object kind) (json.object ms) h = object_spelled kind ms h.chooses (members_spelled o (limit - h.levels) (refined kind ms) (required (refined kind ms)) ms h.inside)
+  fits_spelled o limit (place.Object kind) (json.object ms) h = object_spelled kind ms h.chooses (members_spelled o (levels_inside (refined kind ms) limit h.levels) (refined kind ms) (required (refined kind ms)) ms h.inside)
   fits_spelled o limit (place.Series kind) (json.object ms) h = absurd h
   fits_spelled o limit (place.Leaf kind) (json.object ms) h = leaf_spelled o kind (json.object ms) h
   fits_spelled o limit place.Unsupported (json.object ms) h = absurd h

@@ -1,5 +1,5 @@
 -- The faults of a tree, as the walk through it finds them.
-use Rattle.std.proofs.Common.{rules, ◌≡◌, ◌≢◌, ℕ, ◌+◌, ◌-◌, ◌<◌, suc, not, List, [], ◌∷◌, ◌++◌, map, length, take, get_or, Bor, String, Bool, true, false, Option, Some, None, Result, Ok, Err, IfOk, refl, sym, ap, subst, inl, inr, ◌∙◌, ◌⊎◌, append-nil, append_assoc, arith}
+use Rattle.std.proofs.Common.{rules, ◌≡◌, ◌≢◌, ℕ, ◌+◌, ◌<◌, suc, not, List, [], ◌∷◌, ◌++◌, map, length, take, get_or, Bor, String, Bool, true, false, Option, Some, None, Result, Ok, Err, IfOk, refl, sym, ap, subst, inl, inr, ◌∙◌, ◌⊎◌, append-nil, append_assoc, arith}
 use Rattle.std.specs.Bool.{◌==◌}
 use Rattle.std.proofs.lemmas.Bool.Decides.{eqb_tells}
 use Rattle.std.specs.String.{string_bytes}
@@ -16,7 +16,7 @@ use Rattle.json_model.specs.declared.place.Object.{Object}
 use Rattle.json_model.specs.declared.place.Series.{Series}
 use Rattle.json_model.specs.declared.place.Series.TheVariants as series
 use Rattle.json_model.specs.declared.fault.JsonFault.{JsonFault}
-use Rattle.json_model.specs.Faults.{FirstOf, FlatFaults, FaultsAt, ItemsFaults, MembersFaults, InLevels, OwnOr, OwnName, AtMember, CountsPath, of_path, no_path, Takes, own_faults, own_list_faults, depth_faults, missing}
+use Rattle.json_model.specs.Faults.{FirstOf, FlatFaults, FaultsAt, ItemsFaults, MembersFaults, InLevels, OwnOr, OwnName, AtMember, CountsPath, of_path, no_path, Takes, own_faults, own_list_faults, depth_faults, levels_inside, missing}
 use Rattle.json_model.specs.Members.{is_left_out, missed, later, lacks_only, refined}
 use Rattle.json_model.specs.Origin.{Origin}
 use Rattle.json_model.specs.Places.{member_place, item_place, required}
@@ -44,7 +44,7 @@ own_or own Inside fault is = record { faults = own; are = own_first own Inside f
 pub or_inside : (own : List JsonFault) (Inside : List JsonFault → Type 0) (found : Option JsonFault) → None ≡ first_of_least own → FirstOf Inside found → FirstOf (OwnOr own Inside) found
 or_inside own Inside found is first = record { faults = first.faults; are = rw (none_first own is) first.are; first = first.first }
 
-pub in_levels : (kind : Object) (ms : Members) (limit inner levels : ℕ) (Inside : ℕ → List JsonFault → Type 0) (deep found new : Option JsonFault) → Takes kind ms levels → deep ≡ first_of_least (depth_faults limit levels) → inner ≡ limit - levels
+pub in_levels : (kind : Object) (ms : Members) (limit inner levels : ℕ) (Inside : ℕ → List JsonFault → Type 0) (deep found new : Option JsonFault) → Takes kind ms levels → deep ≡ first_of_least (depth_faults limit levels) → inner ≡ levels_inside kind limit levels
     → FirstOf (Inside inner) found → new ≡ better deep found → FirstOf (InLevels kind ms limit Inside) new
 in_levels kind ms limit inner levels Inside deep found new takes is_deep is_inner first is_new = record {
   faults = depth_faults limit levels ++ first.faults;
@@ -188,31 +188,31 @@ members_start o limit kind names is = record {
 }
 
 one_more : (o : Origin) (limit : ℕ) (kind : Object) (names : List (List ℕ)) (e : entry) (rest : List entry) (at faults : List JsonFault) → AtMember kind (string_bytes e.0) (view e.1) (FaultsAt o limit (member_place kind (string_bytes e.0)) (string_bytes e.0) (view e.1)) at
-    → MembersFaults o limit kind (later (string_bytes e.0) names) (members_view rest) faults → MembersFaults o limit kind names (members_view (e ∷ rest)) (missing (missed (string_bytes e.0) (view e.1) names) ++ (at ++ faults))
+    → MembersFaults o limit kind (later (string_bytes e.0) names) (members_view rest) faults → MembersFaults o limit kind names (members_view (e ∷ rest)) (missing kind (missed (string_bytes e.0) (view e.1) names) ++ (at ++ faults))
 unfolding FaultsAt
 one_more o limit kind names e rest at faults here are = (at, faults, here, are, refl)
 
 push : (o : Origin) (limit : ℕ) (kind : Object) (done : List entry) (names : List (List ℕ)) (e : entry) (old new : Option JsonFault) (at : List JsonFault) → SoFar o limit kind done names old
     → AtMember kind (string_bytes e.0) (view e.1) (FaultsAt o limit (member_place kind (string_bytes e.0)) (string_bytes e.0) (view e.1)) at
-    → new ≡ better old (better (first_of_least (missing (missed (string_bytes e.0) (view e.1) names))) (first_of_least at)) → SoFar o limit kind (done ++ e ∷ []) (later (string_bytes e.0) names) new
+    → new ≡ better old (better (first_of_least (missing kind (missed (string_bytes e.0) (view e.1) names))) (first_of_least at)) → SoFar o limit kind (done ++ e ∷ []) (later (string_bytes e.0) names) new
 push o limit kind done names e old new at so_far here is = record {
-  seen = so_far.seen ++ (missing (missed (string_bytes e.0) (view e.1) names) ++ at);
-  first_is = is ∙ (λ j. better (so_far.first_is j) (sym (first_append (missing (missed (string_bytes e.0) (view e.1) names)) at) j)) ∙ sym (first_append so_far.seen (missing (missed (string_bytes e.0) (view e.1) names) ++ at));
+  seen = so_far.seen ++ (missing kind (missed (string_bytes e.0) (view e.1) names) ++ at);
+  first_is = is ∙ (λ j. better (so_far.first_is j) (sym (first_append (missing kind (missed (string_bytes e.0) (view e.1) names)) at) j)) ∙ sym (first_append so_far.seen (missing kind (missed (string_bytes e.0) (view e.1) names) ++ at));
   goes_on = λ rest faults are.
       let more = so_far.goes_on (e ∷ rest) _ (one_more o limit kind names e rest at faults here are) in
-      subst (λ (l : List entry). MembersFaults o limit kind (required kind) (members_view l) ((so_far.seen ++ (missing (missed (string_bytes e.0) (view e.1) names) ++ at)) ++ faults)) (sym (append_assoc done (e ∷ []) rest))
+      subst (λ (l : List entry). MembersFaults o limit kind (required kind) (members_view l) ((so_far.seen ++ (missing kind (missed (string_bytes e.0) (view e.1) names) ++ at)) ++ faults)) (sym (append_assoc done (e ∷ []) rest))
       (subst (MembersFaults o limit kind (required kind) (members_view (done ++ e ∷ rest)))
-      (ap (λ (l : List JsonFault). so_far.seen ++ l) (sym (append_assoc (missing (missed (string_bytes e.0) (view e.1) names)) at faults)) ∙ sym (append_assoc so_far.seen (missing (missed (string_bytes e.0) (view e.1) names) ++ at) faults)) more);
+      (ap (λ (l : List JsonFault). so_far.seen ++ l) (sym (append_assoc (missing kind (missed (string_bytes e.0) (view e.1) names)) at faults)) ∙ sym (append_assoc so_far.seen (missing kind (missed (string_bytes e.0) (view e.1) names) ++ at) faults)) more);
 }
 
 -- a member that is left out
 pub members_skip : (o : Origin) (limit : ℕ) (kind : Object) (done : List entry) (names next : List (List ℕ)) (key : String Global) (value : Json) (text : List ℕ) (old past new : Option JsonFault) → SoFar o limit kind done names old → text ≡ string_bytes key
-    → past ≡ first_of_least (missing (missed text (view value) names)) → new ≡ better old past → next ≡ later text names → is_left_out (member_place kind text) (view value) ≡ true → SoFar o limit kind (done ++ (key, value) ∷ []) next new
+    → past ≡ first_of_least (missing kind (missed text (view value) names)) → new ≡ better old past → next ≡ later text names → is_left_out (member_place kind text) (view value) ≡ true → SoFar o limit kind (done ++ (key, value) ∷ []) next new
 members_skip o limit kind done names next key value text old past new so_far named is_past is_new is_next out =
     let at = λ (t : List ℕ). is_left_out (member_place kind t) (view value) in
     subst (λ (l : List (List ℕ)). SoFar o limit kind (done ++ (key, value) ∷ []) l new) (sym (is_next ∙ ap (λ t. later t names) named))
     (push o limit kind done names (key, value) old new [] so_far (inl (ap at (sym named) ∙ out, refl))
-    (is_new ∙ ap (λ f. better old f) (is_past ∙ ap (λ t. first_of_least (missing (missed t (view value) names))) named ∙ better_none _)))
+    (is_new ∙ ap (λ f. better old f) (is_past ∙ ap (λ t. first_of_least (missing kind (missed t (view value) names))) named ∙ better_none _)))
   where
     better_none : (f : Option JsonFault) → f ≡ better f None
     better_none None = refl
@@ -226,25 +226,25 @@ Here o limit kind text d faults q =
 
 -- a member that isn't left out
 pub members_step : (o : Origin) (limit : ℕ) (kind : Object) (done : List entry) (names next : List (List ℕ)) (key : String Global) (value : Json) (text : List ℕ) (p : Place) (old past mid own found new : Option JsonFault) → SoFar o limit kind done names old
-    → text ≡ string_bytes key → past ≡ first_of_least (missing (missed text (view value) names)) → mid ≡ better old past → next ≡ later text names → p ≡ member_place kind text → is_left_out p (view value) ≡ false
+    → text ≡ string_bytes key → past ≡ first_of_least (missing kind (missed text (view value) names)) → mid ≡ better old past → next ≡ later text names → p ≡ member_place kind text → is_left_out p (view value) ≡ false
     → FirstOf (OwnName kind text) own → FirstOf (FaultsAt o limit p text (view value)) found → new ≡ better mid (better own found) → SoFar o limit kind (done ++ (key, value) ∷ []) next new
 members_step o limit kind done names next key value text p old past mid own found new so_far named is_past is_mid is_next at_place out of_name of_value is_new =
     subst (λ (l : List (List ℕ)). SoFar o limit kind (done ++ (key, value) ∷ []) l new) (sym (is_next ∙ ap (λ t. later t names) named))
     (push o limit kind done names (key, value) old new (of_name.faults ++ of_value.faults) so_far
     (subst (λ (t : List ℕ). AtMember kind t (view value) (FaultsAt o limit (member_place kind t) t (view value)) (of_name.faults ++ of_value.faults)) named
     (subst (Here o limit kind text (view value) (of_name.faults ++ of_value.faults)) at_place (inr (out, (of_name.faults, of_value.faults, of_name.are, of_value.are, refl)))))
-    (is_new ∙ ap (λ f. better f (better own found)) (is_mid ∙ ap (λ f. better old f) (is_past ∙ ap (λ t. first_of_least (missing (missed t (view value) names))) named))
-    ∙ sym (better_assoc old (first_of_least (missing (missed (string_bytes key) (view value) names))) (better own found))
-    ∙ ap (λ f. better old (better (first_of_least (missing (missed (string_bytes key) (view value) names))) f)) ((λ j. better (of_name.first j) (of_value.first j)) ∙ sym (first_append of_name.faults of_value.faults))))
+    (is_new ∙ ap (λ f. better f (better own found)) (is_mid ∙ ap (λ f. better old f) (is_past ∙ ap (λ t. first_of_least (missing kind (missed t (view value) names))) named))
+    ∙ sym (better_assoc old (first_of_least (missing kind (missed (string_bytes key) (view value) names))) (better own found))
+    ∙ ap (λ f. better old (better (first_of_least (missing kind (missed (string_bytes key) (view value) names))) f)) ((λ j. better (of_name.first j) (of_value.first j)) ∙ sym (first_append of_name.faults of_value.faults))))
 
 -- when all have been walked over
-pub members_end : (o : Origin) (limit : ℕ) (kind : Object) (done all : List entry) (names : List (List ℕ)) (first last new : Option JsonFault) → SoFar o limit kind done names first → all ≡ done → last ≡ first_of_least (missing names) → new ≡ better first last
+pub members_end : (o : Origin) (limit : ℕ) (kind : Object) (done all : List entry) (names : List (List ℕ)) (first last new : Option JsonFault) → SoFar o limit kind done names first → all ≡ done → last ≡ first_of_least (missing kind names) → new ≡ better first last
     → FirstOf (MembersFaults o limit kind (required kind) (members_view all)) new
 unfolding FaultsAt
 members_end o limit kind done all names first last new so_far whole is_last is_new = record {
-  faults = so_far.seen ++ missing names;
-  are = subst (λ (l : List entry). MembersFaults o limit kind (required kind) (members_view l) (so_far.seen ++ missing names)) (append-nil done ∙ sym whole) (so_far.goes_on [] (missing names) refl);
-  first = is_new ∙ (λ j. better (so_far.first_is j) (is_last j)) ∙ sym (first_append so_far.seen (missing names));
+  faults = so_far.seen ++ missing kind names;
+  are = subst (λ (l : List entry). MembersFaults o limit kind (required kind) (members_view l) (so_far.seen ++ missing kind names)) (append-nil done ∙ sym whole) (so_far.goes_on [] (missing kind names) refl);
+  first = is_new ∙ (λ j. better (so_far.first_is j) (is_last j)) ∙ sym (first_append so_far.seen (missing kind names));
 }
 
 -- the views of scalars

@@ -15,7 +15,8 @@ use Rattle.json_model.specs.declared.place.Series.{Series}
 use Rattle.json_model.specs.declared.place.Leaf.TheVariants as leaf
 use Rattle.json_model.specs.declared.fault.JsonFault.{JsonFault}
 use Rattle.json_model.specs.declared.fault.JsonFault.TheVariants as json_fault
-use Rattle.json_model.specs.Leaves.{LeafFaults, FieldNameFaults}
+use Rattle.json_model.specs.declared.fault.NamingFault.TheVariants.{BadSegment, BadPath}
+use Rattle.json_model.specs.Leaves.{LeafFaults, FieldNameFaults, bad_name}
 use Rattle.json_model.specs.Members.{given, is_left_out, missed, later, lacks_choice, is_vector_map, lacks_only, refined}
 use Rattle.json_model.specs.Origin.{Origin}
 use Rattle.json_model.specs.Places.{member_place, item_place, required}
@@ -65,12 +66,24 @@ pub data CountsPath (path : Option Json) : ℕ → Type 0 where
   of_path : (text : List ℕ) (names : List (List ℕ)) → path ≡ Some (string text) → SpellsPath text names → CountsPath path (length names)
   no_path : ((text : List ℕ) (names : List (List ℕ)) → path ≡ Some (string text) → ¬ (SpellsPath text names)) → CountsPath path 0
 
--- How many levels of nesting an object takes up: an array or a map one, and a transform of an array as many as its path has names.
+-- How many levels of nesting an object takes up: an array, a map or a filter one, and a transform of an array as many as its path
+-- has names.
 abbrev pub Takes : Object → Members → ℕ → Type 0
 Takes object.Array ms n = n ≡ 1
 Takes object.Map ms n = n ≡ 1
+Takes object.Filter ms n = n ≡ 1
 Takes object.ArrayTransform ms n = CountsPath (given (codes "fieldPath") ms) n
 Takes _ ms n = n ≡ 0
+
+-- how deep a field's value may nest, and how deep filters may
+abbrev pub max_nesting : ℕ
+max_nesting = 20
+
+-- How many levels are left inside an object that takes up so many. The operand of a filter nests as deep as any value may.
+abbrev pub levels_inside : Object → ℕ → ℕ → ℕ
+levels_inside object.FieldFilter limit levels = max_nesting
+levels_inside object.ListFilter limit levels = max_nesting
+levels_inside _ limit levels = limit - levels
 
 -- an object that takes up more levels than there are is too deep
 abbrev pub depth_faults : ℕ → ℕ → List JsonFault
@@ -81,7 +94,7 @@ pub record InLevels (kind : Object) (ms : Members) (limit : ℕ) (Inside : ℕ �
   pub levels : ℕ
   pub takes : Takes kind ms levels
   pub inside : List JsonFault
-  pub are : Inside (limit - levels) inside
+  pub are : Inside (levels_inside kind limit levels) inside
   pub is : faults ≡ depth_faults limit levels ++ inside
 
 -- an object or a list where one is to stand, and any tree elsewhere
@@ -104,9 +117,15 @@ AtMember kind name d Inside faults =
     ((is_left_out (member_place kind name) d ≡ true) × (faults ≡ []))
     ⊎ ((is_left_out (member_place kind name) d ≡ false) × ((own : List JsonFault) × (inside : List JsonFault) × OwnName kind name own × Inside inside × (faults ≡ own ++ inside)))
 
+-- A required member that is missing. The path of a field and the id of a collection then count as the empty text.
+abbrev pub missing_fault : Object → List ℕ → JsonFault
+missing_fault object.Field name = bad_name BadPath []
+missing_fault object.Selector name = bad_name BadSegment []
+missing_fault _ name = json_fault.BadShape name
+
 -- required members that are missing
-abbrev pub missing : List (List ℕ) → List JsonFault
-missing names = map json_fault.BadShape names
+abbrev pub missing : Object → List (List ℕ) → List JsonFault
+missing kind names = map (missing_fault kind) names
 
 -- the faults of a tree at a place, under that name, where so many arrays and maps may nest
 unfoldable mutual
@@ -129,16 +148,12 @@ unfoldable mutual
 
   -- of the members of an object, of which these are required
   pub MembersFaults : Origin → ℕ → Object → List (List ℕ) → Members → List JsonFault → Type 0
-  MembersFaults o limit kind names no_members faults = faults ≡ missing names
+  MembersFaults o limit kind names no_members faults = faults ≡ missing kind names
   MembersFaults o limit kind names (member name d ms) faults =
       (first : List JsonFault) × (rest : List JsonFault) × AtMember kind name d (FaultsAt o limit (member_place kind name) name d) first × MembersFaults o limit kind (later name names) ms rest
-      × (faults ≡ missing (missed name d names) ++ (first ++ rest))
+      × (faults ≡ missing kind (missed name d names) ++ (first ++ rest))
 
 -- ---- fields, and the name of a document
-
--- how deep a field's value may nest
-abbrev pub max_nesting : ℕ
-max_nesting = 20
 
 -- of a tree that is to spell fields
 abbrev pub FieldsFaults : Origin → Json → List JsonFault → Type 0

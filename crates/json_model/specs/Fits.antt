@@ -1,5 +1,5 @@
 -- Which trees are of the form, by the same tables as their faults, and with none of these.
-use Rattle.std.specs.Prelude.{◌≡◌, ◌⊎◌, ℕ, ◌-◌, ◌≤◌, List, [], true, false}
+use Rattle.std.specs.Prelude.{◌≡◌, ◌⊎◌, ℕ, ◌≤◌, List, [], true, false}
 use Rattle.serde_json.specs.Data.{Data as Json, null, boolean, number, string, array, object as an_object, Members, no_members, member, Items, no_items, item}
 use Rattle.document_keys.specs.Paths.{IsFieldName}
 use Rattle.json_model.specs.declared.side.Side.TheVariants.{Backend}
@@ -8,7 +8,7 @@ use Rattle.json_model.specs.declared.place.Place.TheVariants as place
 use Rattle.json_model.specs.declared.place.Object.{Object}
 use Rattle.json_model.specs.declared.place.Object.TheVariants as object
 use Rattle.json_model.specs.declared.place.Series.{Series}
-use Rattle.json_model.specs.Faults.{Takes}
+use Rattle.json_model.specs.Faults.{Takes, levels_inside}
 use Rattle.json_model.specs.Leaves.{FitsLeaf}
 use Rattle.json_model.specs.Members.{is_left_out, missed, later, lacks_choice, is_vector_map, lacks_only, refined}
 use Rattle.json_model.specs.Origin.{Origin}
@@ -28,7 +28,7 @@ pub record FitsObject (kind : Object) (ms : Members) (limit : ℕ) (Inside : ℕ
   pub levels : ℕ
   pub takes : Takes (refined kind ms) ms levels
   pub room : levels ≤ limit
-  pub inside : Inside (limit - levels)
+  pub inside : Inside (levels_inside (refined kind ms) limit levels)
 
 abbrev pub FitsInObject : Place → (Object → Type 0) → Type 0 → Type 0
 FitsInObject (place.Object kind) Inside Other = Inside kind

@@ -7,14 +7,14 @@ use Rattle.value_model.specs.declared.timestamp.Timestamp.{Timestamp}
 use Rattle.value_model.specs.Data.{Data, null, boolean, integer, time, text, bytes, reference, array_of, map_of, Entries}
 use Rattle.value_model.specs.Fields.{with_field}
 use Rattle.value_model.specs.Time.{time_of}
-use Rattle.document_keys.specs.Names.{Root, IsKey, name_text}
+use Rattle.document_keys.specs.Names.{Root, IsKey, IsSegment, documents_text, name_text}
 use Rattle.json_model.specs.declared.place.Place.{Place}
 use Rattle.json_model.specs.declared.place.Place.TheVariants as place
 use Rattle.json_model.specs.declared.place.Object.TheVariants as object
 use Rattle.json_model.specs.declared.place.Leaf.{Leaf}
 use Rattle.json_model.specs.declared.place.Leaf.TheVariants as leaf
 use Rattle.json_model.specs.Bytes.{SpellsBytes}
-use Rattle.json_model.specs.Leaves.{IsNullTree, SpellsFieldPath}
+use Rattle.json_model.specs.Leaves.{IsNullTree, SpellsFieldPath, SpellsQueryPath}
 use Rattle.json_model.specs.Members.{is_null, given, chosen}
 use Rattle.json_model.specs.Numbers.{SpellsWhole}
 use Rattle.json_model.specs.Places.{value_member}
@@ -43,6 +43,18 @@ SpellsReferenceTree d name = (content : List ℕ) × (SpellsText d content × Sp
 abbrev pub SpellsPathTree : json.Data → List (List ℕ) → Type 0
 SpellsPathTree d path = (content : List ℕ) × (SpellsText d content × SpellsFieldPath content path)
 
+abbrev pub SpellsQueryPathTree : json.Data → List (List ℕ) → Type 0
+SpellsQueryPathTree d path = (content : List ℕ) × (SpellsText d content × SpellsQueryPath content path)
+
+-- the id of a collection
+abbrev pub SpellsId : json.Data → List ℕ → Type 0
+SpellsId d id = IsSegment id × SpellsText d id
+
+-- the name of a document, or without one of the root's `documents`
+abbrev pub SpellsParent : Root → json.Data → Option (List (List ℕ)) → Type 0
+SpellsParent root d None = SpellsText d (documents_text root)
+SpellsParent root d (Some key) = SpellsName root d key
+
 -- a scalar of that kind
 abbrev pub SpellsScalar : Leaf → json.Data → Data → Type 0
 SpellsScalar leaf.Null d v = IsNullTree d × (v ≡ null)
@@ -59,6 +71,12 @@ abbrev pub is_scalar : Leaf → Bool
 is_scalar leaf.Name = false
 is_scalar leaf.Path = false
 is_scalar leaf.ServerTime = false
+is_scalar leaf.Id = false
+is_scalar leaf.Parent = false
+is_scalar leaf.QueryPath = false
+is_scalar leaf.Limit = false
+is_scalar leaf.Descendants = false
+is_scalar (leaf.Constant which) = false
 is_scalar _ = true
 
 abbrev pub is_kind : Place → Bool

@@ -1,20 +1,23 @@
 -- Trees that aren't looked into: what may stand there, and the fault of one that may not.
-use Rattle.std.specs.Prelude.{◌≡◌, ◌⊎◌, ℤ, ℕ, ◌<◌, ◌≤◌, List, [], ◌∷◌, length, Bool, codes, Some}
+use Rattle.std.specs.Prelude.{◌≡◌, ◌≢◌, ◌⊎◌, ℤ, ℕ, ◌<◌, ◌≤◌, List, [], ◌∷◌, length, Bool, true, false, codes, Some, if◌then◌else◌}
 use Rattle.std.specs.List.{All, Contains}
-use Rattle.document_keys.specs.Names.{Root, IsKey, HasNameLength, IsReserved, name_text}
-use Rattle.document_keys.specs.Paths.{IsFieldName, SpellsPath}
+use Rattle.document_keys.specs.Names.{Root, IsKey, IsSegment, HasNameLength, IsReserved, documents_text, name_text}
+use Rattle.document_keys.specs.Paths.{IsFieldName, IsFieldPath, SpellsPath, HasPathFault}
+use Rattle.document_keys.specs.declared.faults.FieldFault.TheVariants as field
 use Rattle.serde_json.specs.Data.{Data as Json, null, boolean, string}
 use Rattle.value_model.specs.declared.reference.RefName.{RefName}
 use Rattle.value_model.specs.declared.timestamp.Timestamp.{Timestamp}
 use Rattle.value_model.specs.Time.{time_of}
 use Rattle.json_model.specs.declared.place.Leaf.{Leaf}
 use Rattle.json_model.specs.declared.place.Leaf.TheVariants as leaf
+use Rattle.json_model.specs.declared.place.Constants.{Constants}
 use Rattle.json_model.specs.declared.fault.JsonFault.{JsonFault}
 use Rattle.json_model.specs.declared.fault.JsonFault.TheVariants as json_fault
 use Rattle.json_model.specs.declared.fault.NamingFault.{NamingFault}
-use Rattle.json_model.specs.declared.fault.NamingFault.TheVariants.{BadPath, ReservedField}
+use Rattle.json_model.specs.declared.fault.NamingFault.TheVariants.{BadSegment, BadPath, ReservedField}
 use Rattle.json_model.specs.Bytes.{SpellsBytes}
-use Rattle.json_model.specs.Numbers.{SpellsWhole}
+use Rattle.json_model.specs.Constants.{is_constant, is_untaken}
+use Rattle.json_model.specs.Numbers.{SpellsWhole, SpellsShort}
 use Rattle.json_model.specs.References.{SpellsReference, HasDocumentFault, HasReferenceFault, HasFieldFault}
 
 -- no fault where the fact holds, and this one where it doesn't
@@ -65,6 +68,19 @@ pub record SpellsFieldPath (text : List ℕ) (names : List (List ℕ)) : Type 0 
 abbrev pub IsFieldPathText : List ℕ → Type 0
 IsFieldPathText text = (names : List (List ℕ)) × SpellsFieldPath text names
 
+-- the text is the path of a field in a query: at most 21 names, each the name of a field, or `__name__` by itself
+pub record SpellsQueryPath (text : List ℕ) (names : List (List ℕ)) : Type 0 where
+  pub spelled : SpellsPath text names
+  pub path : IsFieldPath names
+  pub few : length names ≤ max_names
+
+abbrev pub IsQueryPathText : List ℕ → Type 0
+IsQueryPathText text = (names : List (List ℕ)) × SpellsQueryPath text names
+
+-- the text names a document under the root, or the root's `documents`
+abbrev pub IsParentText : Root → List ℕ → Type 0
+IsParentText root text = (text ≡ documents_text root) ⊎ IsDocumentText root text
+
 -- a text of which the fact holds
 abbrev pub IsTextOf : (List ℕ → Type 0) → Json → Type 0
 IsTextOf Fact d = (text : List ℕ) × ((d ≡ string text) × Fact text)
@@ -81,6 +97,12 @@ FitsLeaf root leaf.Reference d = IsTextOf IsReferenceText d
 FitsLeaf root leaf.Name d = IsTextOf (IsDocumentText root) d
 FitsLeaf root leaf.Path d = IsTextOf IsFieldPathText d
 FitsLeaf root leaf.ServerTime d = d ≡ string (codes "REQUEST_TIME")
+FitsLeaf root leaf.Id d = IsTextOf IsSegment d
+FitsLeaf root leaf.Parent d = IsTextOf (IsParentText root) d
+FitsLeaf root leaf.QueryPath d = IsTextOf IsQueryPathText d
+FitsLeaf root leaf.Limit d = (z : ℤ) × SpellsShort d z
+FitsLeaf root leaf.Descendants d = d ≡ boolean false
+FitsLeaf root (leaf.Constant which) d = IsTextOf (λ text. is_constant which text ≡ true) d
 
 -- ---- the faults of what may not
 
@@ -105,9 +127,40 @@ abbrev pub HasManyNames : List ℕ → Type 0
 HasManyNames text = (names : List (List ℕ)) × SpellsPath text names × (max_names < length names)
 
 -- The faults of a text that is to be a path. One with too many names is too deep, whatever they are.
-pub data PathFaults (text : List ℕ) : List JsonFault → Type 0 where
-  too_many : HasManyNames text → PathFaults text (json_fault.TooDeep ∷ [])
-  few : {faults : List JsonFault} → ¬ (HasManyNames text) → NamingFaults (IsFieldPathText text) (HasFieldPathFault text) text faults → PathFaults text faults
+pub data NamesFaults (Fact : Type 0) (Has : NamingFault → Type 0) (text : List ℕ) : List JsonFault → Type 0 where
+  too_many : HasManyNames text → NamesFaults Fact Has text (json_fault.TooDeep ∷ [])
+  few : {faults : List JsonFault} → ¬ (HasManyNames text) → NamingFaults Fact Has text faults → NamesFaults Fact Has text faults
+
+-- of one in a write
+abbrev pub PathFaults : List ℕ → List JsonFault → Type 0
+PathFaults text faults = NamesFaults (IsFieldPathText text) (HasFieldPathFault text) text faults
+
+-- why a text that has at most 21 names, or none, isn't the path of a field in a query
+abbrev pub HasQueryPathFault : List ℕ → NamingFault → Type 0
+HasQueryPathFault text BadPath = HasPathFault text field.BadPath
+HasQueryPathFault text ReservedField = HasPathFault text field.ReservedField
+HasQueryPathFault text _ = ⊥
+
+-- of one in a query
+abbrev pub QueryPathFaults : List ℕ → List JsonFault → Type 0
+QueryPathFaults text faults = NamesFaults (IsQueryPathText text) (HasQueryPathFault text) text faults
+
+-- of a text that is to be the id of a collection
+abbrev pub IdFaults : List ℕ → List JsonFault → Type 0
+IdFaults text faults = Unless (IsSegment text) (bad_name BadSegment text) faults
+
+-- of a text that is to be a constant
+abbrev pub constant_faults : Constants → List ℕ → List ℕ → List JsonFault
+constant_faults which name text =
+    if is_constant which text then []
+    else if is_untaken which text then json_fault.Unsupported text ∷ []
+    else json_fault.BadShape name ∷ []
+
+-- of what must be false: true isn't supported
+abbrev pub descendants_faults : List ℕ → Json → List JsonFault
+descendants_faults name (boolean false) = []
+descendants_faults name (boolean true) = json_fault.Unsupported name ∷ []
+descendants_faults name _ = json_fault.BadShape name ∷ []
 
 -- a text with these faults, or no text
 pub data InText (d : Json) (name : List ℕ) (Faults : List ℕ → List JsonFault → Type 0) : List JsonFault → Type 0 where
@@ -121,6 +174,10 @@ ReferenceFaults text faults = NamingFaults (IsReferenceText text) (HasReferenceF
 abbrev pub DocumentFaults : Root → List ℕ → List JsonFault → Type 0
 DocumentFaults root text faults = NamingFaults (IsDocumentText root text) (HasDocumentFault root text) text faults
 
+-- of a text that is to name a document, or the root's `documents`
+abbrev pub ParentFaults : Root → List ℕ → List JsonFault → Type 0
+ParentFaults root text faults = ((text ≡ documents_text root) × (faults ≡ [])) ⊎ ((text ≢ documents_text root) × DocumentFaults root text faults)
+
 -- the faults of a leaf of that kind, under that name
 abbrev pub LeafFaults : Root → Leaf → List ℕ → Json → List JsonFault → Type 0
 LeafFaults root leaf.Time name d faults = InText d name (λ text. Unless (IsTimeText text) (json_fault.BadTime name)) faults
@@ -128,4 +185,9 @@ LeafFaults root leaf.Bytes name d faults = InText d name (λ text. Unless (IsByt
 LeafFaults root leaf.Reference name d faults = InText d name ReferenceFaults faults
 LeafFaults root leaf.Name name d faults = InText d name (DocumentFaults root) faults
 LeafFaults root leaf.Path name d faults = InText d name PathFaults faults
+LeafFaults root leaf.Id name d faults = InText d name IdFaults faults
+LeafFaults root leaf.Parent name d faults = InText d name (ParentFaults root) faults
+LeafFaults root leaf.QueryPath name d faults = InText d name QueryPathFaults faults
+LeafFaults root leaf.Descendants name d faults = faults ≡ descendants_faults name d
+LeafFaults root (leaf.Constant which) name d faults = InText d name (λ text. λ found. found ≡ constant_faults which name text) faults
 LeafFaults root kind name d faults = Unless (FitsLeaf root kind d) (json_fault.BadShape name) faults

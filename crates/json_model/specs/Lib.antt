@@ -1,6 +1,7 @@
 pub mod Ascending
 pub mod Bytes
 pub mod Clean
+pub mod Constants
 pub mod Faults
 pub mod Fits
 pub mod Forms

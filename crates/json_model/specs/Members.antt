@@ -4,7 +4,7 @@ use Rattle.std.specs.Ordering.{nat_cmp, match_ordering}
 use Rattle.std.specs.Cmp.Lexicographic.{slice_cmp}
 use Rattle.std.specs.Str.{bytes_eq}
 use Rattle.serde_json.specs.Data.{Data as Json, null, Members, no_members, member, Items, no_items, item}
-use Rattle.serde_json.specs.Find.{as_object, get_member}
+use Rattle.serde_json.specs.Find.{as_object, as_str, get_member}
 use Rattle.json_model.specs.declared.place.Place.{Place}
 use Rattle.json_model.specs.declared.place.Place.TheVariants as place
 use Rattle.json_model.specs.declared.place.Object.{Object}
@@ -13,6 +13,7 @@ use Rattle.json_model.specs.declared.place.Series.{Series}
 use Rattle.json_model.specs.declared.place.Series.TheVariants as series
 use Rattle.json_model.specs.declared.place.Leaf.{Leaf}
 use Rattle.json_model.specs.declared.place.Leaf.TheVariants as leaf
+use Rattle.json_model.specs.Constants.{is_list_operator}
 use Rattle.json_model.specs.Places.{member_place, is_unknown, chooses, is_choice}
 
 abbrev pub is_null : Json → Bool
@@ -73,9 +74,14 @@ is_one_known o [] = false
 is_one_known o (only ∷ []) = not (is_unknown (member_place o only.0))
 is_one_known o (first ∷ second ∷ others) = false
 
--- the object must have exactly one of several members, and hasn't
+-- a list of operands must be an array, and isn't one
+abbrev pub lacks_array : Object → Members → Bool
+lacks_array object.ListOperand ms = not (bytes_eq (only_name (chosen object.Value ms)) (codes "arrayValue"))
+lacks_array _ ms = false
+
+-- the object must have exactly one of several members, or just an array, and hasn't
 abbrev pub lacks_choice : Object → Members → Bool
-lacks_choice o ms = chooses o && not (is_one_known o (chosen o ms))
+lacks_choice o ms = lacks_array o ms || (chooses o && not (is_one_known o (chosen o ms)))
 
 -- ---- what the members make of an object
 
@@ -95,10 +101,20 @@ is_vector_map _ ms = false
 abbrev pub is_of_array : List ℕ → Bool
 is_of_array name = bytes_eq name (codes "appendMissingElements") || bytes_eq name (codes "removeAllFromArray")
 
--- what object it is by its alternative
+-- the text under `op` asks for a list of operands
+abbrev pub asks_list : Option (List ℕ) → Bool
+asks_list None = false
+asks_list (Some text) = is_list_operator text
+
+abbrev pub takes_list : Members → Bool
+takes_list ms = asks_list (option_and_then as_str (given (codes "op") ms))
+
+-- what object it is by its alternative, or by its operator
 abbrev pub refined : Object → Members → Object
 refined object.Write ms = if bytes_eq (only_name (chosen object.Write ms)) (codes "delete") then object.DeleteWrite else object.Write
 refined object.Transform ms = if is_of_array (only_name (chosen object.Transform ms)) then object.ArrayTransform else object.Transform
+refined object.FieldFilter ms = if takes_list ms then object.ListFilter else object.FieldFilter
+refined object.ListOperand ms = object.Value
 refined o ms = o
 
 -- ---- lists

@@ -1,7 +1,7 @@
 -- Whole numbers of 64 bits with sign: JSON numbers without fraction or exponent, but not `-0`, or texts.
 use Rattle.std.specs.Prelude.{◌≡◌, ◌⊎◌, ℕ, ℤ, pos, List, codes, FitsSigned}
 use Rattle.std.specs.Fmt.{signed_decimal}
-use Rattle.std.specs.Int.{w64}
+use Rattle.std.specs.Int.{w32, w64}
 use Rattle.serde_json.specs.Data.{Data as Json, number, unsigned, negative, string}
 
 -- a text: an optional `-`, and then `0` or digits that don't begin with 0
@@ -17,3 +17,8 @@ IsNumber d z = ((n : ℕ) × (d ≡ number (unsigned n)) × (z ≡ pos n)) ⊎ (
 pub data SpellsWhole (d : Json) (z : ℤ) : Type 0 where
   as_number : FitsSigned w64 z → IsNumber d z → SpellsWhole d z
   as_text : (text : List ℕ) → d ≡ string text → SpellsInteger text z → SpellsWhole d z
+
+-- one of 32 bits
+pub record SpellsShort (d : Json) (z : ℤ) : Type 0 where
+  pub whole : SpellsWhole d z
+  pub fits : FitsSigned w32 z

@@ -8,6 +8,7 @@ use Rattle.json_model.specs.declared.place.Object.TheVariants as object
 use Rattle.json_model.specs.declared.place.Series.{Series}
 use Rattle.json_model.specs.declared.place.Series.TheVariants as series
 use Rattle.json_model.specs.declared.place.Leaf.TheVariants as leaf
+use Rattle.json_model.specs.declared.place.Constants.TheVariants as constants
 
 -- a name, and what is to stand under it
 abbrev pub Row : Type 0
@@ -122,6 +123,93 @@ operand_rows =
     (codes "integerValue", a_leaf leaf.Integer) ∷
     []
 
+-- a target: a document, or a query
+unfoldable pub target_rows : List Row
+target_rows =
+    (codes "documents", an_object object.Documents) ∷
+    (codes "query", an_object object.Query) ∷
+    []
+
+-- what `query` of a target holds
+unfoldable pub query_rows : List Row
+query_rows =
+    (codes "parent", a_leaf leaf.Parent) ∷
+    (codes "structuredQuery", an_object object.StructuredQuery) ∷
+    []
+
+-- what `structuredQuery` holds
+unfoldable pub structured_query_rows : List Row
+structured_query_rows =
+    (codes "endAt", an_object object.Cursor) ∷
+    (codes "findNearest", Unsupported) ∷
+    (codes "from", a_series series.Selectors) ∷
+    (codes "limit", a_leaf leaf.Limit) ∷
+    (codes "offset", Unsupported) ∷
+    (codes "orderBy", a_series series.Orders) ∷
+    (codes "select", Unsupported) ∷
+    (codes "startAt", an_object object.Cursor) ∷
+    (codes "where", an_object object.Filter) ∷
+    []
+
+-- an item of `from`
+unfoldable pub selector_rows : List Row
+selector_rows =
+    (codes "allDescendants", a_leaf leaf.Descendants) ∷
+    (codes "collectionId", a_leaf leaf.Id) ∷
+    []
+
+-- an item of `orderBy`
+unfoldable pub order_rows : List Row
+order_rows =
+    (codes "direction", a_leaf (leaf.Constant constants.Direction)) ∷
+    (codes "field", an_object object.Field) ∷
+    []
+
+-- what `startAt` and `endAt` hold
+unfoldable pub cursor_rows : List Row
+cursor_rows =
+    (codes "before", a_leaf leaf.Boolean) ∷
+    (codes "values", a_series series.Values) ∷
+    []
+
+-- a filter
+unfoldable pub filter_rows : List Row
+filter_rows =
+    (codes "compositeFilter", an_object object.CompositeFilter) ∷
+    (codes "fieldFilter", an_object object.FieldFilter) ∷
+    (codes "unaryFilter", an_object object.UnaryFilter) ∷
+    []
+
+-- what `compositeFilter` holds
+unfoldable pub composite_filter_rows : List Row
+composite_filter_rows =
+    (codes "filters", a_series series.Filters) ∷
+    (codes "op", a_leaf (leaf.Constant constants.Junction)) ∷
+    []
+
+-- what `fieldFilter` holds
+unfoldable pub field_filter_rows : List Row
+field_filter_rows =
+    (codes "field", an_object object.Field) ∷
+    (codes "op", a_leaf (leaf.Constant constants.Operator)) ∷
+    (codes "value", an_object object.Value) ∷
+    []
+
+-- a filter of a field whose operand is a list of operands
+unfoldable pub list_filter_rows : List Row
+list_filter_rows =
+    (codes "field", an_object object.Field) ∷
+    (codes "op", a_leaf (leaf.Constant constants.Operator)) ∷
+    (codes "value", an_object object.ListOperand) ∷
+    []
+
+-- what `unaryFilter` holds
+unfoldable pub unary_filter_rows : List Row
+unary_filter_rows =
+    (codes "field", an_object object.Field) ∷
+    (codes "op", a_leaf (leaf.Constant constants.Test)) ∷
+    []
+
 -- the kind of a value, by its name
 abbrev pub value_member : List ℕ → Place
 value_member name = placed value_rows name
@@ -145,6 +233,19 @@ member_place object.ArrayTransform name = placed transform_rows name
 member_place object.Operand name = placed operand_rows name
 member_place object.Elements name = if bytes_eq name (codes "values") then a_series series.Values else Unknown
 member_place object.Documents name = if bytes_eq name (codes "documents") then a_series series.Names else Unknown
+member_place object.Target name = placed target_rows name
+member_place object.Query name = placed query_rows name
+member_place object.StructuredQuery name = placed structured_query_rows name
+member_place object.Selector name = placed selector_rows name
+member_place object.Order name = placed order_rows name
+member_place object.Cursor name = placed cursor_rows name
+member_place object.Filter name = placed filter_rows name
+member_place object.CompositeFilter name = placed composite_filter_rows name
+member_place object.FieldFilter name = placed field_filter_rows name
+member_place object.ListFilter name = placed list_filter_rows name
+member_place object.UnaryFilter name = placed unary_filter_rows name
+member_place object.Field name = if bytes_eq name (codes "fieldPath") then a_leaf leaf.QueryPath else Unknown
+member_place object.ListOperand name = Unknown
 
 -- what is to stand in a list
 abbrev pub item_place : Series → Place
@@ -153,6 +254,9 @@ item_place series.Writes = an_object object.Write
 item_place series.Paths = a_leaf leaf.Path
 item_place series.Transforms = an_object object.Transform
 item_place series.Names = a_leaf leaf.Name
+item_place series.Selectors = an_object object.Selector
+item_place series.Orders = an_object object.Order
+item_place series.Filters = an_object object.Filter
 
 abbrev pub is_unknown : Place → Bool
 is_unknown Unknown = true
@@ -166,6 +270,14 @@ required object.Update = codes "name" ∷ []
 required object.Transform = codes "fieldPath" ∷ []
 required object.ArrayTransform = codes "fieldPath" ∷ []
 required object.Documents = codes "documents" ∷ []
+required object.Query = codes "parent" ∷ codes "structuredQuery" ∷ []
+required object.Selector = codes "collectionId" ∷ []
+required object.Order = codes "field" ∷ []
+required object.Field = codes "fieldPath" ∷ []
+required object.CompositeFilter = codes "op" ∷ []
+required object.FieldFilter = codes "field" ∷ codes "op" ∷ codes "value" ∷ []
+required object.ListFilter = codes "field" ∷ codes "op" ∷ codes "value" ∷ []
+required object.UnaryFilter = codes "field" ∷ codes "op" ∷ []
 required _ = []
 
 -- the name is one of these
@@ -181,6 +293,8 @@ chooses object.Write = true
 chooses object.Condition = true
 chooses object.Transform = true
 chooses object.Operand = true
+chooses object.Target = true
+chooses object.Filter = true
 chooses _ = false
 
 -- the member is one of them. What isn't supported counts, and in a line and an operand any that would be one elsewhere
@@ -191,4 +305,6 @@ is_choice object.Write name = is_write_choice name
 is_choice object.Condition name = not (is_unknown (placed condition_rows name))
 is_choice object.Transform name = not (is_unknown (placed transform_rows name)) && not (bytes_eq name (codes "fieldPath"))
 is_choice object.Operand name = not (is_unknown (placed value_rows name))
+is_choice object.Target name = not (is_unknown (placed target_rows name))
+is_choice object.Filter name = not (is_unknown (placed filter_rows name))
 is_choice _ name = false

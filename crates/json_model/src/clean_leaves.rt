@@ -1,25 +1,29 @@
 //! Leaves without faults, read.
 
-ghost use Rattle.std.specs.Prelude.{◌≡◌, ℤ, IfOk, IsTrue, codes};
+ghost use Rattle.std.specs.Prelude.{◌≡◌, ℤ, true, IfOk, IfSome};
 ghost use Rattle.serde_json.specs.Data.{boolean, string};
 ghost use Rattle.serde_json.specs.View.{view};
-ghost use Rattle.value_model.specs.Storable.{IsStorableKey, IsStorableName};
+ghost use Rattle.value_model.specs.Storable.{IsStorableKey, IsStorableName, IsStorableSegment};
 ghost use Rattle.value_model.specs.Time.{IsMoment};
 ghost use Rattle.json_model.specs.declared.place.Place.TheVariants as places;
 ghost use Rattle.json_model.specs.declared.place.Leaf.TheVariants as leaves;
 ghost use Rattle.json_model.specs.declared.fault.JsonFault.TheVariants as json_fault;
 ghost use Rattle.json_model.specs.Clean.{IsClean};
-ghost use Rattle.json_model.specs.Grammar.{SpellsTime, SpellsName, SpellsText, SpellsBytesTree, SpellsReferenceTree, SpellsPathTree};
-ghost use Rattle.json_model.specs.Numbers.{SpellsWhole};
-ghost use Rattle.json_model.specs.Storable.{IsStorablePath};
+ghost use Rattle.json_model.specs.Constants.{is_constant};
+ghost use Rattle.json_model.specs.Grammar.{SpellsTime, SpellsName, SpellsText, SpellsBytesTree, SpellsReferenceTree, SpellsPathTree, SpellsId, SpellsParent, SpellsQueryPathTree};
+ghost use Rattle.json_model.specs.Numbers.{SpellsWhole, SpellsShort};
+ghost use Rattle.json_model.specs.Storable.{IsStorablePath, IsStorableQueryPath};
 
 use crate::bytes::read_bytes;
 use crate::fault::JsonFault;
-use crate::names::{read_key, read_path, read_reference};
-use crate::numbers::read_whole;
+use crate::names::{
+    is_documents, read_key, read_path, read_query_path, read_reference, read_segment,
+};
+use crate::numbers::{read_short, read_whole};
+use crate::place::Constants;
 use crate::setting::Setting;
-use crate::texts::{show_key, show_path};
-use document_keys::{DocumentKey, FieldPath, NoMemory};
+use crate::texts::{show_key, show_path, show_segment};
+use document_keys::{DocumentKey, FieldPath, NoMemory, Segment};
 use serde_json::Value as Json;
 use std::alloc::Global;
 use value_model::{RefName, Timestamp};
@@ -167,5 +171,105 @@ pub fn clean_path(alloc: Global, _setting: &Setting<'_>, json: &Json) -> Result<
             Ok(path)
         }
         Err(fault) => Err(want_of_memory(fault)),
+    }
+}
+
+/// The id of a collection.
+///
+/// # Errors
+/// `NoMemory`
+pub fn clean_id(alloc: Global, _setting: &Setting<'_>, json: &Json) -> Result<Segment, NoMemory>
+    requires { IsClean _setting.now (places.Leaf leaves.Id) (view json.now) }
+    ensures id { IfOk result (λ id. SpellsId (view json.now) id) }
+    ensures storable { IfOk result IsStorableSegment }
+{
+    let Some(text) = json.as_str() else {
+        unreachable!();
+    };
+    match read_segment(alloc, text)? {
+        Some(id) => {
+            show_segment(&id);
+            Ok(id)
+        }
+        None => unreachable!(),
+    }
+}
+
+/// The key of the document that the tree names; none, where that is the root's `documents`.
+///
+/// # Errors
+/// `NoMemory`
+pub fn clean_parent(
+    alloc: Global,
+    setting: &Setting<'_>,
+    json: &Json,
+) -> Result<Option<DocumentKey>, NoMemory>
+    requires { IsClean setting.now (places.Leaf leaves.Parent) (view json.now) }
+    ensures parent { IfOk result (λ parent. SpellsParent setting.now.root (view json.now) parent) }
+    ensures storable { IfOk result (λ parent. IfSome parent IsStorableKey) }
+{
+    let Some(text) = json.as_str() else {
+        unreachable!();
+    };
+    if is_documents(setting.root, text) {
+        return Ok(None);
+    }
+    match read_key(alloc, setting.root, text) {
+        Ok(key) => {
+            show_key(&key);
+            Ok(Some(key))
+        }
+        Err(fault) => Err(want_of_memory(fault)),
+    }
+}
+
+/// The path of a field in a query, or `__name__`.
+///
+/// # Errors
+/// `NoMemory`
+pub fn clean_query_path(
+    alloc: Global,
+    _setting: &Setting<'_>,
+    json: &Json,
+) -> Result<FieldPath, NoMemory>
+    requires { IsClean _setting.now (places.Leaf leaves.QueryPath) (view json.now) }
+    ensures path { IfOk result (λ path. SpellsQueryPathTree (view json.now) path) }
+    ensures storable { IfOk result IsStorableQueryPath }
+{
+    let Some(text) = json.as_str() else {
+        unreachable!();
+    };
+    match read_query_path(alloc, text) {
+        Ok(path) => {
+            show_path(&path);
+            Ok(path)
+        }
+        Err(fault) => Err(want_of_memory(fault)),
+    }
+}
+
+/// A whole number of 32 bits with sign.
+///
+/// # Errors
+/// `NoMemory`
+pub fn clean_limit(alloc: Global, _setting: &Setting<'_>, json: &Json) -> Result<i32, NoMemory>
+    requires { IsClean _setting.now (places.Leaf leaves.Limit) (view json.now) }
+    ensures { IfOk result (λ z. SpellsShort (view json.now) z) }
+{
+    match read_short(alloc, json)? {
+        Some(number) => Ok(number),
+        None => unreachable!(),
+    }
+}
+
+/// The text of a constant.
+pub fn clean_constant<'a>(_setting: &Setting<'_>, _which: Constants, json: &'a Json) -> &'a str
+    requires { IsClean _setting.now (places.Leaf (leaves.Constant _which)) (view json.now) }
+    ensures text { SpellsText (view json.now) result.now }
+    ensures constant { is_constant _which result.now ≡ true }
+{
+    match json.as_str() {
+        Some(text) => text,
+        None => unreachable!(),
     }
 }

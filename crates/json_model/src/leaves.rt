@@ -5,15 +5,18 @@ ghost use Rattle.serde_json.specs.Data.{null, boolean, string};
 ghost use Rattle.serde_json.specs.View.{view};
 ghost use Rattle.json_model.specs.declared.fault.JsonFault.TheVariants as json_fault;
 ghost use Rattle.json_model.specs.Ranks.{first_of_least};
-ghost use Rattle.json_model.specs.Numbers.{SpellsWhole};
+ghost use Rattle.json_model.specs.Numbers.{SpellsWhole, SpellsShort};
 ghost use Rattle.json_model.specs.Faults.{FirstOf, FlatFaults, unknown_faults};
-ghost use Rattle.json_model.specs.Leaves.{Unless, InText, IsNullTree, IsText, IsTimeText, IsBytesText, ReferenceFaults, DocumentFaults, PathFaults, LeafFaults};
+ghost use Rattle.json_model.specs.Leaves.{Unless, InText, IsNullTree, IsText, IsTimeText, IsBytesText, ReferenceFaults, DocumentFaults, ParentFaults, PathFaults, QueryPathFaults, IdFaults, constant_faults, descendants_faults, LeafFaults};
 
 use crate::bytes::read_bytes;
-use crate::fault::JsonFault;
-use crate::names::{read_key, read_path, read_reference};
-use crate::numbers::read_whole;
-use crate::place::{Leaf, Place};
+use crate::constants::{is_constant, is_untaken};
+use crate::fault::{JsonFault, NamingFault};
+use crate::names::{
+    bad_name, is_documents, read_key, read_path, read_query_path, read_reference, read_segment,
+};
+use crate::numbers::{read_short, read_whole};
+use crate::place::{Constants, Leaf, Place};
 use crate::setting::Setting;
 use crate::side::Side;
 use document_keys::{Database, NoMemory, Text};
@@ -202,6 +205,121 @@ fn find_in_server_time(
     bad_shape_unless(alloc, is_server_time(json), name)
 }
 
+fn find_in_id_text(alloc: Global, text: &str) -> Result<Option<JsonFault>, NoMemory>
+    ensures { IfOk result (λ found. FirstOf (IdFaults text.now) found) }
+{
+    if read_segment(alloc, text)?.is_some() {
+        return Ok(None);
+    }
+    Ok(Some(bad_name(alloc, NamingFault::BadSegment, text)?))
+}
+
+fn find_in_id(alloc: Global, name: &str, json: &Json) -> Result<Option<JsonFault>, NoMemory>
+    ensures { IfOk result (λ found. FirstOf (InText (view json.now) name.now IdFaults) found) }
+{
+    match json.as_str() {
+        Some(text) => find_in_id_text(alloc, text),
+        None => bad_shape_unless(alloc, false, name),
+    }
+}
+
+fn find_in_parent_text(
+    alloc: Global,
+    root: &Database,
+    text: &str,
+) -> Result<Option<JsonFault>, NoMemory>
+    ensures { IfOk result (λ found. FirstOf (ParentFaults root.now text.now) found) }
+{
+    if is_documents(root, text) {
+        return Ok(None);
+    }
+    find_in_document_text(alloc, root, text)
+}
+
+fn find_in_parent(
+    alloc: Global,
+    root: &Database,
+    name: &str,
+    json: &Json,
+) -> Result<Option<JsonFault>, NoMemory>
+    ensures { IfOk result (λ found. FirstOf (InText (view json.now) name.now (ParentFaults root.now)) found) }
+{
+    match json.as_str() {
+        Some(text) => find_in_parent_text(alloc, root, text),
+        None => bad_shape_unless(alloc, false, name),
+    }
+}
+
+fn find_in_query_path_text(alloc: Global, text: &str) -> Result<Option<JsonFault>, NoMemory>
+    ensures { IfOk result (λ found. FirstOf (QueryPathFaults text.now) found) }
+{
+    match read_query_path(alloc, text) {
+        Ok(_) => Ok(None),
+        Err(fault) => unless_memory(fault),
+    }
+}
+
+fn find_in_query_path(alloc: Global, name: &str, json: &Json) -> Result<Option<JsonFault>, NoMemory>
+    ensures { IfOk result (λ found. FirstOf (InText (view json.now) name.now QueryPathFaults) found) }
+{
+    match json.as_str() {
+        Some(text) => find_in_query_path_text(alloc, text),
+        None => bad_shape_unless(alloc, false, name),
+    }
+}
+
+fn find_in_limit(alloc: Global, name: &str, json: &Json) -> Result<Option<JsonFault>, NoMemory>
+    ensures { IfOk result (λ found. FirstOf (Unless ((z : ℤ) × SpellsShort (view json.now) z) (json_fault.BadShape name.now)) found) }
+{
+    let number = read_short(alloc, json)?;
+    bad_shape_unless(alloc, number.is_some(), name)
+}
+
+fn find_in_descendants(
+    alloc: Global,
+    name: &str,
+    json: &Json,
+) -> Result<Option<JsonFault>, NoMemory>
+    ensures { IfOk result (λ found. found ≡ first_of_least (descendants_faults name.now (view json.now))) }
+{
+    match json.as_bool() {
+        Some(false) => Ok(None),
+        Some(true) => Ok(Some(JsonFault::Unsupported(Text::from_str(alloc, name)?))),
+        None => bad_shape_unless(alloc, false, name),
+    }
+}
+
+fn find_in_constant_text(
+    alloc: Global,
+    which: Constants,
+    name: &str,
+    text: &str,
+) -> Result<Option<JsonFault>, NoMemory>
+    ensures { IfOk result (λ found. found ≡ first_of_least (constant_faults which name.now text.now)) }
+{
+    if is_constant(which, text) {
+        return Ok(None);
+    }
+    if is_untaken(which, text) {
+        return Ok(Some(JsonFault::Unsupported(Text::from_str(alloc, text)?)));
+    }
+    bad_shape_unless(alloc, false, name)
+}
+
+fn find_in_constant(
+    alloc: Global,
+    which: Constants,
+    name: &str,
+    json: &Json,
+) -> Result<Option<JsonFault>, NoMemory>
+    ensures { IfOk result (λ found. FirstOf (InText (view json.now) name.now (λ text. λ faults. faults ≡ constant_faults which name.now text)) found) }
+{
+    match json.as_str() {
+        Some(text) => find_in_constant_text(alloc, which, name, text),
+        None => bad_shape_unless(alloc, false, name),
+    }
+}
+
 /// The fault of a leaf.
 fn find_in_leaf(
     alloc: Global,
@@ -223,6 +341,12 @@ fn find_in_leaf(
         Leaf::Name => find_in_document(alloc, root, name, json),
         Leaf::Path => find_in_path(alloc, name, json),
         Leaf::ServerTime => find_in_server_time(alloc, name, json),
+        Leaf::Id => find_in_id(alloc, name, json),
+        Leaf::Parent => find_in_parent(alloc, root, name, json),
+        Leaf::QueryPath => find_in_query_path(alloc, name, json),
+        Leaf::Limit => find_in_limit(alloc, name, json),
+        Leaf::Descendants => find_in_descendants(alloc, name, json),
+        Leaf::Constant(which) => find_in_constant(alloc, which, name, json),
     }
 }
 

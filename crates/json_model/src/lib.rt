@@ -10,6 +10,7 @@
 mod bytes;
 mod clean;
 mod clean_leaves;
+mod constants;
 mod document;
 mod fault;
 mod laws;
@@ -31,8 +32,8 @@ mod walk;
 pub use bytes::{print_bytes, read_bytes};
 pub use clean::{check, clean_choice, clean_list, clean_member, clean_object};
 pub use clean_leaves::{
-    clean_boolean, clean_bytes, clean_integer, clean_name, clean_path, clean_reference, clean_text,
-    clean_time,
+    clean_boolean, clean_bytes, clean_constant, clean_id, clean_integer, clean_limit, clean_name,
+    clean_parent, clean_path, clean_query_path, clean_reference, clean_text, clean_time,
 };
 pub use document::{print_document, state_text};
 pub use fault::{BadName, JsonFault, NamingFault, better};
@@ -43,7 +44,7 @@ pub use laws::{
 pub use members::{given, only_choice, refined};
 pub use numbers::{read_integer, read_whole};
 pub use objects::{put_given, put_member, text_tree, unless_empty};
-pub use place::{Leaf, Object, Place, Series};
+pub use place::{Constants, Leaf, Object, Place, Series};
 pub use printing::{print_fields, print_value};
 pub use reading::{MAX_NESTING, clean_fields, clean_value, clean_values, read_fields, read_name};
 pub use setting::Setting;

@@ -1,9 +1,10 @@
 ghost use Rattle.std.specs.Prelude.{◌≡◌, ◌≢◌, [], ◌∷◌, length, false, codes, MatchOption, option_map};
 ghost use Rattle.serde_json.specs.Find.{get_member};
 ghost use Rattle.serde_json.specs.View.{view, members_view};
-ghost use Rattle.json_model.specs.Members.{given as given_of, is_vector_map as is_vector_map_of, is_vector as is_vector_of, is_chosen as is_chosen_of, chosen as chosen_of, is_one_known, only_name as only_name_of, lacks_choice as lacks_choice_of, is_of_array as is_of_array_of, refined as refined_of};
+ghost use Rattle.json_model.specs.Members.{given as given_of, is_vector_map as is_vector_map_of, is_vector as is_vector_of, is_chosen as is_chosen_of, chosen as chosen_of, is_one_known, only_name as only_name_of, lacks_array as lacks_array_of, lacks_choice as lacks_choice_of, is_of_array as is_of_array_of, takes_list as takes_list_of, refined as refined_of};
 ghost use Rattle.json_model.specs.Places.{member_place as member_place_of, is_unknown as is_unknown_of};
 
+use crate::constants::is_list_operator;
 use crate::place::Object;
 use crate::table::{chooses, is_choice, member_place};
 use serde_json::{Map, Value as Json};
@@ -103,10 +104,23 @@ pub fn only_choice(object: Object, members: &Map<String, Json>) -> Option<(&str,
     Some((name, json))
 }
 
-/// Whether the object must have exactly one of several members, and hasn't.
+/// Whether the object must be an array among values, and isn't one.
+fn lacks_array(object: Object, members: &Map<String, Json>) -> bool
+    ensures { result ≡ lacks_array_of object (members_view members.now.entries) }
+{
+    match object {
+        Object::ListOperand => only_name(Object::Value, members) != "arrayValue",
+        _ => false,
+    }
+}
+
+/// Whether the object must have exactly one of several members, or just an array, and hasn't.
 pub(crate) fn lacks_choice(object: Object, members: &Map<String, Json>) -> bool
     ensures { result ≡ lacks_choice_of object (members_view members.now.entries) }
 {
+    if lacks_array(object, members) {
+        return true;
+    }
     if !chooses(object) {
         return false;
     }
@@ -123,13 +137,28 @@ fn is_of_array(name: &str) -> bool
     name == "removeAllFromArray"
 }
 
-/// What object it is by its alternative.
+/// Whether the operator of a filter asks for a list of operands.
+fn takes_list(members: &Map<String, Json>) -> bool
+    ensures { result ≡ takes_list_of (members_view members.now.entries) }
+{
+    let Some(json) = given(members, "op") else {
+        return false;
+    };
+    let Some(text) = json.as_str() else {
+        return false;
+    };
+    is_list_operator(text)
+}
+
+/// What object it is by its alternative, or by its operator.
 pub fn refined(object: Object, members: &Map<String, Json>) -> Object
     ensures { result ≡ refined_of object (members_view members.now.entries) }
 {
     match object {
         Object::Write if only_name(object, members) == "delete" => Object::DeleteWrite,
         Object::Transform if is_of_array(only_name(object, members)) => Object::ArrayTransform,
+        Object::FieldFilter if takes_list(members) => Object::ListFilter,
+        Object::ListOperand => Object::Value,
         _ => object,
     }
 }

@@ -1,11 +1,11 @@
 ghost use Rattle.std.specs.Prelude.{◌≡◌, ◌≢◌, ℕ, ◌++◌, ◌∷◌, List, length, ◌↔◌, IsTrue, IfOk, IfErr, MatchOption};
-ghost use Rattle.document_keys.specs.Names.{Root, IsPart, IsSegment, IsRoot, IsKey, name_text};
+ghost use Rattle.document_keys.specs.Names.{Root, IsPart, IsSegment, IsRoot, IsKey, documents_text, name_text};
 ghost use Rattle.std.specs.List.{All};
 ghost use Rattle.document_keys.specs.Paths.{IsFieldName, SpellsPath};
 ghost use Rattle.value_model.specs.Storable.{IsStorableName};
 ghost use Rattle.json_model.specs.References.{SpellsReference, IsUnder, HasDocumentFault, HasReferenceFault};
 ghost use Rattle.json_model.specs.Faults.{FirstOf, IsFault};
-ghost use Rattle.json_model.specs.Leaves.{IsNameFault, FieldNameFaults, PathFaults, SpellsFieldPath, HasFieldPathFault, HasManyNames, bad_name as bad_name_of};
+ghost use Rattle.json_model.specs.Leaves.{IsNameFault, FieldNameFaults, PathFaults, SpellsFieldPath, HasFieldPathFault, QueryPathFaults, SpellsQueryPath, HasManyNames, bad_name as bad_name_of};
 
 use crate::fault::{BadName, JsonFault, NamingFault};
 use crate::texts::{show_key, show_segment};
@@ -20,7 +20,7 @@ use value_model::RefName;
 const MAX_NAMES: u64 = 21;
 
 /// The fault of a name.
-fn bad_name(alloc: Global, fault: NamingFault, name: &str) -> Result<JsonFault, NoMemory>
+pub(crate) fn bad_name(alloc: Global, fault: NamingFault, name: &str) -> Result<JsonFault, NoMemory>
     ensures { IfOk result (λ bad. bad ≡ bad_name_of fault name.now) }
 {
     let name = Text::from_str(alloc, name)?;
@@ -78,7 +78,8 @@ fn cut_root(text: &str) -> Option<(&str, &str)>
     Some((project, name))
 }
 
-fn read_segment(alloc: Global, text: &str) -> Result<Option<Segment>, NoMemory>
+/// The segment that the text is.
+pub(crate) fn read_segment(alloc: Global, text: &str) -> Result<Option<Segment>, NoMemory>
     ensures { IfOk result (λ found. MatchOption found (¬ (IsSegment text.now)) (λ segment. (segment ≡ text.now) × IsSegment text.now)) }
 {
     match Segment::read(alloc, text) {
@@ -206,4 +207,36 @@ pub(crate) fn read_path(alloc: Global, text: &str) -> Result<FieldPath, JsonFaul
         return Err(JsonFault::TooDeep);
     }
     read_names(alloc, text)
+}
+
+/// The path of a field in a query, or `__name__`.
+///
+/// # Errors
+/// As `read_path`, but that `__name__` by itself is a path.
+pub(crate) fn read_query_path(alloc: Global, text: &str) -> Result<FieldPath, JsonFault>
+    ensures path { IfOk result (λ path. SpellsQueryPath text.now path) }
+    ensures fault { IfErr result (λ fault. IsFault (QueryPathFaults text.now) fault) }
+{
+    if has_many_names(alloc, text)? {
+        return Err(JsonFault::TooDeep);
+    }
+    match FieldPath::read(alloc, text) {
+        Ok(path) => {
+            let _count = path.len();
+            Ok(path)
+        }
+        Err(FieldFault::BadPath) => Err(bad_name(alloc, NamingFault::BadPath, text)?),
+        Err(FieldFault::ReservedField) => Err(bad_name(alloc, NamingFault::ReservedField, text)?),
+        Err(FieldFault::NoMemory) => Err(JsonFault::NoMemory),
+    }
+}
+
+/// Whether the text is the name of the root's `documents`.
+pub(crate) fn is_documents(root: &Database, text: &str) -> bool
+    ensures { IsTrue result ↔ (text.now ≡ documents_text root.now) }
+{
+    match after(text, root.as_str()) {
+        Some(rest) => rest == "/documents",
+        None => false,
+    }
 }

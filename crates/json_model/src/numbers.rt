@@ -1,6 +1,6 @@
 ghost use Rattle.std.specs.Prelude.{ℤ, IfOk, MatchOption};
 ghost use Rattle.serde_json.specs.View.{view};
-ghost use Rattle.json_model.specs.Numbers.{SpellsInteger, SpellsWhole, IsNumber};
+ghost use Rattle.json_model.specs.Numbers.{SpellsInteger, SpellsWhole, SpellsShort, IsNumber};
 
 use document_keys::NoMemory;
 use serde_json::Value as Json;
@@ -42,4 +42,20 @@ pub fn read_whole(alloc: Global, json: &Json) -> Result<Option<i64>, NoMemory>
         return Ok(None);
     };
     Ok(Some(number))
+}
+
+/// The whole number of 32 bits with sign that a tree spells.
+///
+/// # Errors
+/// `NoMemory`
+pub(crate) fn read_short(alloc: Global, json: &Json) -> Result<Option<i32>, NoMemory>
+    ensures { IfOk result (λ found. MatchOption found ((z : ℤ) → SpellsShort (view json.now) z → ⊥) (λ z. SpellsShort (view json.now) z)) }
+{
+    let Some(number) = read_whole(alloc, json)? else {
+        return Ok(None);
+    };
+    match i32::try_from(number) {
+        Ok(short) => Ok(Some(short)),
+        Err(_) => Ok(None),
+    }
 }

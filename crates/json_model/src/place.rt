@@ -59,6 +59,32 @@ pub enum Object {
     Elements,
     /// What `documents` of a target holds: the name of its document.
     Documents,
+    /// A target: a document, or a query.
+    Target,
+    /// What `query` of a target holds.
+    Query,
+    /// What `structuredQuery` holds.
+    StructuredQuery,
+    /// An item of `from`: a collection's id.
+    Selector,
+    /// An item of `orderBy`.
+    Order,
+    /// What `field` holds: the path of a field.
+    Field,
+    /// What `startAt` and `endAt` hold.
+    Cursor,
+    /// A filter of any kind.
+    Filter,
+    /// What `compositeFilter` holds.
+    CompositeFilter,
+    /// What `fieldFilter` holds, or by its operator a `ListFilter`.
+    FieldFilter,
+    /// A filter of a field whose operand is a list of operands.
+    ListFilter,
+    /// What `unaryFilter` holds.
+    UnaryFilter,
+    /// A list of operands: a `Value` that is an array.
+    ListOperand,
 }
 
 /// A list, by its items.
@@ -74,6 +100,12 @@ pub enum Series {
     Transforms,
     /// The names of a target's documents, exactly one.
     Names,
+    /// The collections of a query.
+    Selectors,
+    /// The orders of a query.
+    Orders,
+    /// The filters of a composite one.
+    Filters,
 }
 
 /// A tree that isn't looked into.
@@ -99,6 +131,31 @@ pub enum Leaf {
     Path,
     /// The text that stands for the time at which the backend commits.
     ServerTime,
+    /// The id of a collection.
+    Id,
+    /// The name of a document, or of the root's `documents`.
+    Parent,
+    /// The path of a field in a query, or `__name__`, which stands for the document's own name.
+    QueryPath,
+    /// A whole number of 32 bits with sign.
+    Limit,
+    /// Whether collections below are meant, which must be false.
+    Descendants,
+    /// One of several texts.
+    Constant(Constants),
+}
+
+/// The texts that may stand as a constant.
+#[derive(Clone, Copy, Debug, PartialEq, Eq)]
+pub enum Constants {
+    /// How filters are joined.
+    Junction,
+    /// How a field stands to an operand.
+    Operator,
+    /// A test of a field.
+    Test,
+    /// The direction of an order.
+    Direction,
 }
 
 impl Place {

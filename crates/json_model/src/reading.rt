@@ -128,7 +128,7 @@ fn build_scalar(
         Leaf::Text => build_text(alloc, setting, json),
         Leaf::Bytes => build_bytes(alloc, setting, json),
         Leaf::Reference => build_reference(alloc, setting, json),
-        Leaf::Name | Leaf::Path | Leaf::ServerTime => unreachable!(),
+        _ => unreachable!(),
     }
 }
 

@@ -3,7 +3,7 @@
 ghost use Rattle.std.specs.Prelude.{◌≡◌, map};
 ghost use Rattle.json_model.specs.Places as table;
 
-use crate::place::{Leaf, Object, Place, Series};
+use crate::place::{Constants, Leaf, Object, Place, Series};
 
 /// The kinds of a value.
 #[tactic(auto, unfolding(crate::specs::Places::value_rows))]
@@ -160,6 +160,148 @@ fn operand_member(name: &str) -> Place
     }
 }
 
+/// A target: a document, or a query.
+#[tactic(auto, unfolding(crate::specs::Places::target_rows))]
+fn target_member(name: &str) -> Place
+    ensures { result ≡ table.placed table.target_rows name.now }
+{
+    match name {
+        "documents" => Place::Object(Object::Documents),
+        "query" => Place::Object(Object::Query),
+        _ => Place::Unknown,
+    }
+}
+
+/// What `query` of a target holds.
+#[tactic(auto, unfolding(crate::specs::Places::query_rows))]
+fn query_member(name: &str) -> Place
+    ensures { result ≡ table.placed table.query_rows name.now }
+{
+    match name {
+        "parent" => Place::Leaf(Leaf::Parent),
+        "structuredQuery" => Place::Object(Object::StructuredQuery),
+        _ => Place::Unknown,
+    }
+}
+
+/// What `structuredQuery` holds.
+#[tactic(auto, unfolding(crate::specs::Places::structured_query_rows))]
+fn structured_query_member(name: &str) -> Place
+    ensures { result ≡ table.placed table.structured_query_rows name.now }
+{
+    match name {
+        "endAt" => Place::Object(Object::Cursor),
+        "findNearest" => Place::Unsupported,
+        "from" => Place::Series(Series::Selectors),
+        "limit" => Place::Leaf(Leaf::Limit),
+        "offset" => Place::Unsupported,
+        "orderBy" => Place::Series(Series::Orders),
+        "select" => Place::Unsupported,
+        "startAt" => Place::Object(Object::Cursor),
+        "where" => Place::Object(Object::Filter),
+        _ => Place::Unknown,
+    }
+}
+
+/// An item of `from`.
+#[tactic(auto, unfolding(crate::specs::Places::selector_rows))]
+fn selector_member(name: &str) -> Place
+    ensures { result ≡ table.placed table.selector_rows name.now }
+{
+    match name {
+        "allDescendants" => Place::Leaf(Leaf::Descendants),
+        "collectionId" => Place::Leaf(Leaf::Id),
+        _ => Place::Unknown,
+    }
+}
+
+/// An item of `orderBy`.
+#[tactic(auto, unfolding(crate::specs::Places::order_rows))]
+fn order_member(name: &str) -> Place
+    ensures { result ≡ table.placed table.order_rows name.now }
+{
+    match name {
+        "direction" => Place::Leaf(Leaf::Constant(Constants::Direction)),
+        "field" => Place::Object(Object::Field),
+        _ => Place::Unknown,
+    }
+}
+
+/// What `startAt` and `endAt` hold.
+#[tactic(auto, unfolding(crate::specs::Places::cursor_rows))]
+fn cursor_member(name: &str) -> Place
+    ensures { result ≡ table.placed table.cursor_rows name.now }
+{
+    match name {
+        "before" => Place::Leaf(Leaf::Boolean),
+        "values" => Place::Series(Series::Values),
+        _ => Place::Unknown,
+    }
+}
+
+/// A filter.
+#[tactic(auto, unfolding(crate::specs::Places::filter_rows))]
+fn filter_member(name: &str) -> Place
+    ensures { result ≡ table.placed table.filter_rows name.now }
+{
+    match name {
+        "compositeFilter" => Place::Object(Object::CompositeFilter),
+        "fieldFilter" => Place::Object(Object::FieldFilter),
+        "unaryFilter" => Place::Object(Object::UnaryFilter),
+        _ => Place::Unknown,
+    }
+}
+
+/// What `compositeFilter` holds.
+#[tactic(auto, unfolding(crate::specs::Places::composite_filter_rows))]
+fn composite_filter_member(name: &str) -> Place
+    ensures { result ≡ table.placed table.composite_filter_rows name.now }
+{
+    match name {
+        "filters" => Place::Series(Series::Filters),
+        "op" => Place::Leaf(Leaf::Constant(Constants::Junction)),
+        _ => Place::Unknown,
+    }
+}
+
+/// What `fieldFilter` holds.
+#[tactic(auto, unfolding(crate::specs::Places::field_filter_rows))]
+fn field_filter_member(name: &str) -> Place
+    ensures { result ≡ table.placed table.field_filter_rows name.now }
+{
+    match name {
+        "field" => Place::Object(Object::Field),
+        "op" => Place::Leaf(Leaf::Constant(Constants::Operator)),
+        "value" => Place::Object(Object::Value),
+        _ => Place::Unknown,
+    }
+}
+
+/// A filter of a field whose operand is a list of operands.
+#[tactic(auto, unfolding(crate::specs::Places::list_filter_rows))]
+fn list_filter_member(name: &str) -> Place
+    ensures { result ≡ table.placed table.list_filter_rows name.now }
+{
+    match name {
+        "field" => Place::Object(Object::Field),
+        "op" => Place::Leaf(Leaf::Constant(Constants::Operator)),
+        "value" => Place::Object(Object::ListOperand),
+        _ => Place::Unknown,
+    }
+}
+
+/// What `unaryFilter` holds.
+#[tactic(auto, unfolding(crate::specs::Places::unary_filter_rows))]
+fn unary_filter_member(name: &str) -> Place
+    ensures { result ≡ table.placed table.unary_filter_rows name.now }
+{
+    match name {
+        "field" => Place::Object(Object::Field),
+        "op" => Place::Leaf(Leaf::Constant(Constants::Test)),
+        _ => Place::Unknown,
+    }
+}
+
 /// The place of the member of that name.
 pub fn member_place(object: Object, name: &str) -> Place
     ensures { result ≡ table.member_place object name.now }
@@ -182,6 +324,18 @@ pub fn member_place(object: Object, name: &str) -> Place
         Object::Operand => operand_member(name),
         Object::Elements if name == "values" => Place::Series(Series::Values),
         Object::Documents if name == "documents" => Place::Series(Series::Names),
+        Object::Target => target_member(name),
+        Object::Query => query_member(name),
+        Object::StructuredQuery => structured_query_member(name),
+        Object::Selector => selector_member(name),
+        Object::Order => order_member(name),
+        Object::Cursor => cursor_member(name),
+        Object::Filter => filter_member(name),
+        Object::CompositeFilter => composite_filter_member(name),
+        Object::FieldFilter => field_filter_member(name),
+        Object::ListFilter => list_filter_member(name),
+        Object::UnaryFilter => unary_filter_member(name),
+        Object::Field if name == "fieldPath" => Place::Leaf(Leaf::QueryPath),
         _ => Place::Unknown,
     }
 }
@@ -196,6 +350,9 @@ pub fn item_place(series: Series) -> Place
         Series::Paths => Place::Leaf(Leaf::Path),
         Series::Transforms => Place::Object(Object::Transform),
         Series::Names => Place::Leaf(Leaf::Name),
+        Series::Selectors => Place::Object(Object::Selector),
+        Series::Orders => Place::Object(Object::Order),
+        Series::Filters => Place::Object(Object::Filter),
     }
 }
 
@@ -210,6 +367,14 @@ pub fn required(object: Object) -> &'static [&'static str]
         Object::Transform => &["fieldPath"],
         Object::ArrayTransform => &["fieldPath"],
         Object::Documents => &["documents"],
+        Object::Query => &["parent", "structuredQuery"],
+        Object::Selector => &["collectionId"],
+        Object::Order => &["field"],
+        Object::Field => &["fieldPath"],
+        Object::CompositeFilter => &["op"],
+        Object::FieldFilter => &["field", "op", "value"],
+        Object::ListFilter => &["field", "op", "value"],
+        Object::UnaryFilter => &["field", "op"],
         _ => &[],
     }
 }
@@ -224,7 +389,9 @@ pub fn chooses(object: Object) -> bool
         | Object::Write
         | Object::Condition
         | Object::Transform
-        | Object::Operand => true,
+        | Object::Operand
+        | Object::Target
+        | Object::Filter => true,
         _ => false,
     }
 }
@@ -263,6 +430,8 @@ pub fn is_choice(object: Object, name: &str) -> bool
         Object::Write => is_write_choice(name),
         Object::Condition => !condition_member(name).is_unknown(),
         Object::Transform => is_transform_choice(name),
+        Object::Target => !target_member(name).is_unknown(),
+        Object::Filter => !filter_member(name).is_unknown(),
         _ => false,
     }
 }

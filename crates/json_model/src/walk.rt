@@ -3,7 +3,7 @@
 ghost use Rattle.std.specs.Prelude.{◌≡◌, map, IfOk, IfErr, OnOk, [], codes};
 ghost use Rattle.serde_json.specs.View.{view, items_view, members_view};
 ghost use Rattle.json_model.specs.Ranks.{first_of_least};
-ghost use Rattle.json_model.specs.Faults.{FirstOf, IsFault, FaultsAt, ItemsFaults, MembersFaults, OwnName, Takes, CountsPath, own_faults, own_list_faults, depth_faults};
+ghost use Rattle.json_model.specs.Faults.{FirstOf, IsFault, FaultsAt, ItemsFaults, MembersFaults, OwnName, Takes, CountsPath, levels_inside as levels_inside_of, own_faults, own_list_faults, depth_faults};
 ghost use Rattle.json_model.specs.Members.{given as given_of, lacks_only as lacks_only_of};
 ghost use Rattle.json_model.specs.Places.{required as required_of};
 
@@ -12,6 +12,7 @@ use crate::leaves::{bad_shape_unless, find_flat};
 use crate::members::{given, is_vector_map, lacks_choice, refined};
 use crate::names::{count_names, find_in_field_name};
 use crate::place::{Object, Place, Series};
+use crate::reading::MAX_NESTING;
 use crate::required::{find_missed, find_missing, later};
 use crate::setting::Setting;
 use crate::table::{item_place, member_place, required};
@@ -81,9 +82,19 @@ fn count_levels(alloc: Global, object: Object, members: &Map<String, Json>) -> R
     ensures { IfOk result (λ levels. Takes object (members_view members.now.entries) levels) }
 {
     match object {
-        Object::Array | Object::Map => Ok(1),
+        Object::Array | Object::Map | Object::Filter => Ok(1),
         Object::ArrayTransform => count_path(alloc, members),
         _ => Ok(0),
+    }
+}
+
+/// How many levels are left inside an object that takes up so many. The operand of a filter nests as deep as any value may.
+fn levels_inside(object: Object, limit: u64, levels: u64) -> u64
+    ensures { result ≡ levels_inside_of object limit levels }
+{
+    match object {
+        Object::FieldFilter | Object::ListFilter => MAX_NESTING,
+        _ => limit.saturating_sub(levels),
     }
 }
 
@@ -124,7 +135,7 @@ pub fn find_fault(
             let object = refined(object, members);
             let levels = count_levels(alloc, object, members)?;
             let deep = depth_fault(limit, levels);
-            let inner = limit.saturating_sub(levels);
+            let inner = levels_inside(object, limit, levels);
             let inside = find_in_members(alloc, setting, inner, object, members)?;
             Ok(better(deep, inside))
         }
@@ -188,7 +199,7 @@ fn find_in_members(
     let mut names = required(object);
     for (key, member) in members {
         let name = key.as_str();
-        let missed = find_missed(alloc, names, name, member)?;
+        let missed = find_missed(alloc, object, names, name, member)?;
         first = better(first, missed);
         names = later(names, name);
         let inside = member_place(object, name);
@@ -199,6 +210,6 @@ fn find_in_members(
         let found = find_fault(alloc, setting, limit, inside, name, member)?;
         first = better(first, better(own, found));
     }
-    let last = find_missing(alloc, names)?;
+    let last = find_missing(alloc, object, names)?;
     Ok(better(first, last))
 }

@@ -25,8 +25,8 @@ find_fault-returns-in_ok-inside-in-Object t c = rw c.in-Object-place.is
     (at_object c.args.setting.now c.args.limit c.args.name.now _ _ (members_view c.in-Object.members.entries) c.in-Object-place.object (ap view c.in-Object.is ∙ view-Object c.in-Object.members)
     (or_inside (own_faults c.in-Object-place.object c.args.name.now (members_view c.in-Object.members.entries)) _ _ (sym c.in_default-2.is ∙ c.in_ok-fault-in-Object.ensures)
     (subst (λ kind. FirstOf (InLevels kind (members_view c.in-Object.members.entries) c.args.limit (λ inner. MembersFaults c.args.setting.now inner kind (required kind) (members_view c.in-Object.members.entries))) c.better.result) c.refined-object.ensures
-    (in_levels c.refined-object.result (members_view c.in-Object.members.entries) c.args.limit c.saturating_sub-inner.result c.in_ok-levels-in-Object.levels _ c.depth_fault-deep.result c.in_ok-inside-in-Object.inside c.better.result
-    c.in_ok-levels-in-Object.ensures c.depth_fault-deep.ensures c.saturating_sub-inner.ensures c.in_ok-inside-in-Object.ensures c.better.ensures))))
+    (in_levels c.refined-object.result (members_view c.in-Object.members.entries) c.args.limit c.levels_inside-inner.result c.in_ok-levels-in-Object.levels _ c.depth_fault-deep.result c.in_ok-inside-in-Object.inside c.better.result
+    c.in_ok-levels-in-Object.ensures c.depth_fault-deep.ensures c.levels_inside-inner.ensures c.in_ok-inside-in-Object.ensures c.better.ensures))))
 
 pub find_fault-returns-in_default-place : goal.find_fault-returns-in_default-place
 find_fault-returns-in_default-place t c =
