@@ -8,7 +8,7 @@ import tempfile
 from client import ROOT
 
 
-def built_output(name, libraries, source, keep=False):
+def built_output(name, libraries, source, keep=False, seconds=60):
     """What a program of this name and text prints, over these libraries; where it isn't built, what was said of it ends the script."""
     folder = tempfile.mkdtemp(prefix="bench-%s-" % name)
     try:
@@ -22,7 +22,8 @@ def built_output(name, libraries, source, keep=False):
         os.makedirs(os.path.join(crate, "src"))
         with open(os.path.join(crate, "src", "main.rt"), "w", encoding="utf-8") as out:
             out.write(source)
-        run = subprocess.run(["rt", "try"], cwd=crate, capture_output=True, text=True, check=False)
+        words = ["rt", "try", "--seconds", str(seconds)]
+        run = subprocess.run(words, cwd=crate, capture_output=True, text=True, check=False)
         if run.returncode:
             sys.exit("the program was not built:\n" + run.stdout[-2000:] + run.stderr[-2000:])
         return run.stdout

@@ -3,13 +3,11 @@
 //! It has tests and nothing else. They stand apart since a crate with tests is proved twice, so `document_keys`,
 //! `value_model`, `mutations`, `json_model`, `json_rpc`, `record_codec` and `queries` have none, and are tried through what they
 //! export. A module for each of them, cut where one grew long: `names`, `times`, `order`, `fields`, `messages`, `stores`,
-//! `writes`, `effects`, `matching`, `paths`, `records`, `requests`, `trees`. What several need to make a value stands in
+//! `writes`, `matching`, `paths`, `records`, `requests`, `trees`. What several need to make a value stands in
 //! `fixtures`.
 //! A test function owns one value, and hands it on by reference.
 #![tactic(auto)]
 
-#[cfg(test)]
-mod effects;
 #[cfg(test)]
 mod fields;
 #[cfg(test)]

@@ -1,4 +1,5 @@
--- The lines that are written, as values and as bytes: compact JSON, members in the order of their names, each line with its newline.
+-- The lines that are written, as values and as bytes: compact JSON, members in the order of their
+-- names, each line with its newline.
 use Rattle.std.specs.Prelude.{ℕ, true, false, List, [], ◌∷◌, ◌++◌, codes, Option, Some, None}
 use Rattle.std.specs.List.{flat_map}
 use Rattle.serde_json.specs.Data.{Data, boolean, number, unsigned, string, object, member}
@@ -22,37 +23,44 @@ count n = number (unsigned n)
 
 -- `{"ok":{"batch":B,"commit":N}}`
 abbrev pub ok_tree : ℕ → ℕ → Data
-ok_tree batch commit = one (codes "ok") (two (codes "batch") (count batch) (codes "commit") (count commit))
+ok_tree batch commit =
+    one (codes "ok") (two (codes "batch") (count batch) (codes "commit") (count commit))
 
 abbrev pub too_long_tree : ℕ → Data
 too_long_tree line =
     one (codes "refused")
-    (three (codes "cause") (string (codes "LineTooLong")) (codes "line") (count line) (codes "number") (count 11))
+    (three (codes "cause") (string (codes "LineTooLong"))
+    (codes "line") (count line) (codes "number") (count 11))
 
 abbrev pub bad_line_tree : ℕ → List ℕ → Data
 bad_line_tree line name =
     one (codes "refused")
-    (four (codes "cause") (string (codes "BadLine")) (codes "line") (count line) (codes "member") (string name) (codes "number") (count 1))
+    (four (codes "cause") (string (codes "BadLine"))
+    (codes "line") (count line) (codes "member") (string name) (codes "number") (count 1))
 
 abbrev pub too_deep_tree : ℕ → Data
 too_deep_tree line =
     one (codes "refused")
-    (three (codes "cause") (string (codes "TooDeep")) (codes "line") (count line) (codes "number") (count 4))
+    (three (codes "cause") (string (codes "TooDeep"))
+    (codes "line") (count line) (codes "number") (count 4))
 
 abbrev pub unsupported_tree : ℕ → List ℕ → Data
 unsupported_tree line name =
     one (codes "refused")
-    (four (codes "cause") (string (codes "Unsupported")) (codes "line") (count line) (codes "member") (string name) (codes "number") (count 3))
+    (four (codes "cause") (string (codes "Unsupported"))
+    (codes "line") (count line) (codes "member") (string name) (codes "number") (count 3))
 
 abbrev pub ids_spent_tree : ℕ → Data
 ids_spent_tree line =
     one (codes "refused")
-    (three (codes "cause") (string (codes "IdsSpent")) (codes "line") (count line) (codes "number") (count 12))
+    (three (codes "cause") (string (codes "IdsSpent"))
+    (codes "line") (count line) (codes "number") (count 12))
 
 abbrev pub bad_writes_tree : ℕ → ℕ → Data
 bad_writes_tree line writes =
     one (codes "refused")
-    (four (codes "cause") (string (codes "BadWrites")) (codes "count") (count writes) (codes "line") (count line) (codes "number") (count 5))
+    (four (codes "cause") (string (codes "BadWrites")) (codes "count") (count writes)
+    (codes "line") (count line) (codes "number") (count 5))
 
 -- how the fault of a name is printed
 abbrev pub naming_text : NamingFault → List ℕ
@@ -65,7 +73,8 @@ naming_text ReservedField = codes "ReservedField"
 abbrev pub bad_name_tree : ℕ → List ℕ → List ℕ → Data
 bad_name_tree line why name =
     one (codes "refused")
-    (five (codes "cause") (string (codes "BadName")) (codes "fault") (string why) (codes "line") (count line) (codes "name") (string name) (codes "number") (count 2))
+    (five (codes "cause") (string (codes "BadName")) (codes "fault") (string why)
+    (codes "line") (count line) (codes "name") (string name) (codes "number") (count 2))
 
 -- what a refusal prints at this line of the run, from 1
 abbrev pub refused_tree : ℕ → Refusal → Data
@@ -80,7 +89,9 @@ refused_tree line (BadName bad) = bad_name_tree line (naming_text bad.fault) bad
 -- a document that isn't there
 abbrev pub missing_tree : List ℕ → List ℕ → Data
 missing_tree name how =
-    one (codes "document") (three (codes "exists") (boolean false) (codes "name") (string name) (codes "state") (string how))
+    one (codes "document")
+    (three (codes "exists") (boolean false) (codes "name") (string name)
+    (codes "state") (string how))
 
 -- `exists`, before the members of a document
 abbrev pub existing : Data → Data
@@ -89,14 +100,16 @@ existing d = d
 
 -- a document that is there
 abbrev pub found_tree : List ℕ → Document → List ℕ → Data
-found_tree name found how = one (codes "document") (existing (body_tree name found.fields found.update_time how))
+found_tree name found how =
+    one (codes "document") (existing (body_tree name found.fields found.update_time how))
 
 -- `{"document":{..}}`: `fields` and `updateTime` stand only where the document exists and has some
 abbrev pub document_tree : Root → List (List ℕ) → Option Document → DocState → Data
 document_tree root key None how = missing_tree (name_text root key) (state_text how)
 document_tree root key (Some found) how = found_tree (name_text root key) found (state_text how)
 
--- A line that a turn writes, as a value: the batch and the commit of a write, or the document of a key as it then stands.
+-- A line that a turn writes, as a value: the batch and the commit of a write, or the document of a
+-- key as it then stands.
 pub data Out : Type 0 where
   wrote : ℕ → ℕ → Out
   document : List (List ℕ) → Option Document → DocState → Out

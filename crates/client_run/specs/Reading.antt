@@ -53,13 +53,19 @@ abbrev pub counted : Event → Option ℕ → Reading
 counted e None = Line e
 counted e (Some count) = Refused (BadWrites count)
 
--- An item has one of these readings: it is too long, it is no JSON, it is JSON with faults, of which the first of the least kind
--- is answered, or it is JSON without faults and spells an event, which is refused where it has none or too many writes.
+-- An item has one of these readings: it is too long, it is no JSON, it is JSON with faults, of
+-- which the first of the least kind is answered, or it is JSON without faults and spells an event,
+-- which is refused where it has none or too many writes.
 pub data Reads (root : Root) : Item → Reading → Type 0 where
   too_long : Reads root Overlong (Refused LineTooLong)
-  no_json : (text : List ℕ) → ((d : Data) → IsJson text d → ⊥) → Reads root (Bytes text) (Refused (BadLine []))
-  a_fault : (text : List ℕ) (d : Data) (fault : JsonFault) (refusal : Refusal) → IsJson text d → FirstOf (LineFaults root d) (Some fault) → refusal_of fault ≡ Some refusal → Reads root (Bytes text) (Refused refusal)
-  an_event : (text : List ℕ) (d : Data) (e : Event) (reading : Reading) → IsJson text d → LineFaults root d [] → Spells root d e → reading ≡ counted e (bad_count e) → Reads root (Bytes text) reading
+  no_json : (text : List ℕ) → ((d : Data) → IsJson text d → ⊥)
+      → Reads root (Bytes text) (Refused (BadLine []))
+  a_fault : (text : List ℕ) (d : Data) (fault : JsonFault) (refusal : Refusal) → IsJson text d
+      → FirstOf (LineFaults root d) (Some fault) → refusal_of fault ≡ Some refusal
+      → Reads root (Bytes text) (Refused refusal)
+  an_event : (text : List ℕ) (d : Data) (e : Event) (reading : Reading) → IsJson text d
+      → LineFaults root d [] → Spells root d e → reading ≡ counted e (bad_count e)
+      → Reads root (Bytes text) reading
 
 -- what the first items are, one reading for each
 abbrev pub AreRead : Root → List Item → List Reading → Type 0

@@ -15,9 +15,11 @@ use Rattle.client_run.specs.declared.reading.Reading.{Reading}
 -- the whole lines of a text without their newlines, where `line` is what the first one begins with
 abbrev pub lines_on : List ℕ → List ℕ → List (List ℕ)
 lines_on line [] = []
-lines_on line (byte ∷ rest) = if byte == 10 then line ∷ lines_on [] rest else lines_on (line ++ byte ∷ []) rest
+lines_on line (byte ∷ rest) =
+    if byte == 10 then line ∷ lines_on [] rest else lines_on (line ++ byte ∷ []) rest
 
--- The whole lines of a text: what stands before each newline. What stands behind the last one is no whole line.
+-- The whole lines of a text: what stands before each newline. What stands behind the last one is no
+-- whole line.
 abbrev pub whole_lines : List ℕ → List (List ℕ)
 whole_lines text = lines_on [] text
 
@@ -48,7 +50,8 @@ pub record Reports (line : List ℕ) (reported : ℕ) : Type 0 where
 abbrev pub ReportsWithin : ℕ → List ℕ → Type 0
 ReportsWithin most line = (reported : ℕ) → Reports line reported → reported ≤ most
 
--- No whole line of the text reports a number above this one: it is at least the greatest that one reports.
+-- No whole line of the text reports a number above this one: it is at least the greatest that one
+-- reports.
 abbrev pub ReportedWithin : ℕ → List ℕ → Type 0
 ReportedWithin most text = All (ReportsWithin most) (whole_lines text)
 
@@ -57,13 +60,16 @@ abbrev pub ALineReportsOnce : Type 0
 ALineReportsOnce = (line : List ℕ) (a b : ℕ) (first : Reports line a) (second : Reports line b)
     → first.name ≡ second.name → a ≡ b
 
--- No whole line that a turn writes reports a number above that of the state after its commit, for numbers that a store
--- can have.
+-- No whole line that a turn writes reports a number above that of the state after its commit, for
+-- numbers that a store can have.
 abbrev pub ATurnReportsWithin : Type 0
 ATurnReportsWithin = (root : Root) (s : State) (past : Past) (reading : Reading) (number : ℕ)
-    → s.number ≤ most_commits → s.next_batch ≤ s.number + 1 → number < 2 ^ 64 → HasCounts reading
-    → ReportedWithin (after s (turn root s past reading).commit).number (printed root number (turn root s past reading))
+    → s.number ≤ most_commits → s.next_batch ≤ s.number + 1 → number < 2 ^ 64
+    → HasCounts reading
+    → ReportedWithin (after s (turn root s past reading).commit).number
+    (printed root number (turn root s past reading))
 
 -- the printed answer of a write reports its commit
 abbrev pub OkReports : Type 0
-OkReports = (batch n : ℕ) → batch < 2 ^ 64 → n < 2 ^ 64 → Reports (compact_text (ok_tree batch n)) n
+OkReports = (batch n : ℕ) → batch < 2 ^ 64 → n < 2 ^ 64
+    → Reports (compact_text (ok_tree batch n)) n

@@ -13,8 +13,11 @@ two first d second e = object (member first d (member second e no_members))
 abbrev pub three : List ℕ → Data → List ℕ → Data → List ℕ → Data → Data
 three a x b y c z = object (member a x (member b y (member c z no_members)))
 
-abbrev pub four : List ℕ → Data → List ℕ → Data → List ℕ → Data → List ℕ → Data → Data
+abbrev pub four : List ℕ → Data → List ℕ → Data → List ℕ → Data
+    → List ℕ → Data → Data
 four a x b y c z d w = object (member a x (member b y (member c z (member d w no_members))))
 
-abbrev pub five : List ℕ → Data → List ℕ → Data → List ℕ → Data → List ℕ → Data → List ℕ → Data → Data
-five a x b y c z d w e v = object (member a x (member b y (member c z (member d w (member e v no_members)))))
+abbrev pub five : List ℕ → Data → List ℕ → Data → List ℕ → Data → List ℕ → Data
+    → List ℕ → Data → Data
+five a x b y c z d w e v =
+    object (member a x (member b y (member c z (member d w (member e v no_members)))))

@@ -1,5 +1,5 @@
--- What one line of input does: why it is refused, at most one commit, and the lines that answer it; and the run of a list of
--- lines.
+-- What one line of input does: why it is refused, at most one commit, and the lines that answer it;
+-- and the run of a list of lines.
 use Rattle.std.specs.Prelude.{ℕ, ◌+◌, List, [], ◌∷◌, ◌++◌, length, fold, Option, Some, None, is_none, nat_lt, if◌then◌else◌}
 use Rattle.document_keys.specs.Names.{Root}
 use Rattle.value_model.specs.declared.timestamp.Timestamp.{Timestamp}
@@ -45,14 +45,16 @@ commits commit lines = record { refusal = None; commit = Some commit; lines = li
 abbrev pub enqueued : State → Timestamp → List Write → Turn
 enqueued s at writes =
     if nat_lt s.number most_commits
-    then commits (Enqueue (record { id = s.next_batch; at = at; writes = writes })) (wrote s.next_batch (s.number + 1) ∷ [])
+    then commits (Enqueue (record { id = s.next_batch; at = at; writes = writes }))
+    (wrote s.next_batch (s.number + 1) ∷ [])
     else refused IdsSpent
 
 -- The turn of one line, from the state before it and the lines that the client has heard.
 unfoldable pub turn : Root → State → Past → Reading → Turn
 turn root s past (Refused refusal) = refused refusal
 turn root s past (Line (event.Write at writes)) = enqueued s at writes
-turn root s past (Line (event.Get key)) = answered (document key (document_of s key) (standing_of s key) ∷ [])
+turn root s past (Line (event.Get key)) =
+    answered (document key (document_of s key) (standing_of s key) ∷ [])
 
 -- what a turn writes, where this is the line's number
 abbrev pub printed : Root → ℕ → Turn → List ℕ
@@ -91,7 +93,8 @@ one_more root first past reading = record {
 -- the lines one after another
 abbrev pub run : Root → State → Past → List Reading → Past
 run root first past [] = past
-run root first past (reading ∷ readings) = run root first (one_more root first past reading) readings
+run root first past (reading ∷ readings) =
+    run root first (one_more root first past reading) readings
 
 -- what is written, in order; lines are numbered from 1
 abbrev pub output_of : Root → Past → List ℕ

@@ -22,8 +22,8 @@ use Rattle.client_run.specs.declared.turn_fault.TurnFault.TheVariants as fault
 use Rattle.client_run.specs.declared.status.Status.{Status}
 use Rattle.client_run.specs.declared.status.Status.TheVariants as status
 
--- The client stands for this state and for these lines, which it has heard. Each thing that it keeps beside the state is to
--- be a field here, read off the lines.
+-- The client stands for this state and for these lines, which it has heard. Each thing that it
+-- keeps beside the state is to be a field here, read off the lines.
 pub record StandsFor (store : Store) (s : State) (past : Past) : Type 0 where
   pub state : store.state ≡ s
 
@@ -32,7 +32,8 @@ abbrev pub state_then : Root → State → Past → Reading → State
 state_then root s past reading = after s (turn root s past reading).commit
 
 abbrev pub heard_then : Root → State → Past → Reading → Past
-heard_then root s past reading = and_heard (record { state = s; reading = reading; turn = turn root s past reading }) past
+heard_then root s past reading =
+    and_heard (record { state = s; reading = reading; turn = turn root s past reading }) past
 
 -- a line as the state shows it
 abbrev pub shown : State → Handed → Out
@@ -45,14 +46,17 @@ IsOutcome (Done outs) s t = (t.refusal ≡ None) × (t.lines ≡ map (shown s) o
 IsOutcome (Refuses refusal) s t = (t.refusal ≡ Some refusal) × (t.lines ≡ [])
 
 -- What was handed out for a line: what the client then stands for, and the lines of the turn.
-pub record HandsOut (root : Root) (s : State) (past : Past) (reading : Reading) (taken : Taken) : Type 0 where
-  pub stands : StandsFor taken.store (state_then root s past reading) (heard_then root s past reading)
+pub record HandsOut (root : Root) (s : State) (past : Past) (reading : Reading) (taken : Taken)
+    : Type 0 where
+  pub stands : StandsFor taken.store (state_then root s past reading)
+      (heard_then root s past reading)
   pub outcome : IsOutcome taken.outcome taken.store.state (turn root s past reading)
 
--- During a turn a crash finds the state from before it at the output from before it, or the state after its commit at the
--- output with a part of its lines.
+-- During a turn a crash finds the state from before it at the output from before it, or the state
+-- after its commit at the output with a part of its lines.
 abbrev pub InTurn : State → State → List ℕ → List ℕ → List ℕ → Files → Type 0
-InTurn from to piece out o files = ((o ≡ out) × FindsState files from) ⊎ (IsPart piece out o × FindsState files to)
+InTurn from to piece out o files =
+    ((o ≡ out) × FindsState files from) ⊎ (IsPart piece out o × FindsState files to)
 
 pub record Turned (from to : State) (piece : List ℕ) (old new : View) : Type 0 where
   pub crash : (c : Files) → new.may_leave c → FindsState c from ⊎ FindsState c to

@@ -11,7 +11,8 @@ pub record IsFolder (folder : List ℕ) : Type 0 where
 abbrev pub default_root : Root
 default_root = record { project = codes "demo"; name = codes "(default)" }
 
--- the words behind the folder name this database: none the one above, and one the database of that name
+-- the words behind the folder name this database: none the one above, and one the database of that
+-- name
 abbrev pub NamesRoot : List (List ℕ) → Root → Type 0
 NamesRoot [] root = root ≡ default_root
 NamesRoot (text ∷ []) root = IsRoot root × (text ≡ root_text root)

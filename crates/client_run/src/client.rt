@@ -34,26 +34,33 @@ pub fn run_client<S: Source, H: Host>(
     host: &mut H,
 ) -> Status
     ensures usage { result ≡ Status.Usage → AsksNothing (map string_bytes words.now) }
-    ensures no_run { AsksNothing (map string_bytes words.now) → (result ≡ Status.Usage) ⊎ (result ≡ Status.NoMemory) }
-    ensures untouched { AsksNothing (map string_bytes words.now) → (source.new ≡ source.old) × (host.new ≡ host.old) }
-    ensures run { IsTrue S.tells → IsTrue H.tells_files → (root : Root) → AsksRun (map string_bytes words.now) root
+    ensures no_run { AsksNothing (map string_bytes words.now)
+        → (result ≡ Status.Usage) ⊎ (result ≡ Status.NoMemory) }
+    ensures untouched { AsksNothing (map string_bytes words.now)
+        → (source.new ≡ source.old) × (host.new ≡ host.old) }
+    ensures run { IsTrue S.tells → IsTrue H.tells_files → (root : Root)
+        → AsksRun (map string_bytes words.now) root
         → (s : State) → FindsState (H.view host.old).bytes s
         → Ran (called root (S.left source.old) s 4294967296 H.tells_out (H.view host.old).out)
         result (S.left source.new) (H.view host.old) (H.view host.new) }
-    ensures kept { IsTrue S.tells → IsTrue H.tells_files → (root : Root) → AsksRun (map string_bytes words.now) root
+    ensures kept { IsTrue S.tells → IsTrue H.tells_files → (root : Root)
+        → AsksRun (map string_bytes words.now) root
         → (s : State) → FindsState (H.view host.old).bytes s
         → Kept result (called root (S.left source.old) s 4294967296 H.tells_out (H.view host.old).out)
         (H.view host.new).bytes }
-    ensures not_a_store { result ≡ Status.NotAStore → IsForeign H.tells_files (H.view host.old) (H.view host.new) }
+    ensures not_a_store { result ≡ Status.NotAStore
+        → IsForeign H.tells_files (H.view host.old) (H.view host.new) }
     ensures no_store { IsTrue H.tells_files → (root : Root) → AsksRun (map string_bytes words.now) root
         → IsNoStore (H.view host.old).bytes → LeavesForeign result (H.view host.old) (H.view host.new) }
     ensures untaken { IsTrue H.tells_files → IsNoStore (H.view host.old).bytes → source.new ≡ source.old }
     ensures never_kept { IsTrue H.tells_files → Keeps (H.view host.old) → result ≢ Status.NotAStore }
     ensures keeps { IsTrue H.tells_files → Keeps (H.view host.old) → Keeps (H.view host.new) }
-    ensures completes { IsTrue S.tells → IsTrue H.tells_files → (root : Root) → AsksRun (map string_bytes words.now) root
+    ensures completes { IsTrue S.tells → IsTrue H.tells_files → (root : Root)
+        → AsksRun (map string_bytes words.now) root
         → Completes (split (S.left source.old)) 4294967296 result (S.faults source.old) (S.faults source.new)
         (H.view host.old) (H.view host.new) }
-    ensures cause { Causes result (S.faults source.old) (S.faults source.new) (H.view host.old) (H.view host.new) }
+    ensures cause { Causes result (S.faults source.old) (S.faults source.new)
+        (H.view host.old) (H.view host.new) }
 {
     let Ok(asked) = asked_database(alloc, words) else {
         return Status::NoMemory;

@@ -46,7 +46,8 @@ fn counted(event: Event) -> Reading
 
 /// What a line of this tree is.
 fn read_tree(alloc: Global, root: &Database, json: &Json) -> Result<Reading, NoMemory>
-    ensures is { IfOk result (λ reading. (text : List ℕ) → IsJson text (view json.now) → Reads root.now (Bytes text) reading) }
+    ensures is { IfOk result (λ reading. (text : List ℕ) → IsJson text (view json.now)
+        → Reads root.now (Bytes text) reading) }
     ensures storable { IfOk result IsStorableReading }
 {
     match read_event(alloc, root, json) {

@@ -129,7 +129,8 @@ fn document_json(alloc: Global, members: Json) -> Result<Json, AllocError>
 
 /// The members of a document that is there.
 fn existing_json(alloc: Global, root: &Database, doc: DocRef<'_>) -> Result<Json, NoMemory>
-    ensures tree { IfOk result (λ json. view json ≡ existing (printed_document root.now doc.entry.key.now doc.entry.fields.now doc.entry.update_time doc.entry.state)) }
+    ensures tree { IfOk result (λ json. view json ≡ existing
+        (printed_document root.now doc.entry.key.now doc.entry.fields.now doc.entry.update_time doc.entry.state)) }
     ensures digits { IfOk result (λ json. has_float (view json) ≡ false) }
 {
     let Json::Object(mut members) = print_members(alloc, root, doc)? else {
@@ -167,7 +168,8 @@ fn print_out(
     store: &LocalStore,
     out: &Out,
 ) -> Result<String, NoMemory>
-    ensures { IfOk result (λ line. string_bytes line ≡ line_of (tree_of root.now (shown store.now.state out.now))) }
+    ensures { IfOk result (λ line. string_bytes line
+        ≡ line_of (tree_of root.now (shown store.now.state out.now))) }
 {
     match out {
         Out::Wrote { batch, commit } => print_ok(alloc, *batch, *commit),
@@ -182,7 +184,8 @@ fn print_lines(
     store: &LocalStore,
     outs: &[Out],
 ) -> Result<String, NoMemory>
-    ensures { IfOk result (λ text. string_bytes text ≡ text_of root.now (map (shown store.now.state) outs.now)) }
+    ensures { IfOk result (λ text. string_bytes text
+        ≡ text_of root.now (map (shown store.now.state) outs.now)) }
 {
     let mut text = String::new(alloc);
     for out in outs {

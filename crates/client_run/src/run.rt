@@ -38,7 +38,8 @@ fn serve<S: Source, H: Host>(
         (H.view host.new).bytes }
     ensures keeps { IsTrue H.tells_files → Keeps (H.view host.new) }
     ensures serving { IsServed result }
-    ensures cause { Causes result (S.faults source.old) (S.faults source.new) (H.view host.old) (H.view host.new) }
+    ensures cause { Causes result (S.faults source.old) (S.faults source.new)
+        (H.view host.old) (H.view host.new) }
 {
     let mut store = store;
     let mut text = Vec::new(alloc);
@@ -82,10 +83,12 @@ pub fn run_within<S: Source, H: Host>(
     ensures run { IsTrue S.tells → IsTrue H.tells_files → (s : State) → FindsState (H.view host.old).bytes s
         → Ran (called root (S.left source.old) s budget H.tells_out (H.view host.old).out)
         result (S.left source.new) (H.view host.old) (H.view host.new) }
-    ensures kept { IsTrue S.tells → IsTrue H.tells_files → (s : State) → FindsState (H.view host.old).bytes s
+    ensures kept { IsTrue S.tells → IsTrue H.tells_files → (s : State)
+        → FindsState (H.view host.old).bytes s
         → Kept result (called root (S.left source.old) s budget H.tells_out (H.view host.old).out)
         (H.view host.new).bytes }
-    ensures not_a_store { result ≡ Status.NotAStore → IsForeign H.tells_files (H.view host.old) (H.view host.new) }
+    ensures not_a_store { result ≡ Status.NotAStore
+        → IsForeign H.tells_files (H.view host.old) (H.view host.new) }
     ensures no_store { IsTrue H.tells_files → IsNoStore (H.view host.old).bytes
         → LeavesForeign result (H.view host.old) (H.view host.new) }
     ensures untaken { IsTrue H.tells_files → IsNoStore (H.view host.old).bytes → source.new ≡ source.old }
@@ -95,7 +98,8 @@ pub fn run_within<S: Source, H: Host>(
         → Completes (split (S.left source.old)) budget result (S.faults source.old) (S.faults source.new)
         (H.view host.old) (H.view host.new) }
     ensures words { result ≢ Status.Usage }
-    ensures cause { Causes result (S.faults source.old) (S.faults source.new) (H.view host.old) (H.view host.new) }
+    ensures cause { Causes result (S.faults source.old) (S.faults source.new)
+        (H.view host.old) (H.view host.new) }
 {
     let store = match LocalStore::open(alloc, host) {
         Ok(store) => store,

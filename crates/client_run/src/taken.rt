@@ -64,7 +64,8 @@ fn enqueue<H: Host>(
     ensures state { IfOk result (λ next. next.state ≡ committed store.state (Enqueue batch)) }
     ensures whole { IfOk result (λ next. ¬ (IsSpent next)) }
     ensures stored { IfOk result (λ next. IsTrue H.tells_files → IsStored next (H.view host.new)) }
-    ensures files { IsTrue H.tells_files → Moves store.state (committed store.state (Enqueue batch)) (H.view host.old) (H.view host.new) }
+    ensures files { IsTrue H.tells_files → Moves store.state (committed store.state (Enqueue batch))
+        (H.view host.old) (H.view host.new) }
     ensures out { KeepsOut (H.view host.old) (H.view host.new) }
     ensures counts { RisesAt (IsErrOf result CommitFault.DiskFault)
         (H.view host.old).disk_faults (H.view host.new).disk_faults }

@@ -37,7 +37,8 @@ fn build_writes(
     members: &Map<String, Json>,
 ) -> Result<Writes, NoMemory>
     requires { AreClean setting.now objects.WriteLine (members_view members.now.entries) }
-    ensures writes { IfOk result (λ writes. SpellsEach (SpellsWrite setting.now.root) (given (codes "writes") (members_view members.now.entries)) writes) }
+    ensures writes { IfOk result (λ writes. SpellsEach (SpellsWrite setting.now.root)
+        (given (codes "writes") (members_view members.now.entries)) writes) }
     ensures storable { IfOk result (λ writes. All IsStorableWrite writes) }
 {
     let Some(list) = clean_member(setting, Object::WriteLine, members, "writes") else {
@@ -51,7 +52,8 @@ fn build_writes(
 #[tactic(auto, unfolding(json_model::specs::Places::write_line_rows))]
 fn build_time(setting: &Setting<'_>, members: &Map<String, Json>) -> Timestamp
     requires { AreClean setting.now objects.WriteLine (members_view members.now.entries) }
-    ensures time { IsGiven (given (codes "at") (members_view members.now.entries)) (λ d. SpellsTime d result) }
+    ensures time { IsGiven (given (codes "at") (members_view members.now.entries))
+        (λ d. SpellsTime d result) }
     ensures moment { IsMoment result }
 {
     match clean_member(setting, Object::WriteLine, members, "at") {
@@ -63,7 +65,8 @@ fn build_time(setting: &Setting<'_>, members: &Map<String, Json>) -> Timestamp
 /// What `write` holds.
 fn build_write_line(alloc: Global, setting: &Setting<'_>, json: &Json) -> Result<Event, NoMemory>
     requires { IsClean setting.now (places.Object objects.WriteLine) (view json.now) }
-    ensures event { IfOk result (λ event. SpellsNamed (places.Object objects.WriteLine) setting.now.root (view json.now) event) }
+    ensures event { IfOk result (λ event. SpellsNamed (places.Object objects.WriteLine)
+        setting.now.root (view json.now) event) }
     ensures storable { IfOk result HoldsStorable }
 {
     let members = clean_object(setting, Object::WriteLine, json);
@@ -76,7 +79,8 @@ fn build_write_line(alloc: Global, setting: &Setting<'_>, json: &Json) -> Result
 #[tactic(auto, unfolding(json_model::specs::Places::get_line_rows))]
 fn build_get_line(alloc: Global, setting: &Setting<'_>, json: &Json) -> Result<Event, NoMemory>
     requires { IsClean setting.now (places.Object objects.GetLine) (view json.now) }
-    ensures event { IfOk result (λ event. SpellsNamed (places.Object objects.GetLine) setting.now.root (view json.now) event) }
+    ensures event { IfOk result (λ event. SpellsNamed (places.Object objects.GetLine)
+        setting.now.root (view json.now) event) }
     ensures storable { IfOk result HoldsStorable }
 {
     let members = clean_object(setting, Object::GetLine, json);
@@ -95,7 +99,8 @@ fn build_line(
 ) -> Result<Event, NoMemory>
     requires line { is_line (places.Object object) ≡ true }
     requires clean { IsClean setting.now (places.Object object) (view json.now) }
-    ensures event { IfOk result (λ event. SpellsNamed (places.Object object) setting.now.root (view json.now) event) }
+    ensures event { IfOk result (λ event. SpellsNamed (places.Object object) setting.now.root
+        (view json.now) event) }
     ensures storable { IfOk result HoldsStorable }
 {
     match object {

@@ -42,7 +42,9 @@ fn default_database(alloc: Global) -> Result<Database, NoMemory>
 
 /// The database of that name, if it is the name of one.
 fn named_database(alloc: Global, text: &str) -> Result<Option<Database>, NoMemory>
-    ensures { IfOk result (λ found. MatchOption found ((root : Root) → ¬ (IsRoot root × (text.now ≡ root_text root))) (λ root. IsRoot root × (text.now ≡ root_text root))) }
+    ensures { IfOk result (λ found. MatchOption found
+        ((root : Root) → ¬ (IsRoot root × (text.now ≡ root_text root)))
+        (λ root. IsRoot root × (text.now ≡ root_text root))) }
 {
     match Database::read(alloc, text) {
         Ok(database) => Ok(Some(database)),
@@ -55,7 +57,8 @@ fn named_database(alloc: Global, text: &str) -> Result<Option<Database>, NoMemor
 
 /// The words, where there are two.
 fn two_words(words: &[String]) -> Option<(&str, &str)>
-    ensures { MatchOption result (length words.now ≢ 2) (λ two. map string_bytes words.now ≡ two.0.now ∷ two.1.now ∷ []) }
+    ensures { MatchOption result (length words.now ≢ 2)
+        (λ two. map string_bytes words.now ≡ two.0.now ∷ two.1.now ∷ []) }
 {
     let [first, second] = words else {
         return None;
@@ -65,7 +68,8 @@ fn two_words(words: &[String]) -> Option<(&str, &str)>
 
 /// The words, where there are three.
 fn three_words(words: &[String]) -> Option<(&str, &str, &str)>
-    ensures { MatchOption result (length words.now ≢ 3) (λ three. map string_bytes words.now ≡ three.0.now ∷ three.1.now ∷ three.2.now ∷ []) }
+    ensures { MatchOption result (length words.now ≢ 3)
+        (λ three. map string_bytes words.now ≡ three.0.now ∷ three.1.now ∷ three.2.now ∷ []) }
 {
     let [first, second, third] = words else {
         return None;
@@ -79,7 +83,9 @@ fn three_words(words: &[String]) -> Option<(&str, &str, &str)>
 /// # Errors
 /// `NoMemory`
 pub fn asked_database(alloc: Global, words: &[String]) -> Result<Option<Database>, NoMemory>
-    ensures { IfOk result (λ found. MatchOption found ((root : Root) → ¬ (AsksRun (map string_bytes words.now) root)) (λ root. AsksRun (map string_bytes words.now) root)) }
+    ensures { IfOk result (λ found. MatchOption found
+        ((root : Root) → ¬ (AsksRun (map string_bytes words.now) root))
+        (λ root. AsksRun (map string_bytes words.now) root)) }
 {
     if let Some((command, folder)) = two_words(words) {
         if !begin_run(command, folder) {

@@ -30,12 +30,16 @@ standing_of s key = if is_named s key then stands.Pending else stands.Unknown
 
 -- a document as it stands in the store
 abbrev pub stored : State → List (List ℕ) → Document → Stored
-stored s key document = record { fields = document.fields; update_time = document.update_time; state = standing_of s key }
+stored s key document =
+    record { fields = document.fields; update_time = document.update_time; state = standing_of s key }
 
 -- the documents of the keys that pending writes name
 unfoldable pub documents_of : State → DocumentMap
-documents_of s = map.from_entries (filter_map (λ key. option_map (λ d. (key, stored s key d)) (document_of s key)) (named_keys s.batches))
+documents_of s = map.from_entries (filter_map
+    (λ key. option_map (λ d. (key, stored s key d)) (document_of s key))
+    (named_keys s.batches))
 
 -- these are all local documents that there are
 abbrev pub DocumentsAreLocal : Type 0
-DocumentsAreLocal = (s : State) (key : List (List ℕ)) → map.get (documents_of s) key ≡ option_map (stored s key) (document_of s key)
+DocumentsAreLocal = (s : State) (key : List (List ℕ))
+    → map.get (documents_of s) key ≡ option_map (stored s key) (document_of s key)

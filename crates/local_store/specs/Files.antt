@@ -16,10 +16,11 @@ pub record FindsState (files : Files) (s : State) : Type 0 where
 
 -- two files find at most one state
 abbrev pub TwoFilesFindOnce : Type 0
-TwoFilesFindOnce = (files : Files) (a b : State) → FindsState files a → FindsState files b → a ≡ b
+TwoFilesFindOnce = (files : Files) (a b : State)
+    → FindsState files a → FindsState files b → a ≡ b
 
--- From one state to another: what a crash now or at any moment of the call may have left finds the one or the other, and the
--- output stood as it did.
+-- From one state to another: what a crash now or at any moment of the call may have left finds the
+-- one or the other, and the output stood as it did.
 pub record Moves (from to : State) (old new : View) : Type 0 where
   pub crash : (c : Files) → new.may_leave c → FindsState c from ⊎ FindsState c to
   pub time : Spans old new (λ o c. (o ≡ old.out) × (FindsState c from ⊎ FindsState c to))
@@ -28,8 +29,8 @@ pub record Moves (from to : State) (old new : View) : Type 0 where
 abbrev pub IsNoStore : Files → Type 0
 IsNoStore files = (s : State) → FindsState files s → ⊥
 
--- Why two files are no store. This one is the first that is neither blank nor in the grammar; or each is one of these, this
--- one counts, and its payloads lead to no state.
+-- Why two files are no store. This one is the first that is neither blank nor in the grammar; or
+-- each is one of these, this one counts, and its payloads lead to no state.
 pub data IsRefused (file : FileId) (files : Files) : Type 0 where
   foreign : IsFirstForeign file files → IsRefused file files
   no_commits : ((each : FileId) → ¬ IsForeign (files each)) → GoesOn files file
@@ -38,7 +39,8 @@ pub data IsRefused (file : FileId) (files : Files) : Type 0 where
 
 -- files that are refused are no store
 abbrev pub RefusedFilesAreNoStore : Type 0
-RefusedFilesAreNoStore = (file : FileId) (files : Files) → IsRefused file files → IsNoStore files
+RefusedFilesAreNoStore = (file : FileId) (files : Files)
+    → IsRefused file files → IsNoStore files
 
 -- a refusal of the files has its cause in them, and changes nothing of them
 abbrev pub Refuses : OpenFault → View → View → Type 0

@@ -47,9 +47,11 @@ committed s commit = record (effect s commit) { number = s.number + 1 }
 abbrev pub Replays : State → List (List ℕ) → State → Type 0
 Replays s [] t = t ≡ s
 Replays s (payload ∷ payloads) t =
-    (commit : Commit) × HasSpelling commit × (payload ≡ spelling commit) × Fits s commit × Replays (committed s commit) payloads t
+    (commit : Commit) × HasSpelling commit × (payload ≡ spelling commit) × Fits s commit
+    × Replays (committed s commit) payloads t
 
--- The payloads of a file of this generation lead to the state. It is the first generation, since no payload is a checkpoint.
+-- The payloads of a file of this generation lead to the state. It is the first generation, since no
+-- payload is a checkpoint.
 pub record LeadsTo (generation : ℕ) (payloads : List (List ℕ)) (s : State) : Type 0 where
   pub first : generation ≡ 1
   pub replays : Replays start payloads s

@@ -37,7 +37,8 @@ pub(crate) fn readied(
 /// Puts the overlays in their places.
 pub(crate) fn put_in_place(overlays: &mut Overlays, ready: Vec<Overlay>)
     requires { All (λ o. IsTrue (has_place overlays.old o.key)) ready.items }
-    ensures { (q : List (List ℕ)) → overlay_of overlays.new q ≡ put_over q (overlay_of overlays.old q) ready.items }
+    ensures { (q : List (List ℕ)) → overlay_of overlays.new q
+        ≡ put_over q (overlay_of overlays.old q) ready.items }
 {
     for overlay in ready {
         overlays.set(overlay);

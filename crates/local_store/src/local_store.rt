@@ -64,13 +64,17 @@ impl LocalStore {
     /// or where the payloads of the counting file aren't the commits of a store, with that file; `NoMemory`. After any
     /// of them the files give what they gave.
     pub fn open<H: Host>(alloc: Global, host: &mut H) -> Result<LocalStore, OpenFault>
-        ensures found { IfOk result (λ store. IsTrue H.tells_files → FindsState (H.view host.old).bytes store.state) }
+        ensures found { IfOk result (λ store. IsTrue H.tells_files
+            → FindsState (H.view host.old).bytes store.state) }
         ensures stored { IfOk result (λ store. IsTrue H.tells_files → IsStored store (H.view host.new)) }
         ensures whole { IfOk result (λ store. ¬ (IsSpent store)) }
-        ensures kept { IfOk result (λ store. IsTrue H.tells_files → IsFoundIn store.state (H.view host.new)) }
-        ensures refused { IfErr result (λ fault. IsTrue H.tells_files → Refuses fault (H.view host.old) (H.view host.new)) }
+        ensures kept { IfOk result (λ store. IsTrue H.tells_files
+            → IsFoundIn store.state (H.view host.new)) }
+        ensures refused { IfErr result (λ fault. IsTrue H.tells_files
+            → Refuses fault (H.view host.old) (H.view host.new)) }
         ensures files { IsTrue H.tells_files → Opens (H.view host.old) (H.view host.new) }
-        ensures settled { IsTrue H.tells_files → SettlesFirst H.view result (H.view host.old) (H.view host.new) }
+        ensures settled { IsTrue H.tells_files
+            → SettlesFirst H.view result (H.view host.old) (H.view host.new) }
         ensures out { KeepsOut (H.view host.old) (H.view host.new) }
         ensures counts { RisesAt (IsErrOf result OpenFault.DiskFault)
             (H.view host.old).disk_faults (H.view host.new).disk_faults }
@@ -149,14 +153,16 @@ impl LocalStore {
         requires stored { IsTrue H.tells_files → IsStored self.old (H.view host.old) }
         requires fits { Fits self.old.state commit }
         requires has_spelling { HasSpelling commit }
-        ensures made { IfOk result (λ number. (self.new.state ≡ committed self.old.state commit) × (number ≡ self.new.state.number)) }
+        ensures made { IfOk result (λ number. (self.new.state ≡ committed self.old.state commit)
+            × (number ≡ self.new.state.number)) }
         ensures unmade { OnErr result (self.new.state ≡ self.old.state) }
         ensures spent { IsErrOf result StoreFault.Spent ↔ IsSpent self.old }
         ensures spends { IsSpent self.new ↔ (IsSpent self.old ⊎ IsErrOf result StoreFault.DiskFault) }
         ensures untouched { IfErr result (λ fault. fault ≢ StoreFault.DiskFault → host.new ≡ host.old) }
         ensures stored { IsTrue H.tells_files → IsStored self.new (H.view host.new) }
         ensures kept { OnOk result (IsTrue H.tells_files → IsFoundIn self.new.state (H.view host.new)) }
-        ensures files { IsTrue H.tells_files → ¬ (IsSpent self.old) → Moves self.old.state (committed self.old.state commit)
+        ensures files { IsTrue H.tells_files → ¬ (IsSpent self.old)
+            → Moves self.old.state (committed self.old.state commit)
             (H.view host.old) (H.view host.new) }
         ensures out { KeepsOut (H.view host.old) (H.view host.new) }
         ensures counts { RisesAt (IsErrOf result StoreFault.DiskFault)

@@ -27,7 +27,8 @@ pub(crate) struct Tables {
 
 /// Whether the commit fits a state of this number and next id.
 pub(crate) fn fits(number: u64, next_batch: u64, commit: &Commit) -> bool
-    ensures { IsTrue result ↔ Fits (record { number = number; batches = []; next_batch = next_batch }) commit.now }
+    ensures { IsTrue result ↔ Fits
+        (record { number = number; batches = []; next_batch = next_batch }) commit.now }
 {
     let Commit::Enqueue(batch) = commit;
     let writes = batch.writes.as_slice().len();
@@ -50,7 +51,8 @@ pub(crate) fn replay(alloc: Global, payloads: &[Vec<u8>]) -> Result<Option<Table
         ((s : State) → Replays start (map (λ p. p.items) payloads.now) s → ⊥)
         (λ tables. Replays start (map (λ p. p.items) payloads.now)
         (record { number = length payloads.now; batches = tables.pending.batches; next_batch = length payloads.now + 1 }))) }
-    ensures laid { IfOk result (λ found. MatchOption found (Unit {0}) (λ tables. AreLaid tables.pending.batches tables.overlays)) }
+    ensures laid { IfOk result (λ found. MatchOption found (Unit {0})
+        (λ tables. AreLaid tables.pending.batches tables.overlays)) }
 {
     let mut pending = MutationQueue::new(alloc);
     let mut overlays = Overlays::new(alloc);

@@ -1,12 +1,12 @@
 -- The pending batches, as contracts see them: a list, and beside it the room for more.
-use Rattle.std.specs.Prelude.{◌≡◌, ℕ, ◌+◌, ◌<◌, ◌^◌, List, length, map, flat_map, refl, IsTrue}
+use Rattle.std.specs.Prelude.{◌≡◌, ℕ, ◌+◌, ◌<◌, ◌≤◌, ◌^◌, List, length, map, flat_map, refl, IsTrue}
 use Rattle.std.specs.List.{All}
 use Rattle.std.specs.Coded.{Coded, code_by, coded×, coded_list, coded_ℕ}
 use Rattle.mutations.specs.contracts.batch.Batch as batch
 use Rattle.mutations.specs.declared.batch.Batch.{Batch}
 use Rattle.mutations.specs.declared.write.Write.{Write}
 use Rattle.mutations.specs.declared.write.Write.TheVariants.{Update, Delete}
-use Rattle.mutation_queue.specs.Counts.{Counts, count_of, has_place, times}
+use Rattle.mutation_queue.specs.Counts.{Counts, KeepsPlaces, count_of, has_place, times}
 
 -- the key of the document that a write speaks of
 abbrev pub written_key : Write → List (List ℕ)
@@ -40,6 +40,11 @@ pub record HasRoom (queue : Queue) (writes : List Write) : Type 0 where
   pub spare : 0 < queue.spare
   pub places : HavePlaces queue.counts writes
   pub within : length (named_keys queue.batches) + length writes < 2 ^ 64
+
+-- the places of keys stay, and so do those of batches, but for as many as were used
+pub record KeepsRoom (used : ℕ) (old new : Queue) : Type 0 where
+  pub spare : old.spare ≤ new.spare + used
+  pub places : KeepsPlaces old.counts new.counts
 
 -- the table counts the writes of these batches, which are so many
 pub record AreCounted (batches : List Batch) (counts : Counts) (writes : ℕ) : Type 0 where

@@ -64,7 +64,8 @@ impl KeyCounts {
     pub(crate) fn raise(&mut self, key: &DocumentKey)
         requires place { IsTrue (has_place self.old key.now) }
         requires within { count_of self.old key.now + 1 < 2 ^ 64 }
-        ensures counts { (q : List (List ℕ)) → count_of self.new q ≡ count_of self.old q + (if is_key key.now q then 1 else 0) }
+        ensures counts { (q : List (List ℕ)) → count_of self.new q
+            ≡ count_of self.old q + (if is_key key.now q then 1 else 0) }
         ensures places { KeepsPlaces self.old self.new }
     {
         let Some(count) = self.counts.get_mut(key) else {
@@ -76,7 +77,8 @@ impl KeyCounts {
     /// Counts the key once less. A key that isn't counted any more has no place.
     pub(crate) fn lower(&mut self, key: &DocumentKey)
         requires { 0 < count_of self.old key.now }
-        ensures { (q : List (List ℕ)) → count_of self.old q ≡ count_of self.new q + (if is_key key.now q then 1 else 0) }
+        ensures { (q : List (List ℕ)) → count_of self.old q
+            ≡ count_of self.new q + (if is_key key.now q then 1 else 0) }
     {
         if self.counts.get(key).copied() == Some(1) {
             self.counts.remove(key);
@@ -94,6 +96,7 @@ impl KeyCounts {
     /// `NoMemory`
     pub(crate) fn make_places(&mut self, alloc: Global, writes: &[Write]) -> Result<(), NoMemory>
         ensures counts { SameCounts self.old self.new }
+        ensures places { KeepsPlaces self.old self.new }
         ensures made { OnOk result (HavePlaces self.new writes.now) }
         ensures kept { HavePlaces self.old writes.now → IsOk result }
     {
@@ -107,7 +110,9 @@ impl KeyCounts {
     pub(crate) fn raise_all(&mut self, writes: &[Write])
         requires places { HavePlaces self.old writes.now }
         requires within { (q : List (List ℕ)) → count_of self.old q + length writes.now < 2 ^ 64 }
-        ensures { (q : List (List ℕ)) → count_of self.new q ≡ count_of self.old q + times q (keys_of writes.now) }
+        ensures counts { (q : List (List ℕ)) → count_of self.new q
+            ≡ count_of self.old q + times q (keys_of writes.now) }
+        ensures places { KeepsPlaces self.old self.new }
     {
         for write in writes {
             self.raise(written_key(write));
@@ -117,7 +122,8 @@ impl KeyCounts {
     /// Counts the key of each write once less.
     pub(crate) fn lower_all(&mut self, writes: &[Write])
         requires { (q : List (List ℕ)) → times q (keys_of writes.now) ≤ count_of self.old q }
-        ensures { (q : List (List ℕ)) → count_of self.old q ≡ count_of self.new q + times q (keys_of writes.now) }
+        ensures { (q : List (List ℕ)) → count_of self.old q
+            ≡ count_of self.new q + times q (keys_of writes.now) }
     {
         for write in writes {
             self.lower(written_key(write));

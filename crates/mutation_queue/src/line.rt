@@ -77,7 +77,8 @@ impl Line {
     /// Puts the batch at the end, where there is a place.
     pub(crate) fn push_reserved(&mut self, batch: Batch)
         requires { 0 < self.old.spare }
-        ensures { self.new.batches ≡ self.old.batches ++ batch ∷ [] }
+        ensures pushed { self.new.batches ≡ self.old.batches ++ batch ∷ [] }
+        ensures spare { self.old.spare ≤ self.new.spare + 1 }
     {
         self.batches.push_reserved(batch);
     }

@@ -1,7 +1,7 @@
 ghost use Rattle.std.specs.Prelude.{◌≡◌, ◌↔◌, [], ◌∷◌, ◌++◌, length, IsTrue, IsOk, OnOk, OnErr, option_map};
 ghost use Rattle.std.specs.List.{Contains, slice_get};
 ghost use Rattle.mutation_queue.specs.Line.{TakesFirst};
-ghost use Rattle.mutation_queue.specs.Queue.{HasRoom, named_keys};
+ghost use Rattle.mutation_queue.specs.Queue.{HasRoom, KeepsRoom, named_keys};
 
 use crate::counts::KeyCounts;
 use crate::line::Line;
@@ -51,6 +51,7 @@ impl MutationQueue {
     /// `NoMemory`, never where there is room.
     pub fn reserve(&mut self, batch: &Batch) -> Result<(), NoMemory>
         ensures same { self.new.batches ≡ self.old.batches }
+        ensures held { KeepsRoom 0 self.old self.new }
         ensures room { OnOk result (HasRoom self.new batch.now.writes) }
         ensures kept { HasRoom self.old batch.now.writes → IsOk result }
     {
@@ -66,7 +67,8 @@ impl MutationQueue {
     /// Puts the batch at the end, where there is room for it. It takes no memory.
     pub fn push_reserved(&mut self, batch: Batch)
         requires { HasRoom self.old batch.writes }
-        ensures { self.new.batches ≡ self.old.batches ++ batch ∷ [] }
+        ensures pushed { self.new.batches ≡ self.old.batches ++ batch ∷ [] }
+        ensures held { KeepsRoom 1 self.old self.new }
     {
         let writes = batch.writes.as_slice();
         self.writes += writes.len() as u64;
@@ -81,6 +83,7 @@ impl MutationQueue {
     pub fn push(&mut self, _alloc: Global, batch: Batch) -> Result<(), NoMemory>
         ensures done { OnOk result (self.new.batches ≡ self.old.batches ++ batch ∷ []) }
         ensures undone { OnErr result (self.new.batches ≡ self.old.batches) }
+        ensures held { KeepsRoom 1 self.old self.new }
         ensures kept { HasRoom self.old batch.writes → IsOk result }
     {
         self.reserve(&batch)?;

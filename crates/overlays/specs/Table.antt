@@ -1,5 +1,5 @@
 -- The overlays, as contracts see them: a finite map from keys to optional documents, and beside it the room for more.
-use Rattle.std.specs.Prelude.{◌≡◌, ℕ, List, Bool, Option, Some, None, is_some, option_and_then, unwrap_or, IsTrue, if◌then◌else◌}
+use Rattle.std.specs.Prelude.{◌≡◌, ℕ, List, Bool, false, Option, Some, None, is_some, option_and_then, unwrap_or, IsTrue, if◌then◌else◌}
 use Rattle.std.specs.Coded.{Coded, coded×, coded_list, coded_ℕ}
 use Rattle.std.specs.List.{All}
 use Rattle.std.specs.Map.{lookup}
@@ -54,3 +54,8 @@ Changes key overlay old new = (q : List (List ℕ)) → overlay_of new q ≡ (if
 -- every place stays
 abbrev pub KeepsPlaces : Table → Table → Type 0
 KeepsPlaces old new = (key : List (List ℕ)) → IsTrue (has_place old key) → IsTrue (has_place new key)
+
+-- every place stays, but that of this key
+abbrev pub KeepsOtherPlaces : List (List ℕ) → Table → Table → Type 0
+KeepsOtherPlaces key old new = (q : List (List ℕ)) → is_key key q ≡ false
+    → IsTrue (has_place old q) → IsTrue (has_place new q)

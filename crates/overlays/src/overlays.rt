@@ -5,7 +5,7 @@ ghost use Rattle.document_keys.specs.Order.{PathBefore};
 ghost use Rattle.value_model.specs.Documents.{IsIn};
 ghost use Rattle.overlays.specs.Lent.{known, lent_document, with_more};
 ghost use Rattle.overlays.specs.LocalDocument.{after_batch, local_document};
-ghost use Rattle.overlays.specs.Table.{Changes, IsBatchOfFields, KeepsPlaces, SameOverlays, document_in, has_place, overlay_of, shown};
+ghost use Rattle.overlays.specs.Table.{Changes, IsBatchOfFields, KeepsOtherPlaces, KeepsPlaces, SameOverlays, document_in, has_place, overlay_of, shown};
 
 use crate::laying::{all_laid_on, base, laid_on};
 use crate::slot::Slot;
@@ -168,7 +168,8 @@ impl Overlays {
 
     /// Takes the key's overlay away, if there is one, and its place.
     pub fn remove(&mut self, key: &DocumentKey)
-        ensures { Changes key.now None self.old self.new }
+        ensures done { Changes key.now None self.old self.new }
+        ensures places { KeepsOtherPlaces key.now self.old self.new }
     {
         self.slots.remove(key);
     }

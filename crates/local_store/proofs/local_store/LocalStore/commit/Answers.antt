@@ -43,7 +43,7 @@ pub invariant_of-self-2 : goal.invariant_of-self-2
 invariant_of-self-2 g c =
     let number = ap (λ (s : Store). s.state.number) c.self.view_is in
     let left = c.requires.fits.1 in
-    let pushed = c.push_reserved.ensures ∙ ap (λ (l : List Batch). l ++ c.batch_of-batch.result ∷ []) c.reserve.ensures.same in
+    let pushed = c.push_reserved.ensures.pushed ∙ ap (λ (l : List Batch). l ++ c.batch_of-batch.result ∷ []) c.reserve.ensures.same in
     record {
       within = omega (arith, number, left);
       next = omega (arith, c.self.invariant.next);
@@ -54,7 +54,7 @@ pub returns-clause-stored : goal.returns-clause-stored
 returns-clause-stored g c = λ told x there.
     let is = c.requires.stored told c.in-Some.journal (sym (ap (λ (s : Store). s.place) c.self.view_is) ∙ sym c.in-Some.ensures.value) in
     let appended = appends_payload c.in_ok-frame.ensures (c.in_ok-append.ensures.files told is.payloads is.open_with) in
-    let pushed = c.push_reserved.ensures ∙ ap (λ (l : List Batch). l ++ c.batch_of-batch.result ∷ []) c.reserve.ensures.same in
+    let pushed = c.push_reserved.ensures.pushed ∙ ap (λ (l : List Batch). l ++ c.batch_of-batch.result ∷ []) c.reserve.ensures.same in
     let more = state_more _ _ _ _ c.batch_of-batch.result c.args.commit _ (ap (λ (s : Store). s.state) c.self.view_is) c.batch_of-batch.ensures pushed in
     subst (λ (p : Place). IsOver (record { number = c.self.inside.number + 1; batches = c.push_reserved.new.self.batches; next_batch = c.self.inside.next_batch + 1 }) (g.H.Host.view c.append.new.host) p) (same_Some _ _ there)
     (over_more c.args.commit is c.requires.has_spelling c.requires.fits c.in_ok-append.ensures.grows.3 appended.done more)
@@ -63,7 +63,7 @@ pub returns-clause-kept : goal.returns-clause-kept
 returns-clause-kept g c = λ told.
     let is = c.requires.stored told c.in-Some.journal (sym (ap (λ (s : Store). s.place) c.self.view_is) ∙ sym c.in-Some.ensures.value) in
     let appended = appends_payload c.in_ok-frame.ensures (c.in_ok-append.ensures.files told is.payloads is.open_with) in
-    let pushed = c.push_reserved.ensures ∙ ap (λ (l : List Batch). l ++ c.batch_of-batch.result ∷ []) c.reserve.ensures.same in
+    let pushed = c.push_reserved.ensures.pushed ∙ ap (λ (l : List Batch). l ++ c.batch_of-batch.result ∷ []) c.reserve.ensures.same in
     let more = state_more _ _ _ _ c.batch_of-batch.result c.args.commit _ (ap (λ (s : Store). s.state) c.self.view_is) c.batch_of-batch.ensures pushed in
     over_finds {place = c.in_ok-append.field-0} (over_more c.args.commit is c.requires.has_spelling c.requires.fits c.in_ok-append.ensures.grows.3 appended.done more)
 

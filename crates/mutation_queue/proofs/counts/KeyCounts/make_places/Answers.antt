@@ -20,3 +20,6 @@ loop-write-preserved c = record {
 
 pub returns-clause-made : goal.returns-clause-made
 returns-clause-made c = rw (take_all _ _ c.loop-write-test.false) at c.loop-write.invariant.made
+
+pub returns-in_err-make_place-clause-places : goal.returns-in_err-make_place-clause-places
+returns-in_err-make_place-clause-places c = λ q had. c.make_place.ensures.places q (c.loop-write.invariant.places q had)

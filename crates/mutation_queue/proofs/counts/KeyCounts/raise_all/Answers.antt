@@ -27,5 +27,5 @@ loop-write-preserved c = record {
   places = λ q had. c.raise.ensures.places q (c.loop-write.invariant.places q had);
 }
 
-pub returns : goal.returns
-returns c = λ q. rw (take_all _ _ c.loop-write-test.false) at (c.loop-write.invariant.counts q)
+pub returns-clause-counts : goal.returns-clause-counts
+returns-clause-counts c = λ q. rw (take_all _ _ c.loop-write-test.false) at (c.loop-write.invariant.counts q)

@@ -1,7 +1,7 @@
-use Rattle.std.proofs.Common.{length, ap, arith}
+use Rattle.std.proofs.Common.{length, ap, subst, arith}
 use Rattle.std.proofs.lemmas.List.Sums.{count_by-le-length}
 use Rattle.document_keys.specs.KeySet.{is_key}
-use Rattle.mutation_queue.specs.Queue.{Queue, named_keys}
+use Rattle.mutation_queue.specs.Queue.{KeepsRoom, Queue, named_keys}
 use Rattle.mutation_queue.proofs.Counting.{counted_push, places_at}
 use Rattle.mutation_queue.proofs.queue.MutationQueue.push_reserved.Goals as goal
 
@@ -17,4 +17,7 @@ raise_all-requires-clause-within c = λ q.
     omega (arith, counted, few, whole, many, c.requires.within)
 
 pub invariant_of-self : goal.invariant_of-self
-invariant_of-self c = counted_push _ _ c.args.batch _ _ _ _ c.as_slice-writes.ensures c.push_reserved.ensures c.raise_all.ensures c.self.invariant
+invariant_of-self c = counted_push _ _ c.args.batch _ _ _ _ c.as_slice-writes.ensures c.push_reserved.ensures.pushed c.raise_all.ensures.counts c.self.invariant
+
+pub returns-clause-held : goal.returns-clause-held
+returns-clause-held c = subst (λ (q : Queue). KeepsRoom 1 q (record { batches = c.push_reserved.new.self.batches; spare = c.push_reserved.new.self.spare; counts = c.raise_all.new.self })) c.self.view_is (record { spare = omega (arith, c.push_reserved.ensures.spare); places = c.raise_all.ensures.places })

@@ -1,5 +1,5 @@
-use Rattle.std.proofs.Common.{length, refl, sym, ap, arith}
-use Rattle.mutation_queue.specs.Queue.{Queue, named_keys}
+use Rattle.std.proofs.Common.{length, refl, sym, ap, subst, arith}
+use Rattle.mutation_queue.specs.Queue.{KeepsRoom, Queue, named_keys}
 use Rattle.mutation_queue.proofs.Counting.{counted_still, places_at}
 use Rattle.mutation_queue.proofs.queue.MutationQueue.reserve.Goals as goal
 
@@ -23,3 +23,9 @@ returns-clause-room c = record {
       let many = ap length c.as_slice-writes.ensures in
       omega (arith, whole, many, c.self.invariant.whole, c.if-writes-self.false);
 }
+
+pub returns-in_err-make_places-clause-held : goal.returns-in_err-make_places-clause-held
+returns-in_err-make_places-clause-held c = subst (λ (q : Queue). KeepsRoom 0 q (record { batches = c.reserve.new.self.batches; spare = c.reserve.new.self.spare; counts = c.make_places.new.self })) c.self.view_is (record { spare = omega (arith, c.reserve.ensures.spare); places = c.make_places.ensures.places })
+
+pub returns-clause-held : goal.returns-clause-held
+returns-clause-held c = subst (λ (q : Queue). KeepsRoom 0 q (record { batches = c.reserve.new.self.batches; spare = c.reserve.new.self.spare; counts = c.make_places.new.self })) c.self.view_is (record { spare = omega (arith, c.reserve.ensures.spare); places = c.make_places.ensures.places })
