@@ -26,7 +26,7 @@ use Rattle.mutations.specs.declared.transform.Change.{Change}
 use Rattle.mutations.specs.declared.transform.Transform.{Transform}
 use Rattle.mutations.specs.Local.{changed, transformed_by, transformed, taken_over, masked}
 use Rattle.mutations.specs.Masks.{IsMasked, IsAboveMask, IsFilledBelow, Masked}
-use Rattle.mutations.specs.Touched.{AreTouched, HasName, StandsFor, IsTouched, SameAt, SameBeside, SameBut}
+use Rattle.mutations.specs.Touched.{AreTouched, Completes, HasName, StandsFor, IsTouched, SameAt, SameBeside, SameBut}
 use Rattle.mutations.proofs.Taking.{name_cases}
 use Rattle.mutations.proofs.Touching.{has_cases, no_name}
 
@@ -201,10 +201,10 @@ module _ (names : Entries) (named : AreFields names) where
       ∙ changed_beside at whole t (All-head (λ x. IsTouched names x.path) t ts all) m not
 
 -- what was put back is the whole
-pub put_whole : (names part whole old mid new : Entries) → StandsFor names part whole → SameBeside names whole old → SameBeside names mid old → SameAt names new part → SameBeside names new mid → AreFields new → new ≡ whole
-put_whole names part whole old mid new is beside between here others are = map_laws.alike new whole are is.whole_fields (λ n. elim (has_cases names n) [
-  | inl has ↦ here n has ∙ is.same n has
-  | inr not ↦ others n not ∙ between n not ∙ sym (beside n not)
+pub put_whole : (names part whole old mid new : Entries) → Completes names part old whole → SameBeside names mid old → SameAt names new part → SameBeside names new mid → AreFields new → new ≡ whole
+put_whole names part whole old mid new is between here others are = map_laws.alike new whole are is.stands.whole_fields (λ n. elim (has_cases names n) [
+  | inl has ↦ here n has ∙ is.stands.same n has
+  | inr not ↦ others n not ∙ between n not ∙ sym (is.beside n not)
 ])
 
 -- ---- what a mask makes of a part, it makes of all

@@ -63,7 +63,11 @@ abbrev pub set : Entries → Entries → Option (List (List (List ℕ))) → Ent
 set old input None = input
 set old input (Some mask) = masked old input mask
 
--- the relations hold of what these two give
+-- the fields after an update: set, and then transformed
+abbrev pub updated : Timestamp → Entries → Entries → Option (List (List (List ℕ))) → List Transform → Entries
+updated at old input mask transforms = transformed at (set old input mask) transforms
+
+-- the relations hold of what `masked` and `set` give
 abbrev pub MasksRight : Entries → Entries → List (List (List ℕ)) → Type 0
 MasksRight old input mask = Masked old input mask (masked old input mask)
 
@@ -85,7 +89,7 @@ holds (UpdateTime time) (Some document) = is_of_time document.update_time time
 
 -- the document that a write makes
 abbrev pub written : Option Document → Write → Timestamp → Option Document
-written old (Update key fields mask transforms condition) at = Some (record { fields = transformed at (set (fields_of old) fields mask) transforms; update_time = update_time_of old })
+written old (Update key fields mask transforms condition) at = Some (record { fields = updated at (fields_of old) fields mask transforms; update_time = update_time_of old })
 written old (Delete key condition) at = None
 
 -- the document after a write: where its precondition doesn't hold it stays

@@ -47,3 +47,8 @@ pub record StandsFor (names part whole : Entries) : Type 0 where
   pub same : SameAt names part whole
   pub part_fields : AreFields part
   pub whole_fields : AreFields whole
+
+-- the whole that a part makes of the old fields: the part's at these names, the old ones at the others
+pub record Completes (names part old whole : Entries) : Type 0 where
+  pub stands : StandsFor names part whole
+  pub beside : SameBeside names whole old

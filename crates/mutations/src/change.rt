@@ -3,7 +3,7 @@
 ghost use Rattle.std.specs.Prelude.{◌≡◌, ◌↔◌, ◌+ℤ◌, IsTrue, IfOk, option_map, unwrap_or};
 ghost use Rattle.std.specs.Int.{w64, saturate_signed, int_max, int_min};
 ghost use Rattle.std.specs.List.{Contains};
-ghost use Rattle.mutations.specs.Changes.{Appends, Changed, Removes, Transformed, items_at, number_at};
+ghost use Rattle.mutations.specs.Changes.{Appends, Changed, Removes, items_at, number_at};
 ghost use Rattle.mutations.specs.Effect.{HavePathsOfFields};
 ghost use Rattle.mutations.specs.Local as function;
 
@@ -144,8 +144,7 @@ pub(crate) fn transformed(
     at: Timestamp,
 ) -> Result<Fields, NoMemory>
     requires { HavePathsOfFields transforms.now }
-    ensures says { IfOk result (λ after. Transformed at fields transforms.now after) }
-    ensures exact { IfOk result (λ after. after ≡ function.transformed at fields transforms.now) }
+    ensures { IfOk result (λ after. after ≡ function.transformed at fields transforms.now) }
 {
     for transform in transforms {
         let value = changed(alloc, fields.at(&transform.path), &transform.change, at)?;

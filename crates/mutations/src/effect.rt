@@ -67,7 +67,7 @@ fn made(
     requires mask { HasMaskOfFields mask.now }
     requires transforms { HavePathsOfFields transforms.now }
     ensures sets { OnOk result (function.SetsRight [] input.now mask.now) }
-    ensures exact { IfOk result (λ fields. fields ≡ function.transformed at (function.set [] input.now mask.now) transforms.now) }
+    ensures exact { IfOk result (λ fields. fields ≡ function.updated at [] input.now mask.now transforms.now) }
 {
     let fields = set(alloc, input, mask)?;
     let fields = transformed(alloc, fields, transforms.as_slice(), at)?;
@@ -86,7 +86,7 @@ fn update_fields(
     requires mask { HasMaskOfFields mask.now }
     requires transforms { HavePathsOfFields transforms.now }
     ensures sets { OnOk result (function.SetsRight fields.old input.now mask.now) }
-    ensures exact { OnOk result (fields.new ≡ function.transformed at (function.set fields.old input.now mask.now) transforms.now) }
+    ensures exact { OnOk result (fields.new ≡ function.updated at fields.old input.now mask.now transforms.now) }
     ensures undone { OnErr result (fields.new ≡ fields.old) }
 {
     match mask {
@@ -116,7 +116,7 @@ fn update(
     requires transforms { HavePathsOfFields transforms.now }
     ensures updates { OnOk result (Updates doc.old input.now mask.now transforms.now at doc.new) }
     ensures exact { OnOk result (doc.new ≡ Some (record {
-      fields = function.transformed at (function.set (fields_of doc.old) input.now mask.now) transforms.now;
+      fields = function.updated at (fields_of doc.old) input.now mask.now transforms.now;
       update_time = update_time_of doc.old;
     })) }
     ensures undone { OnErr result (doc.new ≡ doc.old) }

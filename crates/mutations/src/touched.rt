@@ -1,13 +1,13 @@
 //! The fields that a masked update touches, those of the first names of its paths: copied, worked on, and put back into the
 //! document. Their names are kept as fields with null values.
 
-ghost use Rattle.std.specs.Prelude.{◌≡◌, None, IfOk, OnOk, OnErr};
+ghost use Rattle.std.specs.Prelude.{◌≡◌, Some, None, IfOk, OnOk, OnErr};
 ghost use Rattle.std.specs.List.{All};
 ghost use Rattle.document_keys.specs.Paths.{IsFieldName};
 ghost use Rattle.value_model.specs.Fields.{AreFields, field};
 ghost use Rattle.mutations.specs.Effect.{HavePathsOfFields, IsOfFields};
 ghost use Rattle.mutations.specs.Local as function;
-ghost use Rattle.mutations.specs.Touched.{AreTouched, HasGrown, HasName, HasNames, StandsFor, IsPartOf, IsTouched, SameAt, SameBeside, SameBut};
+ghost use Rattle.mutations.specs.Touched.{AreTouched, Completes, HasGrown, HasName, HasNames, IsPartOf, IsTouched, SameAt, SameBeside, SameBut, StandsFor};
 
 use crate::change::transformed;
 use crate::mask::masked;
@@ -219,7 +219,7 @@ fn put_in_place(
     part: Fields,
     names: &Fields,
 ) -> Result<(), NoMemory>
-    ensures done { (whole : _) → StandsFor names.now part whole → SameBeside names.now whole fields.old → OnOk result (fields.new ≡ whole) }
+    ensures done { (whole : _) → Completes names.now part fields.old whole → OnOk result (fields.new ≡ whole) }
     ensures undone { OnErr result (fields.new ≡ fields.old) }
 {
     make_room(alloc, fields, names)?;
@@ -242,7 +242,7 @@ pub(crate) fn update_touched(
     requires mask { All IsOfFields mask.now }
     requires transforms { HavePathsOfFields transforms.now }
     ensures says { OnOk result (function.MasksRight fields.old input.now mask.now) }
-    ensures exact { OnOk result (fields.new ≡ function.transformed at (function.masked fields.old input.now mask.now) transforms.now) }
+    ensures exact { OnOk result (fields.new ≡ function.updated at fields.old input.now (Some mask.now) transforms.now) }
     ensures undone { OnErr result (fields.new ≡ fields.old) }
 {
     let names = touched_names(alloc, mask, transforms)?;
