@@ -1,0 +1,29 @@
+//! Fields.
+
+ghost use Rattle.std.specs.Prelude.{IfOk};
+ghost use Rattle.serde_json.specs.View.{view};
+ghost use Rattle.json_model.specs.Clean.{IsClean};
+ghost use Rattle.json_model.specs.declared.place.Object.TheVariants as objects;
+ghost use Rattle.json_model.specs.declared.place.Place.TheVariants as places;
+ghost use Rattle.json_queries.specs.Grammar.{SpellsField};
+
+use document_keys::{FieldPath, NoMemory};
+use json_model::{Object, Setting, clean_member, clean_object, clean_query_path};
+use serde_json::Value as Json;
+use std::alloc::Global;
+
+/// The path under `fieldPath`.
+pub(crate) fn clean_field(
+    alloc: Global,
+    setting: &Setting<'_>,
+    json: &Json,
+) -> Result<FieldPath, NoMemory>
+    requires { IsClean setting.now (places.Object objects.Field) (view json.now) }
+    ensures { IfOk result (λ path. SpellsField (view json.now) path) }
+{
+    let members = clean_object(setting, Object::Field, json);
+    match clean_member(setting, Object::Field, members, "fieldPath") {
+        Some(path) => clean_query_path(alloc, setting, path),
+        None => unreachable!(),
+    }
+}

@@ -1,0 +1,64 @@
+//! Orders.
+
+ghost use Rattle.std.specs.Prelude.{IfOk, IfSome, Some, option_map};
+ghost use Rattle.serde_json.specs.View.{view};
+ghost use Rattle.json_model.specs.Clean.{IsClean};
+ghost use Rattle.json_model.specs.Forms.{SpellsEach};
+ghost use Rattle.json_model.specs.declared.place.Object.TheVariants as objects;
+ghost use Rattle.json_model.specs.declared.place.Place.TheVariants as places;
+ghost use Rattle.json_model.specs.declared.place.Series.TheVariants as serieses;
+ghost use Rattle.json_queries.specs.Grammar.{SpellsOrder};
+
+use crate::constants::clean_direction;
+use crate::field::clean_field;
+use document_keys::{NoMemory, Sequence};
+use json_model::{Object, Series, Setting, clean_list, clean_member, clean_object};
+use queries::Order;
+use serde_json::Value as Json;
+use std::alloc::Global;
+
+/// An item of `orderBy`.
+#[tactic(auto, unfolding(json_model::specs::Places::order_rows))]
+fn clean_order(alloc: Global, setting: &Setting<'_>, json: &Json) -> Result<Order, NoMemory>
+    requires { IsClean setting.now (places.Object objects.Order) (view json.now) }
+    ensures { IfOk result (λ order. SpellsOrder (view json.now) order) }
+{
+    let members = clean_object(setting, Object::Order, json);
+    let direction = clean_member(setting, Object::Order, members, "direction");
+    let descending = clean_direction(setting, direction);
+    match clean_member(setting, Object::Order, members, "field") {
+        Some(field) => Ok(Order {
+            path: clean_field(alloc, setting, field)?,
+            descending,
+        }),
+        None => unreachable!(),
+    }
+}
+
+/// The orders of a list.
+fn clean_items(alloc: Global, setting: &Setting<'_>, json: &Json) -> Result<Vec<Order>, NoMemory>
+    requires { IsClean setting.now (places.Series serieses.Orders) (view json.now) }
+    ensures { IfOk result (λ orders. SpellsEach SpellsOrder (Some (view json.now)) orders.items) }
+{
+    let items = clean_list(setting, Series::Orders, json);
+    let mut orders = Vec::new(alloc);
+    for item in items {
+        orders.push(clean_order(alloc, setting, item)?)?;
+    }
+    Ok(orders)
+}
+
+/// The orders under `orderBy`.
+pub(crate) fn clean_orders(
+    alloc: Global,
+    setting: &Setting<'_>,
+    found: Option<&Json>,
+) -> Result<Sequence<Order>, NoMemory>
+    requires { IfSome found (λ json. IsClean setting.now (places.Series serieses.Orders) (view json.now)) }
+    ensures { IfOk result (λ orders. SpellsEach SpellsOrder (option_map (λ json. view json.now) found.entry) orders) }
+{
+    match found {
+        Some(json) => Ok(Sequence::from_vec(clean_items(alloc, setting, json)?)),
+        None => Ok(Sequence::new(alloc)),
+    }
+}
