@@ -4,6 +4,7 @@
 //! change a field by what stands there. Both have a precondition. `Mask`, `Transforms`, `Values` and `Writes` are lists that
 //! contracts see as such. A `Batch` is what was taken at once. `apply_local` says what a write makes of a document until the
 //! backend has answered: of each path (`specs/Effect.antt`, `specs/Masks.antt`), and as a function (`specs/Local.antt`).
+//! A masked update copies no more than the fields at the first names of its paths (`touched.rt`).
 #![tactic(auto)]
 
 mod batch;
