@@ -1,17 +1,17 @@
 -- what a shelf holds
-use Rattle.std.proofs.Common.{◌≡◌, ◌∙◌, ◌⊎◌, inl, inr, ◌↔◌, ℕ, suc, ◌+◌, ◌<◌, true, false, cond, Ordering, Less, Equal, Greater, IsSome, is_some, Option, Some, None, List, [], ◌∷◌, ◌++◌, map, length, get_or, take, option_map, refl, sym, ap, subst, arith}
+use Rattle.std.proofs.Common.{◌≡◌, ◌∙◌, inl, inr, ◌↔◌, ℕ, suc, ◌+◌, ◌<◌, true, false, cond, Ordering, Less, Equal, Greater, IsSome, is_some, Option, Some, None, List, [], ◌∷◌, ◌++◌, length, get_or, take, option_map, refl, sym, ap, subst, arith}
 use Rattle.std.specs.Cmp.{tied_itself}
 use Rattle.std.specs.Cmp.Lexicographic.{slice_cmp}
 use Rattle.std.specs.Ordering.{nat_cmp, is_eq}
 use Rattle.std.specs.FinMap as finite
 use Rattle.std.specs.List.{Contains}
-use Rattle.std.proofs.lemmas.List.{map_more, take_all}
+use Rattle.std.proofs.lemmas.List.{map_more}
 use Rattle.std.proofs.lemmas.List.Elements.{Contains-append_left, Contains-push, Contains-push_cases}
 use Rattle.std.proofs.lemmas.List.Recursion.{found_at, found_nowhere}
 use Rattle.document_keys.proofs.Order.{paths_compute}
 use Rattle.document_keys.specs.KeySet.{IsAscending, Inserts}
 use Rattle.value_model.specs.Data.{Entries}
-use Rattle.value_model.specs.Documents.{DocumentMap, Stored, IsIn, ListsCollection}
+use Rattle.value_model.specs.Documents.{IsIn, ListsCollection}
 use Rattle.queries.proofs.Counting.{first_or_rest}
 use Rattle.query_tests.specs.declared.shelf.Held.{Held}
 use Rattle.query_tests.specs.Shelf.{documents_of, find_in, stored_of, keys_of, Takes, KeepsIn}

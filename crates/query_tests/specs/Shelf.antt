@@ -5,7 +5,6 @@ use Rattle.std.specs.Cmp.Lexicographic.{slice_cmp}
 use Rattle.std.specs.FinMap as map
 use Rattle.std.specs.List.{Contains}
 use Rattle.std.specs.Ordering.{nat_cmp, is_eq}
-use Rattle.document_keys.specs.KeySet.{IsAscending}
 use Rattle.value_model.specs.Data.{Entries}
 use Rattle.value_model.specs.Documents.{DocumentMap, Stored, IsIn}
 use Rattle.value_model.specs.declared.document.DocState.TheVariants.{Synced}

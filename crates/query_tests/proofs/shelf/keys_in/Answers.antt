@@ -1,4 +1,4 @@
-use Rattle.std.proofs.Common.{refl, subst, arith}
+use Rattle.std.proofs.Common.{subst, arith}
 use Rattle.std.proofs.lemmas.List.{take_all}
 use Rattle.query_tests.specs.Shelf.{KeepsIn}
 use Rattle.query_tests.proofs.Holding.{one_kept}

@@ -1,6 +1,5 @@
-use Rattle.std.proofs.Common.{◌≡◌, ◌∙◌, option_map, sym, ap}
-use Rattle.std.specs.FinMap as finite
-use Rattle.query_tests.specs.Shelf.{documents_of, find_in, stored_of}
+use Rattle.std.proofs.Common.{◌∙◌, option_map, sym, ap}
+use Rattle.query_tests.specs.Shelf.{find_in, stored_of}
 use Rattle.query_tests.proofs.Holding.{got}
 use Rattle.query_tests.proofs.shelf.ShelfDocuments.document.Goals as goal
 
