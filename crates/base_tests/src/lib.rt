@@ -1,19 +1,16 @@
 //! The tests of the crates that stand on no disk and no input: names, values, writes, their JSON and their bytes.
 //!
 //! It has tests and nothing else. They stand apart since a crate with tests is proved twice, so `document_keys`,
-//! `value_model`, `mutations`, `json_model`, `json_rpc`, `record_codec` and `queries` have none, and are tried through what they
-//! export. A module for each of them, cut where one grew long: `names`, `times`, `order`, `fields`, `messages`, `stores`,
-//! `writes`, `matching`, `paths`, `records`, `requests`, `trees`. What several need to make a value stands in
-//! `fixtures`.
-//! A test function owns one value, and hands it on by reference.
+//! `value_model`, `mutations`, `json_model`, `json_rpc` and `record_codec` have none, and are tried through what they export.
+//! What writes make of documents, and the faults of values and writes in JSON, are tried by the worked examples. A module for
+//! each subject: `names`, `times`, `order`, `fields`, `messages`, `writes`, `tables`, `paths`, `records`, `requests`, `trees`.
+//! What several need to make a value stands in `fixtures`. A test function owns one value, and hands it on by reference.
 #![tactic(auto)]
 
 #[cfg(test)]
 mod fields;
 #[cfg(test)]
 mod fixtures;
-#[cfg(test)]
-mod matching;
 #[cfg(test)]
 mod messages;
 #[cfg(test)]
@@ -26,8 +23,6 @@ mod paths;
 mod records;
 #[cfg(test)]
 mod requests;
-#[cfg(test)]
-mod stores;
 #[cfg(test)]
 mod tables;
 #[cfg(test)]

@@ -1,7 +1,8 @@
 //! What a shelf answers: rooms `a` to `f`, of which `d` has no `n`, and a hall.
 
+use crate::fixtures::{key, number, put, root};
 use crate::shelf::{Held, Shelf};
-use document_keys::{Database, DocumentKey, FieldPath, Segment, Sequence, Text, check_field_name};
+use document_keys::{Database, DocumentKey, FieldPath, Segment, Sequence};
 use queries::{
     Cursor, Filter, FilterKind, Junction, Operator, Order, Query, RawCollection, RawQuery,
 };
@@ -9,34 +10,20 @@ use query_engine::rows;
 use std::alloc::Global;
 use std::process::Abort;
 use std::test::Fail;
-use value_model::{Fields, Kind, Value};
-
-fn key(alloc: Global, collection: &str, id: &str) -> Result<DocumentKey, Fail> {
-    let mut segments = Vec::new(alloc);
-    segments.push(Segment::read(alloc, collection)?)?;
-    segments.push(Segment::read(alloc, id)?)?;
-    Ok(DocumentKey::from_segments(segments).ok_or("pairs of segments")?)
-}
-
-fn number(number: i64) -> Value {
-    Value {
-        kind: Kind::Integer(number),
-    }
-}
+use value_model::Fields;
 
 /// Fields with this `n`, or none.
 fn fields(alloc: Global, n: i64) -> Result<Fields, Fail> {
     let mut fields = Fields::new(alloc);
     if n > 0 {
-        check_field_name("n")?;
-        fields.put(alloc, Text::from_str(alloc, "n")?, number(n))?;
+        put(alloc, &mut fields, "n", number(n))?;
     }
     Ok(fields)
 }
 
 fn held(alloc: Global, collection: &str, id: &str, n: i64) -> Result<Held, Fail> {
     let fields = fields(alloc, n)?;
-    let key = key(alloc, collection, id)?;
+    let key = key(alloc, &[collection, id])?;
     Ok(Held { key, fields })
 }
 
@@ -106,7 +93,7 @@ fn check_shelf(
     query: &Query,
     wanted: &[&str],
 ) -> Result<(), Fail> {
-    let root = Database::read(rt.alloc(), "projects/demo/databases/(default)")?;
+    let root = root(rt.alloc())?;
     let shelf = shelf(rt.alloc())?;
     check_rows(rt, &root, &shelf, query, wanted)
 }
@@ -213,7 +200,7 @@ fn alternatives(rt: HostRuntime) -> Result<(), Fail> {
 }
 
 fn check_document(rt: &(impl Abort + AllocGlobal), id: &str, wanted: &[&str]) -> Result<(), Fail> {
-    let key = key(rt.alloc(), "rooms", id)?;
+    let key = key(rt.alloc(), &["rooms", id])?;
     let query = Query::check(rt.alloc(), RawQuery::Document(key))?;
     check_shelf(rt, &query, wanted)
 }

@@ -1,11 +1,16 @@
-//! The tests of answers of queries.
+//! The tests of queries and of their answers.
 //!
-//! It has tests and nothing else. They stand apart since a crate with tests is proved twice, so `query_engine` has none, and
-//! is tried through what it exports: `answers` asks a `Shelf`, a store of documents in memory, what the backend would
-//! answer. A test function owns one value, and hands it on by reference.
+//! It has tests and nothing else. They stand apart since a crate with tests is proved twice, so `queries` and `query_engine`
+//! have none, and are tried through what they export: `matching` asks which documents an operator finds, in what order texts
+//! stand, and which rules a query may break; `answers` asks a `Shelf`, a store of documents in memory, what the backend would
+//! answer. What both need stands in `fixtures`. A test function owns one value, and hands it on by reference.
 #![tactic(auto)]
 
 #[cfg(test)]
 mod answers;
+#[cfg(test)]
+mod fixtures;
+#[cfg(test)]
+mod matching;
 #[cfg(test)]
 mod shelf;

@@ -12,6 +12,45 @@ use std::process::Abort;
 use std::test::Fail;
 use value_model::{DocRef, DocState, Fields, Kind, Value};
 
+/// Operators with a number as operand, and which of the six documents they find.
+static COMPARISONS: [(Operator, i64, [bool; 6]); 7] = [
+    (
+        Operator::Equal,
+        1,
+        [false, true, false, false, false, false],
+    ),
+    (
+        Operator::LessThan,
+        2,
+        [false, true, false, false, false, false],
+    ),
+    (
+        Operator::LessThanOrEqual,
+        2,
+        [false, true, true, false, false, false],
+    ),
+    (
+        Operator::GreaterThan,
+        1,
+        [false, false, true, false, false, false],
+    ),
+    (
+        Operator::GreaterThanOrEqual,
+        1,
+        [false, true, true, false, false, false],
+    ),
+    (
+        Operator::NotEqual,
+        1,
+        [false, false, true, true, true, false],
+    ),
+    (
+        Operator::ArrayContains,
+        1,
+        [false, false, false, false, true, false],
+    ),
+];
+
 fn null() -> Value {
     Value { kind: Kind::Null }
 }
@@ -119,43 +158,7 @@ fn check_operator(
 
 #[test]
 fn comparisons(rt: HostRuntime) -> Result<(), Fail> {
-    for (op, operand, wanted) in [
-        (
-            Operator::Equal,
-            1,
-            [false, true, false, false, false, false],
-        ),
-        (
-            Operator::LessThan,
-            2,
-            [false, true, false, false, false, false],
-        ),
-        (
-            Operator::LessThanOrEqual,
-            2,
-            [false, true, true, false, false, false],
-        ),
-        (
-            Operator::GreaterThan,
-            1,
-            [false, false, true, false, false, false],
-        ),
-        (
-            Operator::GreaterThanOrEqual,
-            1,
-            [false, true, true, false, false, false],
-        ),
-        (
-            Operator::NotEqual,
-            1,
-            [false, false, true, true, true, false],
-        ),
-        (
-            Operator::ArrayContains,
-            1,
-            [false, false, false, false, true, false],
-        ),
-    ] {
+    for (op, operand, wanted) in COMPARISONS {
         check_operator(&rt, op, number(operand), wanted)?;
     }
     Ok(())

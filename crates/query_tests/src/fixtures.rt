@@ -1,0 +1,37 @@
+//! What the tests are made of.
+
+use document_keys::{Database, DocumentKey, Segment, Text, check_field_name};
+use std::alloc::Global;
+use std::test::Fail;
+use value_model::{Fields, Kind, Value};
+
+pub(crate) fn root(alloc: Global) -> Result<Database, Fail> {
+    Ok(Database::read(alloc, "projects/demo/databases/(default)")?)
+}
+
+/// The key of these segments.
+pub(crate) fn key(alloc: Global, texts: &[&str]) -> Result<DocumentKey, Fail> {
+    let mut segments = Vec::new(alloc);
+    for text in texts {
+        segments.push(Segment::read(alloc, text)?)?;
+    }
+    Ok(DocumentKey::from_segments(segments).ok_or("pairs of segments")?)
+}
+
+pub(crate) fn number(number: i64) -> Value {
+    Value {
+        kind: Kind::Integer(number),
+    }
+}
+
+/// Puts the value at the name, if that is a field's name.
+pub(crate) fn put(
+    alloc: Global,
+    fields: &mut Fields,
+    name: &str,
+    value: Value,
+) -> Result<(), Fail> {
+    check_field_name(name)?;
+    let name = Text::from_str(alloc, name)?;
+    Ok(fields.put(alloc, name, value)?)
+}
