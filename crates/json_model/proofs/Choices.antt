@@ -1,5 +1,5 @@
 -- The one alternative of an object without faults.
-use Rattle.std.proofs.Common.{◌≡◌, ◌≢◌, ℕ, List, [], ◌∷◌, length, Bool, true, false, not, ◌&&◌, ◌||◌, cond, codes, refl, sym, ap, subst, ◌∙◌}
+use Rattle.std.proofs.Common.{◌≡◌, ◌≢◌, ℕ, ◌-◌, List, [], ◌∷◌, length, Bool, true, false, not, ◌&&◌, ◌||◌, cond, codes, refl, sym, ap, subst, ◌∙◌, arith}
 use Rattle.std.specs.Bool.{if◌then◌else◌}
 use Rattle.serde_json.specs.Data.{Data as Json, Members, no_members, member}
 use Rattle.json_model.specs.declared.place.Object.{Object}
@@ -89,8 +89,8 @@ chosen_clean o limit kind whole names (member l e ms) k d clean is =
 pub choice_clean : (o : Origin) (kind : Object) (ms : Members) (k : List ℕ) (d : Json) → AreClean o kind ms → chosen kind ms ≡ (k, d) ∷ [] → IsClean o (member_place (refined kind ms) k) d
 choice_clean o kind ms k d (limit, name, room, clean) is =
     let inside = sound o limit kind name ms clean in
-    let left = levels_inside (refined kind ms) limit inside.levels in
-    (left, k, levels_few (refined kind ms) limit inside.levels room, chosen_clean o left kind ms (required (refined kind ms)) ms k d inside.inside is)
+    let left = levels_inside kind (limit - inside.levels) in
+    (left, k, levels_few kind (limit - inside.levels) (omega arith), chosen_clean o left kind ms (required (refined kind ms)) ms k d inside.inside is)
 
 -- what is chosen is one of the alternatives
 pub chosen_choice : (kind : Object) (ms : Members) (k : List ℕ) (d : Json) → chosen kind ms ≡ (k, d) ∷ [] → is_choice kind k ≡ true

@@ -1,5 +1,5 @@
 -- A tree is of the form exactly where it has no fault.
-use Rattle.std.proofs.Common.{◌≡◌, ◌⊎◌, ℕ, ◌≤◌, List, [], ◌∷◌, ◌++◌, Bool, true, false, nat_lt, codes, refl, sym, ap, subst, inl, inr, arith}
+use Rattle.std.proofs.Common.{◌≡◌, ◌⊎◌, ℕ, ◌-◌, ◌≤◌, List, [], ◌∷◌, ◌++◌, Bool, true, false, nat_lt, codes, refl, sym, ap, subst, inl, inr, arith}
 use borrow.Author.Tests.{ltb-true}
 use Rattle.std.specs.Bool.{if◌then◌else◌}
 use Rattle.serde_json.specs.Data.{Data as Json, null, boolean, number, string, array, object as an_object, Members, no_members, member, Items, no_items, item}
@@ -116,7 +116,7 @@ mutual
   clean_fits o limit (place.Object kind) name (an_object ms) h =
       let inside = sound o limit kind name ms h in
       let own = own_choice kind name ms inside.own in
-      record { chooses = own.0; no_vector = own.1; levels = inside.levels; takes = inside.takes; room = inside.room; inside = members_fit o (levels_inside (refined kind ms) limit inside.levels) (refined kind ms) (required (refined kind ms)) ms inside.inside }
+      record { chooses = own.0; no_vector = own.1; levels = inside.levels; takes = inside.takes; room = inside.room; inside = members_fit o (levels_inside kind (limit - inside.levels)) (refined kind ms) (required (refined kind ms)) ms inside.inside }
   clean_fits o limit (place.Series kind) name (an_object ms) h = flat_fits o (place.Series kind) name (an_object ms) h
   clean_fits o limit (place.Leaf kind) name (an_object ms) h = flat_fits o (place.Leaf kind) name (an_object ms) h
   clean_fits o limit place.Unsupported name (an_object ms) h = flat_fits o place.Unsupported name (an_object ms) h
@@ -149,8 +149,8 @@ mutual
   fits_clean o limit place.Unknown name (array ds) h = fits_flat o place.Unknown name (array ds) h
   fits_clean o limit place.Ignored name (array ds) h = refl
   fits_clean o limit (place.Object kind) name (an_object ms) h =
-      no_own_faults (own_faults kind name ms) (InLevels (refined kind ms) ms limit (λ inner. MembersFaults o inner (refined kind ms) (required (refined kind ms)) ms)) (choice_own kind name ms h.chooses h.no_vector)
-      (record { levels = h.levels; takes = h.takes; inside = []; are = fit_members o (levels_inside (refined kind ms) limit h.levels) (refined kind ms) (required (refined kind ms)) ms h.inside; is = ap (λ (l : List JsonFault). l ++ []) (sym (none_deep limit h.levels h.room)) })
+      no_own_faults (own_faults kind name ms) (InLevels (refined kind ms) ms limit (λ inner. MembersFaults o (levels_inside kind inner) (refined kind ms) (required (refined kind ms)) ms)) (choice_own kind name ms h.chooses h.no_vector)
+      (record { levels = h.levels; takes = h.takes; inside = []; are = fit_members o (levels_inside kind (limit - h.levels)) (refined kind ms) (required (refined kind ms)) ms h.inside; is = ap (λ (l : List JsonFault). l ++ []) (sym (none_deep limit h.levels h.room)) })
   fits_clean o limit (place.Series kind) name (an_object ms) h = absurd h
   fits_clean o limit (place.Leaf kind) name (an_object ms) h = fits_flat o (place.Leaf kind) name (an_object ms) h
   fits_clean o limit place.Unsupported name (an_object ms) h = absurd h

@@ -1,5 +1,5 @@
 -- A tree has one list of faults at each place.
-use Rattle.std.proofs.Common.{◌≡◌, ◌∙◌, inl, inr, ℕ, List, [], ◌∷◌, ◌++◌, length, true, false, Option, Some, refl, sym, ap, subst}
+use Rattle.std.proofs.Common.{◌≡◌, ◌∙◌, inl, inr, ℕ, ◌-◌, List, [], ◌∷◌, ◌++◌, length, true, false, Option, Some, refl, sym, ap, subst}
 use Rattle.document_keys.specs.Names.{Root}
 use Rattle.document_keys.specs.Paths.{SpellsPath}
 use Rattle.document_keys.proofs.Spelled.{spells_one}
@@ -40,7 +40,7 @@ takes_one _ ms a b x y = x ∙ sym y
 in_levels_one : (kind : Object) (ms : Members) (limit : ℕ) (Inside : ℕ → List JsonFault → Type 0) → ((inner : ℕ) → IsOne (Inside inner)) → IsOne (InLevels kind ms limit Inside)
 in_levels_one kind ms limit Inside inside a b x y =
     let levels = takes_one kind ms x.levels y.levels x.takes y.takes in
-    let same = inside (levels_inside kind limit y.levels) x.inside y.inside (subst (λ (n : ℕ). Inside (levels_inside kind limit n) x.inside) levels x.are) y.are in
+    let same = inside (limit - y.levels) x.inside y.inside (subst (λ (n : ℕ). Inside (limit - n) x.inside) levels x.are) y.are in
     x.is ∙ (λ i. depth_faults limit (levels i) ++ same i) ∙ sym y.is
 
 in_object_one : (p : Place) (Inside : Object → List JsonFault → Type 0) (Other : List JsonFault → Type 0) → ((kind : Object) → IsOne (Inside kind)) → IsOne Other → IsOne (InObject p Inside Other)
@@ -82,9 +82,9 @@ mutual
       in_series_one p (λ kind. OwnOr (own_list_faults kind name ds) (ItemsFaults o limit kind name ds)) (FlatFaults o p name (array ds))
       (λ kind. own_or_one (own_list_faults kind name ds) (ItemsFaults o limit kind name ds) (items_one o limit kind name ds)) (flat_one o p name (array ds)) a b x y
   faults_one o limit p name (an_object ms) a b x y =
-      in_object_one p (λ kind. OwnOr (own_faults kind name ms) (InLevels (refined kind ms) ms limit (λ inner. MembersFaults o inner (refined kind ms) (required (refined kind ms)) ms))) (FlatFaults o p name (an_object ms))
-      (λ kind. own_or_one (own_faults kind name ms) (InLevels (refined kind ms) ms limit (λ inner. MembersFaults o inner (refined kind ms) (required (refined kind ms)) ms))
-      (in_levels_one (refined kind ms) ms limit (λ inner. MembersFaults o inner (refined kind ms) (required (refined kind ms)) ms) (λ inner. members_one o inner (refined kind ms) (required (refined kind ms)) ms))) (flat_one o p name (an_object ms)) a b x y
+      in_object_one p (λ kind. OwnOr (own_faults kind name ms) (InLevels (refined kind ms) ms limit (λ inner. MembersFaults o (levels_inside kind inner) (refined kind ms) (required (refined kind ms)) ms))) (FlatFaults o p name (an_object ms))
+      (λ kind. own_or_one (own_faults kind name ms) (InLevels (refined kind ms) ms limit (λ inner. MembersFaults o (levels_inside kind inner) (refined kind ms) (required (refined kind ms)) ms))
+      (in_levels_one (refined kind ms) ms limit (λ inner. MembersFaults o (levels_inside kind inner) (refined kind ms) (required (refined kind ms)) ms) (λ inner. members_one o (levels_inside kind inner) (refined kind ms) (required (refined kind ms)) ms))) (flat_one o p name (an_object ms)) a b x y
 
   items_one : (o : Origin) (limit : ℕ) (kind : Series) (name : List ℕ) (ds : Items) → IsOne (ItemsFaults o limit kind name ds)
   items_one o limit kind name no_items a b x y = x ∙ sym y

@@ -1,5 +1,5 @@
 -- What stands in a tree without faults.
-use Rattle.std.proofs.Common.{rules, ◌≡◌, ◌⊎◌, ℕ, ◌≤◌, List, [], ◌∷◌, ◌++◌, Bool, true, false, not, ◌&&◌, ◌||◌, cond, nat_lt, Option, Some, None, refl, sym, ap, subst, inl, inr, ◌∙◌, Bor, IfSome, IsSome, option_map, Ordering, Less, Equal, Greater, arith}
+use Rattle.std.proofs.Common.{rules, ◌≡◌, ◌⊎◌, ℕ, ◌-◌, ◌≤◌, List, [], ◌∷◌, ◌++◌, Bool, true, false, not, ◌&&◌, ◌||◌, cond, nat_lt, Option, Some, None, refl, sym, ap, subst, inl, inr, ◌∙◌, Bor, IfSome, IsSome, option_map, Ordering, Less, Equal, Greater, arith}
 use borrow.Author.Tests.{ltb-false}
 use Rattle.std.specs.Bool.{if◌then◌else◌}
 use Rattle.std.specs.Option.{option_and_then}
@@ -45,10 +45,9 @@ no_missing kind [] e = refl
 no_missing kind (name ∷ names) e = cc
 
 -- inside an object there are no more levels than a value has
-pub levels_few : (kind : Object) (limit levels : ℕ) → limit ≤ max_nesting → levels_inside kind limit levels ≤ max_nesting
-levels_few object.FieldFilter limit levels room = omega arith
-levels_few object.ListFilter limit levels room = omega arith
-levels_few _ limit levels room = omega arith
+pub levels_few : (kind : Object) (left : ℕ) → left ≤ max_nesting → levels_inside kind left ≤ max_nesting
+levels_few object.FieldFilter left room = omega arith
+levels_few _ left room = room
 
 -- ---- objects and lists
 
@@ -76,7 +75,7 @@ pub record Sound (o : Origin) (limit : ℕ) (kind : Object) (name : List ℕ) (m
   pub levels : ℕ
   pub takes : Takes (refined kind ms) ms levels
   pub room : levels ≤ limit
-  pub inside : MembersFaults o (levels_inside (refined kind ms) limit levels) (refined kind ms) (required (refined kind ms)) ms []
+  pub inside : MembersFaults o (levels_inside kind (limit - levels)) (refined kind ms) (required (refined kind ms)) ms []
 
 room_of : (limit levels : ℕ) → depth_faults limit levels ≡ [] → levels ≤ limit
 room_of limit levels e = by (nat_lt limit levels) refl e
@@ -88,14 +87,14 @@ room_of limit levels e = by (nat_lt limit levels) refl e
 pub sound : (o : Origin) (limit : ℕ) (kind : Object) (name : List ℕ) (ms : Members) → FaultsAt o limit (place.Object kind) name (an_object ms) [] → Sound o limit kind name ms
 unfolding FaultsAt
 sound o limit kind name ms h =
-    let parts = no_own (own_faults kind name ms) (InLevels (refined kind ms) ms limit (λ inner. MembersFaults o inner (refined kind ms) (required (refined kind ms)) ms)) h in
+    let parts = no_own (own_faults kind name ms) (InLevels (refined kind ms) ms limit (λ inner. MembersFaults o (levels_inside kind inner) (refined kind ms) (required (refined kind ms)) ms)) h in
     let at = parts.1 in
     record {
       own = parts.0;
       levels = at.levels;
       takes = at.takes;
       room = room_of limit at.levels (nothing_first (depth_faults limit at.levels) at.inside at.is);
-      inside = subst (MembersFaults o (levels_inside (refined kind ms) limit at.levels) (refined kind ms) (required (refined kind ms)) ms) (nothing_last (depth_faults limit at.levels) at.inside at.is) at.are;
+      inside = subst (MembersFaults o (levels_inside kind (limit - at.levels)) (refined kind ms) (required (refined kind ms)) ms) (nothing_last (depth_faults limit at.levels) at.inside at.is) at.are;
     }
 
 pub sound_list : (o : Origin) (limit : ℕ) (kind : Series) (name : List ℕ) (ds : Items) → FaultsAt o limit (place.Series kind) name (array ds) [] → (own_list_faults kind name ds ≡ []) × ItemsFaults o limit kind name ds []
@@ -168,8 +167,8 @@ pub given_clean : (o : Origin) (kind : Object) (ms : Members) (k : List ℕ) (d 
 given_clean o kind ms k d (limit, name, room, clean) is =
     let there = given_some (get_member k ms) d is in
     let inside = sound o limit kind name ms clean in
-    let left = levels_inside (refined kind ms) limit inside.levels in
-    (left, k, levels_few (refined kind ms) limit inside.levels room, member_clean o left (refined kind ms) (required (refined kind ms)) ms k d inside.inside there.0 there.1)
+    let left = levels_inside kind (limit - inside.levels) in
+    (left, k, levels_few kind (limit - inside.levels) (omega arith), member_clean o left (refined kind ms) (required (refined kind ms)) ms k d inside.inside there.0 there.1)
 
 pub given_all : (o : Origin) (kind : Object) (ms : Members) (k : List ℕ) (found : Option (Bor Value)) → AreClean o kind ms → option_map (λ v. view v.now) found ≡ given k ms → IfSome found (λ v. IsClean o (member_place (refined kind ms) k) (view v.now))
 given_all o kind ms k None clean is = tt
@@ -284,7 +283,7 @@ there_from o limit kind names (member l e ms) k up clean among =
 pub required_there : (o : Origin) (kind : Object) (ms : Members) (k : List ℕ) (found : Option (Bor Value)) → AreClean o kind ms → option_map (λ v. view v.now) found ≡ given k ms → is_among k (required (refined kind ms)) ≡ true → IsSome found
 required_there o kind ms k found (limit, name, room, clean) is among =
     let inside = sound o limit kind name ms clean in
-    shown found (subst IsSome (sym is) (there_from o (levels_inside (refined kind ms) limit inside.levels) (refined kind ms) (required (refined kind ms)) ms k (required_ascending (refined kind ms)) inside.inside among))
+    shown found (subst IsSome (sym is) (there_from o (levels_inside kind (limit - inside.levels)) (refined kind ms) (required (refined kind ms)) ms k (required_ascending (refined kind ms)) inside.inside among))
   where
     shown : (o : Option (Bor Value)) → IsSome (option_map (λ v. view v.now) o) → IsSome o
     shown None h = h

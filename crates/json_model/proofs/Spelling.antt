@@ -1,5 +1,5 @@
 -- A tree without faults spells what is to stand there.
-use Rattle.std.proofs.Common.{◌≡◌, ◌⊎◌, ℕ, List, [], ◌∷◌, Bool, true, false, not, ◌&&◌, cond, codes, Option, Some, None, refl, sym, ap, subst, inl, inr, ◌∙◌, Ordering, Less, Equal, Greater}
+use Rattle.std.proofs.Common.{◌≡◌, ◌⊎◌, ℕ, ◌-◌, List, [], ◌∷◌, Bool, true, false, not, ◌&&◌, cond, codes, Option, Some, None, refl, sym, ap, subst, inl, inr, ◌∙◌, Ordering, Less, Equal, Greater}
 use Rattle.std.specs.Ordering.{nat_cmp, match_ordering}
 use Rattle.std.specs.Cmp.Lexicographic.{slice_cmp}
 use Rattle.document_keys.proofs.Order.{texts_compute}
@@ -189,7 +189,7 @@ mutual
   fits_spelled o limit place.Unsupported (json.array ds) h = absurd h
   fits_spelled o limit place.Unknown (json.array ds) h = tt
   fits_spelled o limit place.Ignored (json.array ds) h = tt
-  fits_spelled o limit (place.Object kind) (json.object ms) h = object_spelled kind ms h.chooses (members_spelled o (levels_inside (refined kind ms) limit h.levels) (refined kind ms) (required (refined kind ms)) ms h.inside)
+  fits_spelled o limit (place.Object kind) (json.object ms) h = object_spelled kind ms h.chooses (members_spelled o (levels_inside kind (limit - h.levels)) (refined kind ms) (required (refined kind ms)) ms h.inside)
   fits_spelled o limit (place.Series kind) (json.object ms) h = absurd h
   fits_spelled o limit (place.Leaf kind) (json.object ms) h = leaf_spelled o kind (json.object ms) h
   fits_spelled o limit place.Unsupported (json.object ms) h = absurd h

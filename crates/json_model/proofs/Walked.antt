@@ -1,5 +1,5 @@
 -- The faults of a tree, as the walk through it finds them.
-use Rattle.std.proofs.Common.{rules, ◌≡◌, ◌≢◌, ℕ, ◌+◌, ◌<◌, suc, not, List, [], ◌∷◌, ◌++◌, map, length, take, get_or, Bor, String, Bool, true, false, Option, Some, None, Result, Ok, Err, IfOk, refl, sym, ap, subst, inl, inr, ◌∙◌, ◌⊎◌, append-nil, append_assoc, arith}
+use Rattle.std.proofs.Common.{rules, ◌≡◌, ◌≢◌, ℕ, ◌+◌, ◌-◌, ◌<◌, suc, not, List, [], ◌∷◌, ◌++◌, map, length, take, get_or, Bor, String, Bool, true, false, Option, Some, None, Result, Ok, Err, IfOk, refl, sym, ap, subst, inl, inr, ◌∙◌, ◌⊎◌, append-nil, append_assoc, arith}
 use Rattle.std.specs.Bool.{◌==◌}
 use Rattle.std.proofs.lemmas.Bool.Decides.{eqb_tells}
 use Rattle.std.specs.String.{string_bytes}
@@ -44,7 +44,7 @@ own_or own Inside fault is = record { faults = own; are = own_first own Inside f
 pub or_inside : (own : List JsonFault) (Inside : List JsonFault → Type 0) (found : Option JsonFault) → None ≡ first_of_least own → FirstOf Inside found → FirstOf (OwnOr own Inside) found
 or_inside own Inside found is first = record { faults = first.faults; are = rw (none_first own is) first.are; first = first.first }
 
-pub in_levels : (kind : Object) (ms : Members) (limit inner levels : ℕ) (Inside : ℕ → List JsonFault → Type 0) (deep found new : Option JsonFault) → Takes kind ms levels → deep ≡ first_of_least (depth_faults limit levels) → inner ≡ levels_inside kind limit levels
+pub in_levels : (kind : Object) (ms : Members) (limit inner levels : ℕ) (Inside : ℕ → List JsonFault → Type 0) (deep found new : Option JsonFault) → Takes kind ms levels → deep ≡ first_of_least (depth_faults limit levels) → inner ≡ limit - levels
     → FirstOf (Inside inner) found → new ≡ better deep found → FirstOf (InLevels kind ms limit Inside) new
 in_levels kind ms limit inner levels Inside deep found new takes is_deep is_inner first is_new = record {
   faults = depth_faults limit levels ++ first.faults;
@@ -55,7 +55,7 @@ in_levels kind ms limit inner levels Inside deep found new takes is_deep is_inne
 module _ (o : Origin) (limit : ℕ) (name : List ℕ) (found : Option JsonFault) where
   -- what is inside an object that has no fault of its own
   abbrev pub Within : Members → Object → List JsonFault → Type 0
-  Within ms kind = InLevels (refined kind ms) ms limit (λ inner. MembersFaults o inner (refined kind ms) (required (refined kind ms)) ms)
+  Within ms kind = InLevels (refined kind ms) ms limit (λ inner. MembersFaults o (levels_inside kind inner) (refined kind ms) (required (refined kind ms)) ms)
 
   pub at_object : (d : Tree) (ms : Members) (kind : Object) → d ≡ an_object ms
       → FirstOf (OwnOr (own_faults kind name ms) (Within ms kind)) found → FirstOf (FaultsAt o limit (place.Object kind) name d) found

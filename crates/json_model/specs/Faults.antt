@@ -79,11 +79,10 @@ Takes _ ms n = n ≡ 0
 abbrev pub max_nesting : ℕ
 max_nesting = 20
 
--- How many levels are left inside an object that takes up so many. The operand of a filter nests as deep as any value may.
-abbrev pub levels_inside : Object → ℕ → ℕ → ℕ
-levels_inside object.FieldFilter limit levels = max_nesting
-levels_inside object.ListFilter limit levels = max_nesting
-levels_inside _ limit levels = limit - levels
+-- How many levels there are inside an object where so many are left. The operand of a filter nests as deep as any value may.
+abbrev pub levels_inside : Object → ℕ → ℕ
+levels_inside object.FieldFilter left = max_nesting
+levels_inside _ left = left
 
 -- an object that takes up more levels than there are is too deep
 abbrev pub depth_faults : ℕ → ℕ → List JsonFault
@@ -94,7 +93,7 @@ pub record InLevels (kind : Object) (ms : Members) (limit : ℕ) (Inside : ℕ �
   pub levels : ℕ
   pub takes : Takes kind ms levels
   pub inside : List JsonFault
-  pub are : Inside (levels_inside kind limit levels) inside
+  pub are : Inside (limit - levels) inside
   pub is : faults ≡ depth_faults limit levels ++ inside
 
 -- an object or a list where one is to stand, and any tree elsewhere
@@ -137,7 +136,7 @@ unfoldable mutual
   FaultsAt o limit place name (array ds) faults =
       InSeries place (λ kind. OwnOr (own_list_faults kind name ds) (ItemsFaults o limit kind name ds)) (FlatFaults o place name (array ds)) faults
   FaultsAt o limit place name (an_object ms) faults =
-      InObject place (λ kind. OwnOr (own_faults kind name ms) (InLevels (refined kind ms) ms limit (λ inner. MembersFaults o inner (refined kind ms) (required (refined kind ms)) ms)))
+      InObject place (λ kind. OwnOr (own_faults kind name ms) (InLevels (refined kind ms) ms limit (λ inner. MembersFaults o (levels_inside kind inner) (refined kind ms) (required (refined kind ms)) ms)))
       (FlatFaults o place name (an_object ms)) faults
 
   -- of the items of a list of that name

@@ -1,5 +1,5 @@
 -- Which trees are of the form, by the same tables as their faults, and with none of these.
-use Rattle.std.specs.Prelude.{◌≡◌, ◌⊎◌, ℕ, ◌≤◌, List, [], true, false}
+use Rattle.std.specs.Prelude.{◌≡◌, ◌⊎◌, ℕ, ◌-◌, ◌≤◌, List, [], true, false}
 use Rattle.serde_json.specs.Data.{Data as Json, null, boolean, number, string, array, object as an_object, Members, no_members, member, Items, no_items, item}
 use Rattle.document_keys.specs.Paths.{IsFieldName}
 use Rattle.json_model.specs.declared.side.Side.TheVariants.{Backend}
@@ -28,7 +28,7 @@ pub record FitsObject (kind : Object) (ms : Members) (limit : ℕ) (Inside : ℕ
   pub levels : ℕ
   pub takes : Takes (refined kind ms) ms levels
   pub room : levels ≤ limit
-  pub inside : Inside (levels_inside (refined kind ms) limit levels)
+  pub inside : Inside (limit - levels)
 
 abbrev pub FitsInObject : Place → (Object → Type 0) → Type 0 → Type 0
 FitsInObject (place.Object kind) Inside Other = Inside kind
@@ -52,7 +52,7 @@ unfoldable mutual
   Fits o limit place (string text) = FitsFlat o place (string text)
   Fits o limit place (array ds) = FitsInSeries place (λ kind. (lacks_only kind ds ≡ false) × ItemsFit o limit kind ds) (FitsFlat o place (array ds))
   Fits o limit place (an_object ms) =
-      FitsInObject place (λ kind. FitsObject kind ms limit (λ inner. MembersFit o inner (refined kind ms) (required (refined kind ms)) ms)) (FitsFlat o place (an_object ms))
+      FitsInObject place (λ kind. FitsObject kind ms limit (λ inner. MembersFit o (levels_inside kind inner) (refined kind ms) (required (refined kind ms)) ms)) (FitsFlat o place (an_object ms))
 
   -- each item is
   pub ItemsFit : Origin → ℕ → Series → Items → Type 0

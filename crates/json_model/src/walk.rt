@@ -88,13 +88,13 @@ fn count_levels(alloc: Global, object: Object, members: &Map<String, Json>) -> R
     }
 }
 
-/// How many levels are left inside an object that takes up so many. The operand of a filter nests as deep as any value may.
-fn levels_inside(object: Object, limit: u64, levels: u64) -> u64
-    ensures { result ≡ levels_inside_of object limit levels }
+/// How many levels there are inside an object where so many are left. The operand of a filter nests as deep as any value may.
+fn levels_inside(object: Object, left: u64) -> u64
+    ensures { result ≡ levels_inside_of object left }
 {
     match object {
-        Object::FieldFilter | Object::ListFilter => MAX_NESTING,
-        _ => limit.saturating_sub(levels),
+        Object::FieldFilter => MAX_NESTING,
+        _ => left,
     }
 }
 
@@ -132,11 +132,12 @@ pub fn find_fault(
             if let Some(fault) = own_fault(alloc, object, name, members)? {
                 return Ok(Some(fault));
             }
-            let object = refined(object, members);
-            let levels = count_levels(alloc, object, members)?;
+            let form = refined(object, members);
+            let levels = count_levels(alloc, form, members)?;
             let deep = depth_fault(limit, levels);
-            let inner = levels_inside(object, limit, levels);
-            let inside = find_in_members(alloc, setting, inner, object, members)?;
+            let left = limit.saturating_sub(levels);
+            let inner = levels_inside(object, left);
+            let inside = find_in_members(alloc, setting, inner, form, members)?;
             Ok(better(deep, inside))
         }
         Json::Array(items) => {

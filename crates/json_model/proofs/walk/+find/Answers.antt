@@ -7,7 +7,7 @@ use Rattle.serde_json.proofs.Views.{view-Array, view-Object}
 use Rattle.json_model.specs.Members.{is_left_out}
 use Rattle.json_model.specs.Places.{required}
 use Rattle.json_model.specs.Ranks.{better}
-use Rattle.json_model.specs.Faults.{FirstOf, InLevels, MembersFaults, own_faults, own_list_faults}
+use Rattle.json_model.specs.Faults.{FirstOf, InLevels, MembersFaults, levels_inside, own_faults, own_list_faults}
 use Rattle.json_model.proofs.Walked.{own_in_object, own_in_series, or_inside, in_levels, at_object, at_series, flat_object, flat_list, flat_scalar, names_of, if_ok, view_null, view_boolean, view_number, view_string, items_start, items_step, members_skip, members_step, members_end}
 use Rattle.json_model.proofs.walk.+find.Goals as goal
 
@@ -24,9 +24,11 @@ pub find_fault-returns-in_ok-inside-in-Object : goal.find_fault-returns-in_ok-in
 find_fault-returns-in_ok-inside-in-Object t c = rw c.in-Object-place.is
     (at_object c.args.setting.now c.args.limit c.args.name.now _ _ (members_view c.in-Object.members.entries) c.in-Object-place.object (ap view c.in-Object.is ∙ view-Object c.in-Object.members)
     (or_inside (own_faults c.in-Object-place.object c.args.name.now (members_view c.in-Object.members.entries)) _ _ (sym c.in_default-2.is ∙ c.in_ok-fault-in-Object.ensures)
-    (subst (λ kind. FirstOf (InLevels kind (members_view c.in-Object.members.entries) c.args.limit (λ inner. MembersFaults c.args.setting.now inner kind (required kind) (members_view c.in-Object.members.entries))) c.better.result) c.refined-object.ensures
-    (in_levels c.refined-object.result (members_view c.in-Object.members.entries) c.args.limit c.levels_inside-inner.result c.in_ok-levels-in-Object.levels _ c.depth_fault-deep.result c.in_ok-inside-in-Object.inside c.better.result
-    c.in_ok-levels-in-Object.ensures c.depth_fault-deep.ensures c.levels_inside-inner.ensures c.in_ok-inside-in-Object.ensures c.better.ensures))))
+    (subst (λ kind. FirstOf (InLevels kind (members_view c.in-Object.members.entries) c.args.limit (λ inner. MembersFaults c.args.setting.now (levels_inside c.in-Object-place.object inner) kind (required kind) (members_view c.in-Object.members.entries))) c.better.result) c.refined-form.ensures
+    (in_levels c.refined-form.result (members_view c.in-Object.members.entries) c.args.limit c.saturating_sub-left.result c.in_ok-levels-in-Object.levels _ c.depth_fault-deep.result c.in_ok-inside-in-Object.inside c.better.result
+    c.in_ok-levels-in-Object.ensures c.depth_fault-deep.ensures c.saturating_sub-left.ensures
+    (subst (λ n. FirstOf (MembersFaults c.args.setting.now n c.refined-form.result (required c.refined-form.result) (members_view c.in-Object.members.entries)) c.in_ok-inside-in-Object.inside) c.levels_inside-inner.ensures c.in_ok-inside-in-Object.ensures)
+    c.better.ensures))))
 
 pub find_fault-returns-in_default-place : goal.find_fault-returns-in_default-place
 find_fault-returns-in_default-place t c =
