@@ -1,9 +1,9 @@
-//! The tests of queries and of their answers.
+//! The tests of queries and of their answers, and the store that they ask.
 //!
-//! It has tests and nothing else. They stand apart since a crate with tests is proved twice, so `queries` and `query_engine`
-//! have none, and are tried through what they export: `matching` asks which documents an operator finds, in what order texts
-//! stand, and which rules a query may break; `answers` asks a `Shelf`, a store of documents in memory, what the backend would
-//! answer. What both need stands in `fixtures`. A test function owns one value, and hands it on by reference.
+//! They stand apart since a crate with tests is proved twice, so `queries` and `query_engine` have none, and are tried through
+//! what they export: `matching` asks which documents an operator finds, in what order texts stand, and which rules a query
+//! may break; `answers` asks a `Shelf`, a store of documents in memory, what the backend would answer. What both need stands
+//! in `fixtures`. A test function owns one value, and hands it on by reference.
 #![tactic(auto)]
 
 #[cfg(test)]
@@ -12,5 +12,6 @@ mod answers;
 mod fixtures;
 #[cfg(test)]
 mod matching;
-#[cfg(test)]
 mod shelf;
+
+pub use shelf::{Held, Shelf};

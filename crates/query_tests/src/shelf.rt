@@ -9,14 +9,14 @@ use value_model::{DocRef, DocState, Documents, Fields};
 
 /// A document that is held.
 #[derive(Drop)]
-pub(crate) struct Held {
+pub struct Held {
     pub key: DocumentKey,
     pub fields: Fields,
 }
 
 /// Documents; of two with one key the first counts.
 #[derive(Drop)]
-pub(crate) struct Shelf {
+pub struct Shelf {
     pub documents: Vec<Held>,
 }
 
