@@ -1,27 +1,25 @@
 -- the keys of a collection, found along a table
-use Rattle.std.proofs.Common.{◌≡◌, ◌↔◌, ◌⊎◌, inl, inr, ℕ, zero, suc, List, [], ◌∷◌, ◌++◌, get_or, Option, Some, None, Ordering, Less, refl, sym, ap, subst, arith}
+use Rattle.std.proofs.Common.{◌≡◌, ◌↔◌, ◌⊎◌, inl, inr, ℕ, List, [], ◌∷◌, ◌++◌, ◌<◌, length, get_or, Option, Some, None, Less, refl, sym, ap, subst, arith}
 use Rattle.std.specs.BTreeMap.{BTreeMap, IsOrdered}
-use Rattle.std.specs.Cmp.Lexicographic.{slice_cmp}
 use Rattle.std.specs.List.{All, AllPairs, Contains}
 use Rattle.std.specs.List.Sorted.{IsStrictlySortedBy}
 use Rattle.std.specs.Map.{keys_of, lookup}
-use Rattle.std.specs.Option.{IsSome, option_and_then, unwrap_or}
-use Rattle.std.specs.Ordering.{nat_cmp}
+use Rattle.std.specs.Option.{is_some, IsSome, option_and_then, unwrap_or}
 use Rattle.std.proofs.lemmas.List.{get_or-map, get_or_default, length-map}
 use Rattle.std.proofs.lemmas.List.Elements.{All-contains, All-head, All-tail, Contains-append_cases, Contains-append_left, Contains-append_right, Contains-push, Contains-push_cases}
 use Rattle.std.proofs.lemmas.List.Quantifiers.{all_pairs_push}
 use Rattle.std.proofs.lemmas.Map.Views.{All-found, All-after_first, Contains-from_lookup}
 use Rattle.document_keys.specs.KeySet.{is_key}
+use Rattle.document_keys.specs.Names.{IsSegment}
 use Rattle.document_keys.specs.Order.{PathBefore}
 use Rattle.document_keys.proofs.Order.{paths_compute}
 use Rattle.value_model.specs.Documents.{IsIn}
 use Rattle.mutation_queue.proofs.Tables.{one_key}
 use Rattle.overlays.specs.declared.slot.Slot.{Slot}
 use Rattle.overlays.specs.declared.slot.Slot.TheVariants.{Reserved, Laid}
-use Rattle.overlays.specs.Table.{Table, document_in, laid, shown}
-
-abbrev order : List (List ℕ) → List (List ℕ) → Ordering
-order = slice_cmp (slice_cmp nat_cmp)
+use Rattle.overlays.specs.Ranges.{IsBelow}
+use Rattle.overlays.specs.Table.{HasKeysOnly, Table, document_in, laid, shown}
+use Rattle.overlays.proofs.Ranges.{IsFrom, between, from_least, in_part, in_table, only, order, part, part_from, part_sorted}
 
 -- the key of a document of the collection, among these places
 abbrev pub Listed : List (List ℕ) → Table → List (List ℕ) → Type 0
@@ -35,22 +33,20 @@ pub record Listing (collection : List (List ℕ)) (whole left : Table) (keys : L
   pub ascending : AllPairs (λ x y. order x y ≡ Less) keys
   pub before : (q : List (List ℕ)) → Contains keys q → All (λ e. order q e.0 ≡ Less) left
   pub sorted : IsStrictlySortedBy order (keys_of left)
+  pub from : All (λ e. IsFrom collection e.0) left
 
 no_member : {X : Type 0} (x : X) → Contains [] x → ⊥
 no_member x there = absurd (omega (arith, there.1))
 
-only : {X : Type 0} (x y : X) → Contains (x ∷ []) y → x ≡ y
-only x y (zero, below, is) = is
-only x y (suc i, below, is) = absurd (omega arith)
-
-pub all_left : (collection : List (List ℕ)) (whole : Table) (keys : List (List (List ℕ))) → keys ≡ [] → IsStrictlySortedBy order (keys_of whole) → Listing collection whole whole keys
-all_left collection whole keys none sorted = subst (Listing collection whole whole) (sym none) (record {
+pub all_left : (collection : List (List ℕ)) (table whole : Table) (keys : List (List (List ℕ))) → whole ≡ part collection table → keys ≡ [] → IsStrictlySortedBy order (keys_of table) → Listing collection whole whole keys
+all_left collection table whole keys is none sorted = subst (Listing collection whole whole) (sym none) (record {
   found = λ q there. absurd (no_member q there);
   others = λ q is. inr is;
   within = λ q is. is;
   ascending = λ i j d before below. absurd (omega arith);
   before = λ q there. absurd (no_member q there);
-  sorted = sorted;
+  sorted = subst (λ t. IsStrictlySortedBy order (keys_of t)) (sym is) (part_sorted collection table sorted);
+  from = subst (All (λ e. IsFrom collection e.0)) (sym is) (part_from collection table);
 })
 
 further : (collection : List (List ℕ)) (k : List (List ℕ)) (s : Slot) (left : Table) (q : List (List ℕ)) → Listed collection left q → Listed collection ((k, s) ∷ left) q
@@ -86,6 +82,7 @@ module _ (collection : List (List ℕ)) (whole : Table) (k : List (List ℕ)) (s
     ascending = here.ascending;
     before = λ q there. All-tail (λ e. order q e.0 ≡ Less) (k, s) left (here.before q there);
     sorted = sorted_left;
+    from = All-tail (λ e. IsFrom collection e.0) (k, s) left here.from;
   }
 
   -- the key is taken
@@ -103,7 +100,20 @@ module _ (collection : List (List ℕ)) (whole : Table) (k : List (List ℕ)) (s
       | inr same ↦ subst (λ x. All (λ e. order x e.0 ≡ Less) left) same first_before
     ];
     sorted = sorted_left;
+    from = All-tail (λ e. IsFrom collection e.0) (k, s) left here.from;
   })
+
+  -- no key is ahead where the first one isn't below the collection
+  pub none_ahead : ¬ (IsBelow collection k) → (q : List (List ℕ)) → ¬ (Listed collection rest q)
+  none_ahead not_below q listed = elim (first_or collection k s left q (subst (λ t. Listed collection t q) is listed)) [
+    | inl first ↦ not_below (first.1.0 ∷ [], first.1.1)
+    | inr behind ↦
+        let after = All-contains (λ e. order k e.0 ≡ Less) left (q, behind.0) first_before behind.1 in
+        not_below (between collection ((0 ∷ []) ∷ []) (behind.2.0 ∷ []) k (All-head (λ e. IsFrom collection e.0) (k, s) left here.from) (subst (λ p. order k p ≡ Less) behind.2.1 after))
+  ]
+
+pub none_at_end : (collection : List (List ℕ)) (left : Table) → left ≡ [] → (q : List (List ℕ)) → ¬ (Listed collection left q)
+none_at_end collection left none q ahead = no_member (q, ahead.0) (subst (λ t. Contains t (q, ahead.0)) none ahead.1)
 
 -- at the end the keys are those of the collection's documents
 pub ascending_paths : (keys : List (List (List ℕ))) → AllPairs (λ x y. order x y ≡ Less) keys → AllPairs PathBefore keys
@@ -118,16 +128,21 @@ shown_document : (slot : Slot) → IsSome (document_in slot) → IsSome (unwrap_
 shown_document Reserved some = cc
 shown_document (Laid d) some = some
 
-pub none_left : {collection : List (List ℕ)} {keys : List (List (List ℕ))} (m : BTreeMap (List (List ℕ)) Slot) (left : Table) → IsOrdered order m → left ≡ [] → Listing collection m.entries left keys → (q : List (List ℕ)) → Contains keys q ↔ (IsIn collection q × IsSome (shown m.entries q None))
-none_left {collection} {keys} m left ordered none is q = (
+pub none_left : {collection : List (List ℕ)} {keys : List (List (List ℕ))} (m : BTreeMap (List (List ℕ)) Slot) (whole left : Table) → IsOrdered order m → HasKeysOnly m.entries → whole ≡ part collection m.entries → ((q : List (List ℕ)) → ¬ (Listed collection left q)) → Listing collection whole left keys → (q : List (List ℕ)) → Contains keys q ↔ (IsIn collection q × IsSome (shown m.entries q None))
+none_left {collection} {keys} m whole left ordered only_keys range none is q = (
   λ there.
       let listed = is.found q there in
-      let at = All-contains (λ e. lookup (is_key e.0) m.entries ≡ Some e.1) m.entries (q, listed.0) (All-found paths_compute.total m ordered) listed.1 in
+      let inside = in_table collection m.entries (q, listed.0) (subst (λ t. Contains t (q, listed.0)) range listed.1) in
+      let at = All-contains (λ e. lookup (is_key e.0) m.entries ≡ Some e.1) m.entries (q, listed.0) (All-found paths_compute.total m ordered) inside in
       (listed.2, subst (λ o. IsSome (unwrap_or (option_and_then laid o) None)) (sym at) (shown_document listed.0 listed.3)),
   λ both.
       let slot = some_document m.entries q (lookup (is_key q) m.entries) refl both.1 in
-      elim (is.others q (slot.0, Contains-from_lookup one_key q slot.0 m.entries slot.1, both.0, slot.2)) [
-        | inl there ↦ there
-        | inr ahead ↦ absurd (no_member (q, ahead.0) (subst (λ t. Contains t (q, ahead.0)) none ahead.1))
+      let key = only_keys q (ap is_some slot.1) in
+      let long : 0 < length both.0.0 = (All-contains IsSegment q both.0.0 key.segments (subst (λ p. Contains p both.0.0) (sym both.0.1) (Contains-push collection both.0.0))).long.some in
+      let from : IsFrom collection q = subst (IsFrom collection) (sym both.0.1) (from_least collection both.0.0 long) in
+      let there = in_part collection m.entries (q, slot.0) from (Contains-from_lookup one_key q slot.0 m.entries slot.1) in
+      elim (is.others q (slot.0, subst (λ t. Contains t (q, slot.0)) (sym range) there, both.0, slot.2)) [
+        | inl found ↦ found
+        | inr ahead ↦ absurd (none q ahead)
       ],
 )

@@ -3,14 +3,23 @@ use Rattle.std.proofs.Common.{◌≡◌, ◌∙◌, ℕ, Bool, true, false, cond
 use Rattle.std.specs.Map.{lookup}
 use Rattle.std.specs.Option.{is_some, option_and_then}
 use Rattle.document_keys.specs.KeySet.{is_key}
+use Rattle.document_keys.specs.Names.{IsKey}
 use Rattle.mutation_queue.proofs.Tables.{one_key}
 use Rattle.overlays.specs.declared.slot.Slot.{Slot}
 use Rattle.overlays.specs.declared.slot.Slot.TheVariants.{Reserved}
-use Rattle.overlays.specs.Table.{Table, laid}
+use Rattle.overlays.specs.Table.{HasKeysOnly, Table, laid}
 
 -- the place of a key
 abbrev pub place_of : Table → List (List ℕ) → Option Slot
 place_of table key = lookup (is_key key) table
+
+-- what has a place after a change at one key is the key of a document
+pub only_keys : (old new : Table) (key : List (List ℕ)) (w : Option Slot) → ((q : List (List ℕ)) → place_of new q ≡ cond (is_key key q) w (place_of old q)) → (IsTrue (is_some w) → IsKey key) → HasKeysOnly old → HasKeysOnly new
+only_keys old new key w is of_key were q there = by (is_key key q) refl
+  where
+    by : (b : Bool) → is_key key q ≡ b → IsKey q
+    by true e = subst IsKey (one_key key q e) (of_key (subst (λ o. IsTrue (is_some o)) (is q ∙ ap (λ b. cond b w (place_of old q)) e) there))
+    by false e = were q (subst (λ o. IsTrue (is_some o)) (is q ∙ ap (λ b. cond b w (place_of old q)) e) there)
 
 module _ (old new : List (List ℕ) → Option Slot) (key q : List (List ℕ)) (w : Slot) (is : new q ≡ cond (is_key key q) (Some w) (old q)) where
   -- every place stays

@@ -1,3 +1,4 @@
 pub mod Lent
 pub mod LocalDocument
+pub mod Ranges
 pub mod Table

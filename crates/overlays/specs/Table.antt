@@ -4,6 +4,7 @@ use Rattle.std.specs.Coded.{Coded, coded×, coded_list, coded_ℕ}
 use Rattle.std.specs.List.{All}
 use Rattle.std.specs.Map.{lookup}
 use Rattle.document_keys.specs.KeySet.{is_key}
+use Rattle.document_keys.specs.Names.{IsKey}
 use Rattle.value_model.specs.declared.document.Document.{Document}
 use Rattle.mutations.specs.declared.batch.Batch.{Batch}
 use Rattle.mutations.specs.Effect.{IsOfFieldsOnly}
@@ -34,6 +35,10 @@ overlay_of table key = option_and_then laid (lookup (is_key key) table)
 -- the table has a place for the key's overlay
 abbrev pub has_place : Table → List (List ℕ) → Bool
 has_place table key = is_some (lookup (is_key key) table)
+
+-- what has a place is the key of a document
+abbrev pub HasKeysOnly : Table → Type 0
+HasKeysOnly table = (key : List (List ℕ)) → IsTrue (has_place table key) → IsKey key
 
 -- the document of a key that has this one without an overlay
 abbrev pub shown : Table → List (List ℕ) → Option Document → Option Document

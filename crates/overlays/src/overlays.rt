@@ -7,6 +7,7 @@ ghost use Rattle.overlays.specs.Lent.{known, lent_document, with_more};
 ghost use Rattle.overlays.specs.LocalDocument.{after_batch, local_document};
 ghost use Rattle.overlays.specs.Table.{Changes, IsBatchOfFields, KeepsOtherPlaces, KeepsPlaces, SameOverlays, document_in, has_place, overlay_of, shown};
 
+use crate::below::{is_below, least_key};
 use crate::laying::{all_laid_on, base, laid_on};
 use crate::slot::Slot;
 use document_keys::{CollectionPath, DocumentKey, NoMemory};
@@ -32,13 +33,15 @@ pub struct Overlays {
 }
 
 impl Model for Overlays {
-    ghost use Rattle.overlays.specs.Table.{Table, table_code};
+    ghost use Rattle.overlays.specs.Table.{HasKeysOnly, Table, table_code};
 
     ghost Value = { Table };
 
     ghost coded = { table_code };
 
     ghost view = { λ overlays. overlays.slots.entries };
+
+    ghost invariant = { λ overlays. HasKeysOnly overlays.slots.entries };
 }
 
 /// The fields and the update time of the entry's document.
@@ -148,6 +151,8 @@ impl Overlays {
         ensures kept { IsTrue (has_place self.old key.now) → IsOk result }
         ensures places { KeepsPlaces self.old self.new }
     {
+        // what it says of the key is the invariant of the table
+        let _count = key.len();
         if !self.slots.contains_key(key) {
             self.slots.insert(key.copy(self.alloc)?, Slot::Reserved)?;
         }
@@ -190,7 +195,8 @@ impl Overlays {
         }
     }
 
-    /// The keys of the collection's documents among those that have an overlay, ascending.
+    /// The keys of the collection's documents among those that have an overlay, ascending. It looks at the places below
+    /// the collection's path alone.
     ///
     /// # Errors
     /// `NoMemory`
@@ -203,8 +209,12 @@ impl Overlays {
         ensures members { IfOk result (λ keys. (key : List (List ℕ)) →
             Contains keys.items key ↔ (IsIn collection.now key × IsSome (shown self.now key None))) }
     {
+        let least = least_key(alloc, collection)?;
         let mut keys = Vec::new(alloc);
-        for (key, slot) in self.slots.iter() {
+        for (key, slot) in self.slots.range(&least..) {
+            if !is_below(collection, key) {
+                return Ok(keys);
+            }
             if is_listed(collection, key, slot) {
                 keys.push(key.copy(alloc)?)?;
             }

@@ -1,7 +1,8 @@
-use Rattle.std.proofs.Common.{◌≡◌, ◌∙◌, None, refl, sym, ap}
+use Rattle.std.proofs.Common.{◌≡◌, ◌∙◌, Some, None, refl, sym, ap, subst}
+use Rattle.document_keys.specs.Names.{IsKey}
 use Rattle.mutation_queue.proofs.Tables.{none_of}
 use Rattle.overlays.specs.declared.slot.Slot.TheVariants.{Reserved}
-use Rattle.overlays.proofs.Tables.{place_of, still, placed}
+use Rattle.overlays.proofs.Tables.{only_keys, place_of, still, placed}
 use Rattle.overlays.proofs.overlays.Overlays.reserve.Goals.{in-Some+in-Laid+in-Some-branch-5, in-Some+in-Laid+in-None-1, in-Some+in-Reserved-1, in-None-1}
 use Rattle.overlays.proofs.overlays.Overlays.reserve.Goals as goal
 
@@ -15,3 +16,7 @@ pub returns-in_ok-insert-clause-places : goal.returns-in_ok-insert-clause-places
 returns-in_ok-insert-clause-places c =
     let after : c.match-branch-3.self ≡ c.insert.new.self.entries = elim c.match-branch-3.branch [ in-Some+in-Laid+in-Some-branch-5 w ↦ w.self-is | in-Some+in-Laid+in-None-1 w ↦ w.self-is | in-Some+in-Reserved-1 w ↦ w.self-is | in-None-1 w ↦ w.self-is ] in
     λ q. rw (after, ← c.self.view_is) (still (place_of c.self.inside.slots.entries) (place_of c.insert.new.self.entries) c.in_ok-copy.field-0 q Reserved (c.in_ok-insert.ensures.updates.0 q))
+
+pub invariant_of-self-in_ok-insert-4 : goal.invariant_of-self-in_ok-insert-4
+invariant_of-self-in_ok-insert-4 c =
+    only_keys c.self.inside.slots.entries c.insert.new.self.entries c.in_ok-copy.field-0 (Some Reserved) c.in_ok-insert.ensures.updates.0 (λ some. subst IsKey (sym c.in_ok-copy.ensures) c.len-count.ensures.key) c.self.invariant
