@@ -1,5 +1,5 @@
--- How junctions, operators and tests are spelled.
-use Rattle.std.specs.Prelude.{ℕ, List, codes}
+-- How junctions, operators, tests and directions are spelled.
+use Rattle.std.specs.Prelude.{ℕ, List, Bool, true, false, codes}
 use Rattle.queries.specs.declared.filter.Junction.{Junction}
 use Rattle.queries.specs.declared.filter.Junction.TheVariants.{And, Or}
 use Rattle.queries.specs.declared.filter.Operator.{Operator}
@@ -29,3 +29,8 @@ operator_text ArrayContainsAny = codes "ARRAY_CONTAINS_ANY"
 abbrev pub test_text : UnaryOp → List ℕ
 test_text IsNull = codes "IS_NULL"
 test_text IsNotNull = codes "IS_NOT_NULL"
+
+-- the direction of an order, by whether it descends
+abbrev pub direction_text : Bool → List ℕ
+direction_text true = codes "DESCENDING"
+direction_text false = codes "ASCENDING"

@@ -1,17 +1,22 @@
 //! Cursors.
 
-ghost use Rattle.std.specs.Prelude.{IfOk, IfSome, codes, option_map};
-ghost use Rattle.serde_json.specs.View.{view, members_view};
+ghost use Rattle.std.specs.Prelude.{◌≡◌, IfOk, IfSome, codes, option_map};
+ghost use Rattle.serde_json.specs.View.{view, items_view, members_view};
 ghost use Rattle.json_model.specs.Clean.{IsClean, AreClean};
+ghost use Rattle.json_model.specs.Forms.{printed_each, unless_empty as unless_empty_of};
 ghost use Rattle.json_model.specs.Grammar.{SpellsList};
 ghost use Rattle.json_model.specs.Members.{given};
+ghost use Rattle.json_model.specs.Printed.{printed_value};
 ghost use Rattle.json_model.specs.declared.place.Object.TheVariants as objects;
 ghost use Rattle.json_model.specs.declared.place.Place.TheVariants as places;
 ghost use Rattle.json_queries.specs.Grammar.{SpellsCursor, SpellsCursorIn};
+ghost use Rattle.json_queries.specs.Printed.{printed_cursor, unless_false as unless_false_of};
 
 use crate::constants::clean_flag;
 use document_keys::{NoMemory, Sequence};
-use json_model::{Object, Setting, clean_member, clean_object, clean_values};
+use json_model::{
+    Object, Setting, clean_member, clean_object, clean_values, print_value, put_given, unless_empty,
+};
 use queries::Cursor;
 use serde_json::{Map, Value as Json};
 use std::alloc::Global;
@@ -63,4 +68,43 @@ pub(crate) fn clean_cursor(
     };
     let members = clean_object(setting, Object::Cursor, json);
     Ok(Some(clean_cursor_in(alloc, setting, members)?))
+}
+
+/// The trees of values.
+fn print_values(alloc: Global, values: &[Value]) -> Result<Vec<Json>, NoMemory>
+    ensures { IfOk result (λ trees. items_view trees.items ≡ printed_each printed_value values.now) }
+{
+    let mut trees = Vec::new(alloc);
+    for value in values {
+        trees.push(print_value(alloc, value)?)?;
+    }
+    Ok(trees)
+}
+
+/// A boolean, unless it is false.
+fn unless_false(is: bool) -> Option<Json>
+    ensures { option_map view result ≡ unless_false_of is }
+{
+    if is { Some(Json::Bool(true)) } else { None }
+}
+
+/// What a cursor holds.
+fn print_cursor_in(alloc: Global, cursor: &Cursor) -> Result<Json, NoMemory>
+    ensures { IfOk result (λ json. view json ≡ printed_cursor cursor.now) }
+{
+    let values = print_values(alloc, cursor.values.as_slice())?;
+    let mut members = Map::new(alloc);
+    put_given(alloc, &mut members, "values", unless_empty(values))?;
+    put_given(alloc, &mut members, "before", unless_false(cursor.before))?;
+    Ok(Json::Object(members))
+}
+
+/// What `startAt` or `endAt` holds; it is left out where there is no cursor.
+pub(crate) fn print_cursor(alloc: Global, cursor: &Option<Cursor>) -> Result<Option<Json>, NoMemory>
+    ensures { IfOk result (λ found. option_map view found ≡ option_map printed_cursor cursor.now) }
+{
+    match cursor {
+        Some(cursor) => Ok(Some(print_cursor_in(alloc, cursor)?)),
+        None => Ok(None),
+    }
 }

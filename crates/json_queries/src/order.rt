@@ -1,21 +1,24 @@
 //! Orders.
 
-ghost use Rattle.std.specs.Prelude.{IfOk, IfSome, Some, option_map};
-ghost use Rattle.serde_json.specs.View.{view};
+ghost use Rattle.std.specs.Prelude.{◌≡◌, IfOk, IfSome, Some, codes, option_map};
+ghost use Rattle.serde_json.specs.Data.{string};
+ghost use Rattle.serde_json.specs.View.{view, items_view};
 ghost use Rattle.json_model.specs.Clean.{IsClean};
-ghost use Rattle.json_model.specs.Forms.{SpellsEach};
+ghost use Rattle.json_model.specs.Forms.{SpellsEach, printed_each, unless_empty as unless_empty_of};
+ghost use Rattle.json_model.specs.Trees.{two};
 ghost use Rattle.json_model.specs.declared.place.Object.TheVariants as objects;
 ghost use Rattle.json_model.specs.declared.place.Place.TheVariants as places;
 ghost use Rattle.json_model.specs.declared.place.Series.TheVariants as serieses;
 ghost use Rattle.json_queries.specs.Grammar.{SpellsOrder};
+ghost use Rattle.json_queries.specs.Printed.{printed_order};
 
-use crate::constants::clean_direction;
-use crate::field::clean_field;
+use crate::constants::{clean_direction, direction_text};
+use crate::field::{clean_field, print_field};
 use document_keys::{NoMemory, Sequence};
-use json_model::{Object, Series, Setting, clean_list, clean_member, clean_object};
+use json_model::{Object, Series, Setting, clean_list, clean_member, clean_object, unless_empty};
 use queries::Order;
-use serde_json::Value as Json;
-use std::alloc::Global;
+use serde_json::{Value as Json, json};
+use std::alloc::{AllocError, Global};
 
 /// An item of `orderBy`.
 #[tactic(auto, unfolding(json_model::specs::Places::order_rows))]
@@ -61,4 +64,40 @@ pub(crate) fn clean_orders(
         Some(json) => Ok(Sequence::from_vec(clean_items(alloc, setting, json)?)),
         None => Ok(Sequence::new(alloc)),
     }
+}
+
+fn order_json(alloc: Global, direction: &str, field: Json) -> Result<Json, AllocError>
+    ensures { IfOk result (λ json. view json ≡ two (codes "direction") (string direction.now) (codes "field") (view field)) }
+{
+    json!(in alloc; {"direction": direction, "field": field})
+}
+
+/// An item of `orderBy`, with its direction.
+fn print_order(alloc: Global, order: &Order) -> Result<Json, NoMemory>
+    ensures { IfOk result (λ json. view json ≡ printed_order order.now) }
+{
+    let field = print_field(alloc, &order.path)?;
+    Ok(order_json(alloc, direction_text(order.descending), field)?)
+}
+
+/// The trees of orders.
+fn print_items(alloc: Global, orders: &[Order]) -> Result<Vec<Json>, NoMemory>
+    ensures { IfOk result (λ trees. items_view trees.items ≡ printed_each printed_order orders.now) }
+{
+    let mut trees = Vec::new(alloc);
+    for order in orders {
+        trees.push(print_order(alloc, order)?)?;
+    }
+    Ok(trees)
+}
+
+/// The list `orderBy`; it is left out where it is empty.
+pub(crate) fn print_orders(
+    alloc: Global,
+    orders: &Sequence<Order>,
+) -> Result<Option<Json>, NoMemory>
+    ensures { IfOk result (λ found. option_map view found ≡ unless_empty_of (printed_each printed_order orders.now)) }
+{
+    let trees = print_items(alloc, orders.as_slice())?;
+    Ok(unless_empty(trees))
 }
