@@ -1,3 +1,4 @@
 pub mod Free
 pub mod Read
 pub mod Once
+pub mod Shown

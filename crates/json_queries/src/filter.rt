@@ -2,34 +2,39 @@
 
 ghost use Rattle.std.specs.Prelude.{◌≡◌, IfOk, IfSome, Some, codes, option_map};
 ghost use Rattle.serde_json.specs.Data.{string};
-ghost use Rattle.serde_json.specs.View.{view, members_view};
+ghost use Rattle.serde_json.specs.View.{view, items_view, members_view};
 ghost use Rattle.json_model.specs.Clean.{IsClean, AreClean};
 ghost use Rattle.json_model.specs.Forms.{IsGiven};
 ghost use Rattle.json_model.specs.Grammar.{SpellsValue};
 ghost use Rattle.json_model.specs.Members.{given};
+ghost use Rattle.json_model.specs.Trees.{one, two};
 ghost use Rattle.json_model.specs.declared.place.Object.TheVariants as objects;
 ghost use Rattle.json_model.specs.declared.place.Place.TheVariants as places;
 ghost use Rattle.json_model.specs.declared.place.Series.TheVariants as serieses;
-ghost use Rattle.queries.specs.Filters.{filters_of};
-ghost use Rattle.json_queries.specs.Constants.{junction_text, operator_text};
+ghost use Rattle.queries.specs.Filters.{field, filters_of, unary};
+ghost use Rattle.json_queries.specs.Constants.{junction_text as junction_text_of, operator_text as operator_text_of};
 ghost use Rattle.json_queries.specs.Grammar.{SpellsField, SpellsFilter, SpellsFilterUnder, SpellsFilters, SpellsWhere};
+ghost use Rattle.json_queries.specs.Printed.{composite_filter_tree, field_filter_tree, printed_filter, printed_filters};
 
-use crate::constants::{clean_junction, clean_operator, clean_test};
-use crate::field::clean_field;
+use crate::constants::{
+    clean_junction, clean_operator, clean_test, junction_text, operator_text, test_text,
+};
+use crate::field::{clean_field, print_field};
 use document_keys::{FieldPath, NoMemory};
 use json_model::{
     Object, Series, Setting, clean_choice, clean_list, clean_member, clean_object, clean_value,
+    print_value, put_given, put_member, text_tree, unless_empty,
 };
-use queries::{Filter, FilterKind, Junction, Operator};
-use serde_json::{Map, Value as Json};
-use std::alloc::Global;
+use queries::{Filter, FilterKind, Junction, Operator, UnaryOp};
+use serde_json::{Map, Value as Json, json};
+use std::alloc::{AllocError, Global};
 use value_model::Value;
 
 /// The operator of a filter of a field.
 #[tactic(auto, unfolding(json_model::specs::Places::field_filter_rows, json_model::specs::Places::list_filter_rows))]
 fn clean_operator_in(setting: &Setting<'_>, members: &Map<String, Json>) -> Operator
     requires { AreClean setting.now objects.FieldFilter (members_view members.now.entries) }
-    ensures { IsGiven (given (codes "op") (members_view members.now.entries)) (λ d. d ≡ string (operator_text result)) }
+    ensures { IsGiven (given (codes "op") (members_view members.now.entries)) (λ d. d ≡ string (operator_text_of result)) }
 {
     match clean_member(setting, Object::FieldFilter, members, "op") {
         Some(op) => clean_operator(setting, op),
@@ -107,7 +112,7 @@ fn clean_unary_filter(alloc: Global, setting: &Setting<'_>, json: &Json) -> Resu
 #[tactic(auto, unfolding(json_model::specs::Places::composite_filter_rows))]
 fn clean_junction_in(setting: &Setting<'_>, members: &Map<String, Json>) -> Junction
     requires { AreClean setting.now objects.CompositeFilter (members_view members.now.entries) }
-    ensures { IsGiven (given (codes "op") (members_view members.now.entries)) (λ d. d ≡ string (junction_text result)) }
+    ensures { IsGiven (given (codes "op") (members_view members.now.entries)) (λ d. d ≡ string (junction_text_of result)) }
 {
     match clean_member(setting, Object::CompositeFilter, members, "op") {
         Some(op) => clean_junction(setting, op),
@@ -192,6 +197,98 @@ pub(crate) fn clean_where(
 {
     match found {
         Some(json) => Ok(Some(clean_filter(alloc, setting, json)?)),
+        None => Ok(None),
+    }
+}
+
+fn unary_filter_json(alloc: Global, field: Json, op: &str) -> Result<Json, AllocError>
+    ensures { IfOk result (λ json. view json ≡ one (codes "unaryFilter") (two (codes "field") (view field) (codes "op") (string op.now))) }
+{
+    json!(in alloc; {"unaryFilter": {"field": field, "op": op}})
+}
+
+fn field_filter_json(
+    alloc: Global,
+    field: Json,
+    op: &str,
+    operand: Json,
+) -> Result<Json, AllocError>
+    ensures { IfOk result (λ json. view json ≡ one (codes "fieldFilter") (field_filter_tree (view field) op.now (view operand))) }
+{
+    json!(in alloc; {"fieldFilter": {"field": field, "op": op, "value": operand}})
+}
+
+fn composite_filter_json(alloc: Global, inside: Json) -> Result<Json, AllocError>
+    ensures { IfOk result (λ json. view json ≡ one (codes "compositeFilter") (view inside)) }
+{
+    json!(in alloc; {"compositeFilter": inside})
+}
+
+/// A test of a field.
+fn print_unary(alloc: Global, path: &FieldPath, op: UnaryOp) -> Result<Json, NoMemory>
+    ensures { IfOk result (λ json. view json ≡ printed_filter (unary path.now op)) }
+{
+    let field = print_field(alloc, path)?;
+    Ok(unary_filter_json(alloc, field, test_text(op))?)
+}
+
+/// A field against an operand.
+fn print_comparison(
+    alloc: Global,
+    path: &FieldPath,
+    op: Operator,
+    operand: &Value,
+) -> Result<Json, NoMemory>
+    ensures { IfOk result (λ json. view json ≡ printed_filter (field path.now op operand.now)) }
+{
+    let field = print_field(alloc, path)?;
+    let operand = print_value(alloc, operand)?;
+    Ok(field_filter_json(alloc, field, operator_text(op), operand)?)
+}
+
+/// Filters that are joined, of their trees.
+fn composite_tree(alloc: Global, filters: Vec<Json>, op: &str) -> Result<Json, NoMemory>
+    ensures { IfOk result (λ json. view json ≡ one (codes "compositeFilter") (composite_filter_tree (items_view filters.items) op.now)) }
+{
+    let mut members = Map::new(alloc);
+    put_member(alloc, &mut members, "op", text_tree(alloc, op)?)?;
+    put_given(alloc, &mut members, "filters", unless_empty(filters))?;
+    Ok(composite_filter_json(alloc, Json::Object(members))?)
+}
+
+/// The trees of filters.
+#[cycle(print)]
+fn print_filters(alloc: Global, filters: &Vec<Filter>) -> Result<Vec<Json>, NoMemory>
+    ensures { IfOk result (λ trees. items_view trees.items ≡ printed_filters (filters_of filters.now.items)) }
+{
+    let mut trees = Vec::new(alloc);
+    for filter in filters {
+        trees.push(print_filter(alloc, filter)?)?;
+    }
+    Ok(trees)
+}
+
+/// A filter under the name of its kind.
+#[cycle(print)]
+fn print_filter(alloc: Global, filter: &Filter) -> Result<Json, NoMemory>
+    ensures { IfOk result (λ json. view json ≡ printed_filter filter.now) }
+{
+    match &filter.kind {
+        FilterKind::Composite { op, filters } => {
+            let trees = print_filters(alloc, filters)?;
+            composite_tree(alloc, trees, junction_text(*op))
+        }
+        FilterKind::Field { path, op, value } => print_comparison(alloc, path, *op, value),
+        FilterKind::Unary { path, op } => print_unary(alloc, path, *op),
+    }
+}
+
+/// What `where` holds; it is left out where there is no filter.
+pub(crate) fn print_where(alloc: Global, filter: &Option<Filter>) -> Result<Option<Json>, NoMemory>
+    ensures { IfOk result (λ found. option_map view found ≡ option_map printed_filter filter.now) }
+{
+    match filter {
+        Some(filter) => Ok(Some(print_filter(alloc, filter)?)),
         None => Ok(None),
     }
 }
