@@ -1,21 +1,19 @@
 //! Targets.
 
-ghost use Rattle.std.specs.Prelude.{◌≡◌, IfOk, OnOk, Some, codes, option_map};
+ghost use Rattle.std.specs.Prelude.{◌≡◌, IfOk, codes, option_map};
 ghost use Rattle.std.specs.String.{string_bytes};
 ghost use Rattle.serde_json.specs.Data.{string};
-ghost use Rattle.serde_json.specs.View.{view, members_view};
+ghost use Rattle.serde_json.specs.View.{view};
 ghost use Rattle.document_keys.specs.Names.{name_text};
-ghost use Rattle.json_model.specs.Forms.{printed_each, unless_empty as unless_empty_of};
-ghost use Rattle.json_model.specs.Objects.{with_given};
 ghost use Rattle.json_model.specs.Trees.{one, two};
-ghost use Rattle.json_queries.specs.Printed.{id_of, only, parent_of, printed_cursor, printed_filter, printed_limit, printed_order, printed_structured, target_tree};
+ghost use Rattle.json_queries.specs.Printed.{id_of, only, parent_of, printed_limit, printed_structured, target_tree};
 
 use crate::cursor::print_cursor;
 use crate::filter::print_where;
 use crate::order::print_orders;
-use document_keys::{CollectionPath, Database, DocumentKey, NoMemory, Sequence};
-use json_model::put_given;
-use queries::{CollectionTarget, Cursor, Filter, Order, Target};
+use document_keys::{CollectionPath, Database, DocumentKey, NoMemory};
+use json_model::{put_given, put_member};
+use queries::{CollectionTarget, Target};
 use serde_json::{Map, Number, Value as Json, json};
 use std::alloc::{AllocError, Global};
 
@@ -69,74 +67,42 @@ fn limit_tree(limit: Option<u32>) -> Option<Json>
     }
 }
 
-/// Puts a cursor under that name.
-fn put_cursor(
-    alloc: Global,
-    members: &mut Map<String, Json>,
-    name: &str,
-    cursor: &Option<Cursor>,
-) -> Result<(), NoMemory>
-    ensures { OnOk result (members_view members.new.entries ≡ with_given name.now (option_map printed_cursor cursor.now) (members_view members.old.entries)) }
-{
-    put_given(alloc, members, name, print_cursor(alloc, cursor)?)
-}
-
-/// Puts the filter.
-fn put_filter(
-    alloc: Global,
-    members: &mut Map<String, Json>,
-    filter: &Option<Filter>,
-) -> Result<(), NoMemory>
-    ensures { OnOk result (members_view members.new.entries ≡ with_given (codes "where") (option_map printed_filter filter.now) (members_view members.old.entries)) }
-{
-    put_given(alloc, members, "where", print_where(alloc, filter)?)
-}
-
-/// Puts the orders.
-fn put_orders(
-    alloc: Global,
-    members: &mut Map<String, Json>,
-    orders: &Sequence<Order>,
-) -> Result<(), NoMemory>
-    ensures { OnOk result (members_view members.new.entries ≡ with_given (codes "orderBy") (unless_empty_of (printed_each printed_order orders.now)) (members_view members.old.entries)) }
-{
-    put_given(alloc, members, "orderBy", print_orders(alloc, orders)?)
-}
-
-/// Puts the limit.
-fn put_limit(
-    alloc: Global,
-    members: &mut Map<String, Json>,
-    limit: Option<u32>,
-) -> Result<(), NoMemory>
-    ensures { OnOk result (members_view members.new.entries ≡ with_given (codes "limit") (option_map printed_limit limit) (members_view members.old.entries)) }
-{
-    put_given(alloc, members, "limit", limit_tree(limit))
-}
-
-/// Puts the collection's id.
-fn put_from(
-    alloc: Global,
-    members: &mut Map<String, Json>,
-    collection: &CollectionPath,
-) -> Result<(), NoMemory>
-    ensures { OnOk result (members_view members.new.entries ≡ with_given (codes "from") (Some (only (one (codes "collectionId") (string (id_of collection.now))))) (members_view members.old.entries)) }
-{
-    let from = from_json(alloc, id_in(collection))?;
-    put_given(alloc, members, "from", Some(from))
-}
-
 /// What `structuredQuery` holds.
 fn print_structured(alloc: Global, target: &CollectionTarget) -> Result<Json, NoMemory>
     ensures { IfOk result (λ json. view json ≡ printed_structured target.now) }
 {
     let mut members = Map::new(alloc);
-    put_filter(alloc, &mut members, &target.filter)?;
-    put_cursor(alloc, &mut members, "startAt", &target.start_at)?;
-    put_orders(alloc, &mut members, &target.orders)?;
-    put_limit(alloc, &mut members, target.limit)?;
-    put_from(alloc, &mut members, &target.collection)?;
-    put_cursor(alloc, &mut members, "endAt", &target.end_at)?;
+    put_given(
+        alloc,
+        &mut members,
+        "where",
+        print_where(alloc, &target.filter)?,
+    )?;
+    put_given(
+        alloc,
+        &mut members,
+        "startAt",
+        print_cursor(alloc, &target.start_at)?,
+    )?;
+    put_given(
+        alloc,
+        &mut members,
+        "orderBy",
+        print_orders(alloc, &target.orders)?,
+    )?;
+    put_given(alloc, &mut members, "limit", limit_tree(target.limit))?;
+    put_member(
+        alloc,
+        &mut members,
+        "from",
+        from_json(alloc, id_in(&target.collection))?,
+    )?;
+    put_given(
+        alloc,
+        &mut members,
+        "endAt",
+        print_cursor(alloc, &target.end_at)?,
+    )?;
     Ok(Json::Object(members))
 }
 
