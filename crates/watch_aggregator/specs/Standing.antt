@@ -1,5 +1,5 @@
 -- Which lists of calls an aggregator stands for: one clause for each part that it stores.
-use Rattle.std.specs.Prelude.{◌≡◌, ◌≢◌, ◌<ℤ◌, ℕ, ℤ, true, false, List, ◌∷◌}
+use Rattle.std.specs.Prelude.{◌≡◌, ◌≢◌, ◌<ℤ◌, ℕ, ℤ, true, false, List, [], ◌∷◌}
 use Rattle.std.specs.List.{All, AllPairs}
 use Rattle.watch_aggregator.specs.declared.watched.Watched.{Watched}
 use Rattle.watch_aggregator.specs.declared.aggregator.Aggregator.{Aggregator}
@@ -40,3 +40,7 @@ Takes old new call = (h : Calls) → StandsFor old h → StandsFor new (call ∷
 -- what stood for a list stands for it still
 abbrev pub Stays : Aggregator → Aggregator → Type 0
 Stays old new = (h : Calls) → StandsFor old h → StandsFor new h
+
+-- it keeps no token
+abbrev pub HasNoTokens : Aggregator → Type 0
+HasNoTokens a = a.tokens.items ≡ []

@@ -8,7 +8,7 @@ ghost use Rattle.watch_aggregator.specs.Effects.{Gives, GivesTarget, Refuses, Re
 ghost use Rattle.watch_aggregator.specs.Points.{IsPointOf};
 ghost use Rattle.listen_protocol.specs.ToldKeys.{told_keys};
 ghost use Rattle.listen_protocol.specs.Transcript.{counts, is_asked_in, is_current_in};
-ghost use Rattle.watch_aggregator.specs.Standing.{StandsFor, Stays, Takes};
+ghost use Rattle.watch_aggregator.specs.Standing.{HasNoTokens, StandsFor, Stays, Takes};
 
 use crate::buffer::{keep_left, left_by_change, left_by_delete};
 use crate::effect::{Effect, WatchFault};
@@ -242,6 +242,7 @@ impl Aggregator {
     /// `NoMemory`: it stands for the same lists as before.
     pub fn apply_point(&mut self, alloc: Global) -> Result<WatchPoint, NoMemory>
         ensures done { IfOk result (λ point. (h : Calls) → StandsFor self.old h → IsPointOf h point × StandsFor self.new (call.applied ∷ h)) }
+        ensures emptied { OnOk result (HasNoTokens self.new) }
         ensures undone { OnErr result (Stays self.old self.new) }
     {
         let room = Vec::with_capacity(alloc, self.buffer.len())?;
@@ -255,7 +256,8 @@ impl Aggregator {
 
     /// The point is skipped: the tokens that came are dropped.
     pub fn skip_point(&mut self)
-        ensures { Takes self.old self.new call.skipped }
+        ensures done { Takes self.old self.new call.skipped }
+        ensures emptied { HasNoTokens self.new }
     {
         drop_tokens(&mut self.watched);
         self.tokens.clear();
