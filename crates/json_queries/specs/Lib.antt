@@ -3,3 +3,4 @@ pub mod Faults
 pub mod Grammar
 pub mod Laws
 pub mod Printed
+pub mod Storable

@@ -16,6 +16,6 @@ mod order;
 mod query;
 mod target;
 
-pub use laws::a_tree_spells_one_query;
+pub use laws::{a_tree_spells_one_query, printed_targets_read_back};
 pub use query::{clean_query, read_query};
 pub use target::print_target;
