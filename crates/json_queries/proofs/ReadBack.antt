@@ -1,37 +1,30 @@
 -- What is printed of targets is of the form, and spells them.
-use Rattle.std.proofs.Common.{◌≡◌, ℕ, pos, ◌+◌, ◌%◌, ◌<◌, ◌^◌, List, [], ◌∷◌, ◌++◌, length, Bool, true, false, Less, Equal, Greater, codes, Option, Some, None, IfSome, cond, option_map, refl, sym, ap, subst, ◌∙◌, inl, inr, arith}
+use Rattle.std.proofs.Common.{◌≡◌, ℕ, pos, ◌+◌, ◌%◌, ◌<◌, ◌^◌, List, [], ◌∷◌, ◌++◌, length, Bool, true, false, codes, Option, Some, None, IfSome, option_map, refl, sym, ap, subst, ◌∙◌, inl, inr, arith}
 use Rattle.std.specs.List.{All}
-use Rattle.std.specs.Ordering.{nat_cmp, match_ordering}
-use Rattle.std.specs.Cmp.Lexicographic.{slice_cmp}
-use Rattle.std.specs.Prelude.{option_and_then}
-use Rattle.std.specs.declared.cmp.Ordering.{Ordering}
 use Rattle.std.proofs.lemmas.List.{append-nil}
 use Rattle.std.proofs.lemmas.List.Elements.{All-nil, All-cons, All-head, All-tail}
 use Rattle.document_keys.specs.Names.{Root, IsKey, IsSegment, IsCollection, documents_text, name_text}
 use Rattle.serde_json.specs.Data.{Data as Json, string, object as an_object, Items, no_items, item, Members, no_members, member}
-use Rattle.serde_json.specs.Find.{get_member}
 use Rattle.value_model.specs.Data.{Data}
 use Rattle.value_model.specs.Storable.{IsStorableKey}
 use Rattle.json_model.specs.declared.place.Place.{Place}
 use Rattle.json_model.specs.declared.place.Place.TheVariants as place
-use Rattle.json_model.specs.declared.place.Object.{Object}
 use Rattle.json_model.specs.declared.place.Object.TheVariants as object
 use Rattle.json_model.specs.declared.place.Series.{Series}
 use Rattle.json_model.specs.declared.place.Series.TheVariants as series
 use Rattle.json_model.specs.declared.place.Leaf.TheVariants as leaf
 use Rattle.json_model.specs.Constants.{is_direction}
 use Rattle.json_model.specs.Faults.{max_nesting}
-use Rattle.json_model.specs.Fits.{Fits, FitsName, ItemsFit, MembersFit}
-use Rattle.json_model.specs.Forms.{Each, no_more, one_more, SpellsEach, before, present, unless_empty, printed_each}
+use Rattle.json_model.specs.Fits.{Fits, ItemsFit}
+use Rattle.json_model.specs.Forms.{Each, no_more, one_more, SpellsEach, present, unless_empty, printed_each}
 use Rattle.json_model.specs.Grammar.{SpellsParent, SpellsItems, no_item as no_value, an_item as a_value, SpellsList, no_list, a_list}
 use Rattle.json_model.specs.Leaves.{IsParentText}
-use Rattle.json_model.specs.Members.{is_null, unless_null, given}
+use Rattle.json_model.specs.Members.{is_null}
 use Rattle.json_model.specs.Numbers.{SpellsShort, as_number}
 use Rattle.json_model.specs.Origin.{Origin}
-use Rattle.json_model.specs.Places.{member_place, item_place, target_rows, query_rows, structured_query_rows, selector_rows, order_rows, cursor_rows}
+use Rattle.json_model.specs.Places.{item_place, target_rows, query_rows, structured_query_rows, selector_rows, order_rows, cursor_rows}
 use Rattle.json_model.specs.Printed.{printed_value}
 use Rattle.json_model.proofs.Fitting.{fits_clean}
-use Rattle.json_model.proofs.Sound.{not_out}
 use Rattle.queries.specs.declared.order.Cursor.{Cursor}
 use Rattle.queries.specs.declared.order.Order.{Order}
 use Rattle.queries.specs.declared.target.CollectionTarget.{CollectionTarget}
@@ -44,68 +37,8 @@ use Rattle.json_queries.specs.Laws.{PrintedTargetsReadBack, document_at, collect
 use Rattle.json_queries.specs.Printed.{printed_field, printed_order, unless_false, printed_cursor, printed_filter, parent_of, id_of, only, printed_limit, printed_structured, target_tree}
 use Rattle.json_queries.specs.Storable.{IsStorableOperand, IsStorableFilter, IsStorableCursor, IsStorableQuery, IsStorableTarget}
 use Rattle.json_model.specs.Storable.{IsStorableQueryPath}
+use Rattle.json_queries.proofs.Rows.{FitsFound, rows_fit, AreGiven, given_present, or_none, CursorRows, selector, QueryRows}
 use Rattle.json_queries.proofs.ReadFilters.{field_fits, field_spelled, operand_fits, operand_spelled, filter_fits, filter_spelled}
-
--- ---- members that may be left out
-
-abbrev Row : Type 0
-Row = List ℕ × Option Json
-
--- a member that may be left out is of the form
-abbrev FitsFound : Origin → ℕ → Place → Option Json → Type 0
-FitsFound o limit p None = Unit {0}
-FitsFound o limit p (Some d) = (is_null d ≡ false) × Fits o limit p d
-
--- and so is each
-abbrev FitRows : Origin → ℕ → Object → List Row → Type 0
-FitRows o limit kind [] = Unit {0}
-FitRows o limit kind (row ∷ rows) = FitsName kind row.0 × FitsFound o limit (member_place kind row.0) row.1 × FitRows o limit kind rows
-
-row_fits : (o : Origin) (limit : ℕ) (kind : Object) (name : List ℕ) (found : Option Json) (ms : Members) → FitsName kind name → FitsFound o limit (member_place kind name) found → MembersFit o limit kind [] ms → MembersFit o limit kind [] (before name found ms)
-unfolding Fits
-row_fits o limit kind name None ms named fits rest = rest
-row_fits o limit kind name (Some d) ms named fits rest = (refl, inr (not_out (member_place kind name) d fits.0, (named, fits.1)), rest)
-
-rows_fit : (o : Origin) (limit : ℕ) (kind : Object) (rows : List Row) → FitRows o limit kind rows → MembersFit o limit kind [] (present rows)
-unfolding Fits
-rows_fit o limit kind [] fits = refl
-rows_fit o limit kind (row ∷ rows) fits = row_fits o limit kind row.0 row.1 (present rows) fits.0 fits.1 (rows_fit o limit kind rows fits.2)
-
--- what is given under a name
-abbrev or_else : Option Json → Option Json → Option Json
-or_else None other = other
-or_else (Some d) other = Some d
-
-abbrev given_in : List ℕ → List Row → Option Json
-given_in name [] = None
-given_in name (row ∷ rows) = match_ordering (slice_cmp nat_cmp name row.0) (given_in name rows) (or_else row.1 (given_in name rows)) (given_in name rows)
-
--- no member is null
-abbrev AreGiven : List Row → Type 0
-AreGiven [] = Unit {0}
-AreGiven (row ∷ rows) = IfSome row.1 (λ d. is_null d ≡ false) × AreGiven rows
-
-same_rest : (o : Ordering) (rest : Option Json) → rest ≡ match_ordering o rest rest rest
-same_rest Less rest = refl
-same_rest Equal rest = refl
-same_rest Greater rest = refl
-
-this_or_rest : (o : Ordering) (d : Json) (found rest : Option Json) → is_null d ≡ false → option_and_then unless_null found ≡ rest → option_and_then unless_null (match_ordering o found (Some d) found) ≡ match_ordering o rest (Some d) rest
-this_or_rest Less d found rest some is = is
-this_or_rest Equal d found rest some is = ap (λ b. cond b None (Some d)) some
-this_or_rest Greater d found rest some is = is
-
-row_given : (name : List ℕ) (other : List ℕ) (found : Option Json) (ms : Members) (rest : Option Json) → IfSome found (λ d. is_null d ≡ false) → given name ms ≡ rest → given name (before other found ms) ≡ match_ordering (slice_cmp nat_cmp name other) rest (or_else found rest) rest
-row_given name other None ms rest some is = is ∙ same_rest (slice_cmp nat_cmp name other) rest
-row_given name other (Some d) ms rest some is = this_or_rest (slice_cmp nat_cmp name other) d (get_member name ms) rest some is
-
-given_present : (name : List ℕ) (rows : List Row) → AreGiven rows → given name (present rows) ≡ given_in name rows
-given_present name [] some = refl
-given_present name (row ∷ rows) some = row_given name row.0 row.1 (present rows) (given_in name rows) some.0 (given_present name rows some.1)
-
-or_none : (found : Option Json) → or_else found None ≡ found
-or_none None = refl
-or_none (Some d) = refl
 
 -- ---- lists
 
@@ -194,9 +127,6 @@ flag_given true = refl
 flag_spelled : (is : Bool) → SpellsFlag (unless_false is) is
 flag_spelled false = refl
 flag_spelled true = refl
-
-abbrev CursorRows : Cursor → List Row
-CursorRows cursor = (codes "before", unless_false cursor.before) ∷ (codes "values", unless_empty (printed_each printed_value cursor.values)) ∷ []
 
 cursor_fits : (o : Origin) (cursor : Cursor) → IsStorableCursor cursor → Fits o max_nesting (place.Object object.Cursor) (printed_cursor cursor)
 unfolding Fits cursor_rows
@@ -298,9 +228,6 @@ parent_spelled root path [] is parent = ap string (append-nil (documents_text ro
 parent_spelled root path (segment ∷ more) is parent = record { names = parent_key path is segment more parent; is = refl }
 
 -- what stands under `from`
-abbrev selector : List ℕ → Json
-selector id = an_object (member (codes "collectionId") (string id) no_members)
-
 selector_fits : (o : Origin) (id : List ℕ) → IsSegment id → Fits o max_nesting (place.Object object.Selector) (selector id)
 unfolding Fits selector_rows
 selector_fits o id segment = record { chooses = refl; no_vector = refl; levels = 0; takes = refl; room = omega arith; inside = (refl, inr (refl, (tt, (id, (refl, segment)))), refl) }
@@ -316,16 +243,6 @@ from_spelled : (id : List ℕ) → IsSegment id → SpellsEach SpellsSelector (S
 from_spelled id segment = (item (selector id) no_items, refl, one_more (selector_spelled id segment) no_more)
 
 -- ---- what `structuredQuery` holds
-
-abbrev QueryRows : CollectionTarget → List Row
-QueryRows target =
-    (codes "endAt", option_map printed_cursor target.end_at) ∷
-    (codes "from", Some (only (selector (id_of target.collection)))) ∷
-    (codes "limit", option_map printed_limit target.limit) ∷
-    (codes "orderBy", unless_empty (printed_each printed_order target.orders)) ∷
-    (codes "startAt", option_map printed_cursor target.start_at) ∷
-    (codes "where", option_map printed_filter target.filter) ∷
-    []
 
 the_id : (target : CollectionTarget) → IsStorableQuery target → IsSegment (id_of target.collection)
 the_id target stored = id_segment target.collection (not_empty target.collection stored.collection.sound) stored.collection.sound.segments

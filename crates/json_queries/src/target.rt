@@ -1,9 +1,10 @@
 //! Targets.
 
-ghost use Rattle.std.specs.Prelude.{◌≡◌, IfOk, codes, option_map};
+ghost use Rattle.std.specs.Prelude.{◌≡◌, IfOk, false, codes, option_map};
 ghost use Rattle.std.specs.String.{string_bytes};
 ghost use Rattle.serde_json.specs.Data.{string};
 ghost use Rattle.serde_json.specs.View.{view};
+ghost use Rattle.serde_json.specs.Written.{has_float};
 ghost use Rattle.document_keys.specs.Names.{name_text};
 ghost use Rattle.json_model.specs.Trees.{one, two};
 ghost use Rattle.json_queries.specs.Printed.{id_of, only, parent_of, printed_limit, printed_structured, target_tree};
@@ -123,15 +124,23 @@ fn print_query(alloc: Global, root: &Database, target: &CollectionTarget) -> Res
     Ok(query_json(alloc, parent.as_str(), structured)?)
 }
 
-/// The tree of a target: the one printed form of it, with the names of documents under the root.
-///
-/// # Errors
-/// `NoMemory`
-pub fn print_target(alloc: Global, root: &Database, target: &Target) -> Result<Json, NoMemory>
+/// The printed tree of a target.
+fn print_tree(alloc: Global, root: &Database, target: &Target) -> Result<Json, NoMemory>
     ensures { IfOk result (λ json. view json ≡ target_tree root.now target.now) }
 {
     match target {
         Target::Document(key) => print_documents(alloc, root, key),
         Target::Collection(target) => print_query(alloc, root, target),
     }
+}
+
+/// The tree of a target: the one printed form of it, with the names of documents under the root. It has no floats.
+///
+/// # Errors
+/// `NoMemory`
+pub fn print_target(alloc: Global, root: &Database, target: &Target) -> Result<Json, NoMemory>
+    ensures tree { IfOk result (λ json. view json ≡ target_tree root.now target.now) }
+    ensures digits { IfOk result (λ json. has_float (view json) ≡ false) }
+{
+    print_tree(alloc, root, target)
 }
