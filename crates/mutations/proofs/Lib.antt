@@ -1,5 +1,6 @@
 pub mod Changing
 pub mod Effects
+pub mod Fitting
 pub mod Locally
 pub mod Masking
 pub mod Steps

@@ -63,13 +63,19 @@ removes_by removed (item ∷ items) = by (is_among removed item) refl (removes_b
 
 -- ---- transforms
 
+pub appends_is : (items values after : List Data) → Appends items values after → after ≡ appended items values
+appends_is items values after is = append_laws.one items values after (appended items values) is (appends_by items values)
+
+pub removes_is : (values items after : List Data) → Removes values items after → after ≡ others values items
+removes_is values items after is = remove_laws.one values items after (others values items) is (removes_by values items)
+
 pub changed_is : (found : Option Data) (change : Change) (at : Timestamp) (value : Data) → Changed found change at value → value ≡ changed found change at
 changed_is found ServerTime at value is = is
 changed_is found (Increment by) at value is = is
 changed_is found (Maximum other) at value is = is
 changed_is found (Minimum other) at value is = is
-changed_is found (Append values) at value is = is.1 ∙ ap array_of (append_laws.one (items_at found) values is.0 (appended (items_at found) values) is.2 (appends_by (items_at found) values))
-changed_is found (RemoveAll values) at value is = is.1 ∙ ap array_of (remove_laws.one values (items_at found) is.0 (others values (items_at found)) is.2 (removes_by values (items_at found)))
+changed_is found (Append values) at value is = is.1 ∙ ap array_of (appends_is (items_at found) values is.0 is.2)
+changed_is found (RemoveAll values) at value is = is.1 ∙ ap array_of (removes_is values (items_at found) is.0 is.2)
 
 changed_by : (found : Option Data) (change : Change) (at : Timestamp) → Changed found change at (changed found change at)
 changed_by found ServerTime at = refl

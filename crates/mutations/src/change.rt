@@ -1,8 +1,9 @@
 //! What a transform makes of the field at its path.
 
-ghost use Rattle.std.specs.Prelude.{◌≡◌, ◌↔◌, ◌+ℤ◌, IsTrue, IfOk, option_map, unwrap_or};
+ghost use Rattle.std.specs.Prelude.{◌≡◌, ◌↔◌, ◌+ℤ◌, IsTrue, IfOk, length, option_map, unwrap_or};
 ghost use Rattle.std.specs.Int.{w64, saturate_signed, int_max, int_min};
 ghost use Rattle.std.specs.List.{Contains};
+ghost use Rattle.mutations.specs.Acknowledged.{settled as settled_value, settled_by};
 ghost use Rattle.mutations.specs.Changes.{Appends, Changed, Removes, items_at, number_at};
 ghost use Rattle.mutations.specs.Effect.{HavePathsOfFields};
 ghost use Rattle.mutations.specs.Local as function;
@@ -148,6 +149,52 @@ pub(crate) fn transformed(
 {
     for transform in transforms {
         let value = changed(alloc, fields.at(&transform.path), &transform.change, at)?;
+        fields = fields.with_at(alloc, &transform.path, value)?;
+    }
+    Ok(fields)
+}
+
+/// What the change leaves at the field once the backend has answered: an array is worked out here, all else was returned.
+fn settled(
+    alloc: Global,
+    found: Option<&Value>,
+    change: &Change,
+    returned: &Value,
+) -> Result<Value, NoMemory>
+    ensures { IfOk result (λ value. value ≡ settled_value (option_map (λ v. v.now) found.entry) change.now returned.now) }
+{
+    match change {
+        Change::Append(values) => {
+            let items = appended(alloc, items_of(found), values.as_slice())?;
+            Ok(Value {
+                kind: Kind::Array(items),
+            })
+        }
+        Change::RemoveAll(values) => {
+            let items = others(alloc, items_of(found), values.as_slice())?;
+            Ok(Value {
+                kind: Kind::Array(items),
+            })
+        }
+        _ => Ok(returned.copy(alloc)?),
+    }
+}
+
+/// The fields after the transforms, made in their order, each with its own result.
+pub(crate) fn settled_fields(
+    alloc: Global,
+    mut fields: Fields,
+    transforms: &[Transform],
+    results: &[Value],
+) -> Result<Fields, NoMemory>
+    requires paths { HavePathsOfFields transforms.now }
+    requires results { length transforms.now ≡ length results.now }
+    ensures { IfOk result (λ after. after ≡ settled_by fields transforms.now results.now) }
+{
+    for place in 0..transforms.len() {
+        let transform = &transforms[place];
+        let found = fields.at(&transform.path);
+        let value = settled(alloc, found, &transform.change, &results[place])?;
         fields = fields.with_at(alloc, &transform.path, value)?;
     }
     Ok(fields)

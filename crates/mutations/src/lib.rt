@@ -7,19 +7,23 @@
 //! A masked update copies no more than the fields at the first names of its paths (`touched.rt`).
 #![tactic(auto)]
 
+mod acknowledged;
 mod batch;
 mod change;
 mod effect;
 mod laws;
 mod lists;
 mod mask;
+mod results;
 mod touched;
 mod transform;
 mod write;
 
+pub use acknowledged::apply_result;
 pub use batch::{Batch, Writes};
 pub use effect::apply_local;
 pub use laws::{appends_hold, changes_hold, effects_are_one, masks_hold, removes_hold};
 pub use lists::{Mask, Values};
+pub use results::{WriteRequest, WriteResponse, WriteResult, WriteResults, fit_writes};
 pub use transform::{Change, Transform, Transforms};
 pub use write::{Precondition, Write};
