@@ -1,5 +1,5 @@
 -- What the acknowledgement of writes makes of what is known of their document (WriteResponse, WriteResult).
-use Rattle.std.specs.Prelude.{◌≡◌, Bool, true, false, not, ◌||◌, if◌then◌else◌, List, [], ◌∷◌, Option, Some, None, unwrap_or, ℕ}
+use Rattle.std.specs.Prelude.{if◌then◌else◌, List, ◌∷◌, Option, Some, None, unwrap_or}
 use Rattle.value_model.specs.Changes.{with_value_at}
 use Rattle.value_model.specs.Data.{Data, Entries, array_of}
 use Rattle.value_model.specs.Paths.{value_at}
@@ -14,7 +14,7 @@ use Rattle.mutations.specs.declared.transform.Transform.{Transform}
 use Rattle.mutations.specs.declared.write.Write.{Write}
 use Rattle.mutations.specs.declared.write.Write.TheVariants.{Update, Delete}
 use Rattle.mutations.specs.Changes.{items_at}
-use Rattle.mutations.specs.Effect.{condition_of, fields_of}
+use Rattle.mutations.specs.Effect.{fields_of}
 use Rattle.mutations.specs.Local.{appended, holds, masked, others}
 
 -- the document that an entry has, with its version as its update time

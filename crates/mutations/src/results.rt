@@ -78,7 +78,8 @@ fn fit_transforms(transforms: &[Transform], values: &[Value]) -> bool
         return false;
     }
     for place in 0..transforms.len() {
-        if !is_result_of(&transforms[place].change, &values[place]) {
+        let transform = &transforms[place];
+        if !is_result_of(&transform.change, &values[place]) {
             return false;
         }
     }
