@@ -17,7 +17,8 @@ use Rattle.mutations.specs.declared.write.Precondition.TheVariants.{Free, Exists
 use Rattle.mutations.specs.declared.write.Write.{Write}
 use Rattle.mutations.specs.declared.write.Write.TheVariants.{Update, Delete}
 use Rattle.json_rpc.specs.Storable.{AreAllStorable, AreStorableElements, HasStorableParts, IsStorableChange, IsStorableCondition, IsStorableTransform, IsStorableWrite}
-use Rattle.record_codec.specs.Spelling.{AreSpelled, AreSpelledElements, IsNameText, IsSpelledBatch, IsSpelledChange, IsSpelledKey, IsSpelledPath, IsSpelledPrecondition, IsSpelledTransform, IsSpelledWrite}
+use Rattle.record_codec.specs.Spelling.{IsSpelledBatch}
+use Rattle.record_parts.specs.Spelling.{AreSpelled, AreSpelledElements, IsNameText, IsSpelledChange, IsSpelledKey, IsSpelledPath, IsSpelledPrecondition, IsSpelledTransform, IsSpelledWrite}
 use Rattle.client_run.specs.Reading.{AreStorableWrites}
 
 all_spelled : {X : Type 0} {Holds Fits : X → Type 0} → ((x : X) → Holds x → Fits x) → (xs : List X) → AreAllStorable Holds xs → AreSpelled Fits xs

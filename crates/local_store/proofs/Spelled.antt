@@ -6,7 +6,8 @@ use Rattle.mutations.specs.declared.batch.Batch.{Batch}
 use Rattle.mutations.specs.declared.write.Write.{Write}
 use Rattle.mutations.specs.declared.write.Write.TheVariants.{Update, Delete}
 use Rattle.mutations.specs.Effect.{HasMaskOfFields, IsOfFields, IsOfFieldsOnly}
-use Rattle.record_codec.specs.Spelling.{AreSpelled, IsSpelledPath, IsSpelledWrite, IsSpelledBatch, IsNameText}
+use Rattle.record_parts.specs.Spelling.{AreSpelled, IsSpelledPath, IsSpelledWrite, IsNameText}
+use Rattle.record_codec.specs.Spelling.{IsSpelledBatch}
 use Rattle.overlays.specs.Table.{IsBatchOfFields}
 
 path_of_fields : (path : List (List ℕ)) → IsSpelledPath path → IsOfFields path

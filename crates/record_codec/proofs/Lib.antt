@@ -1,10 +1,2 @@
-pub mod Basics
-pub mod Combine
-pub mod Entries
-pub mod Forms
-pub mod Options
-pub mod Puts
-pub mod Values
+pub mod CommitForms
 pub mod Whole
-pub mod Wide
-pub mod WriteForms

@@ -3,9 +3,9 @@ use Rattle.std.proofs.Common.{◌≡◌, ℕ, ◌<◌, List, [], ◌++◌, lengt
 use Rattle.std.proofs.lemmas.List.{append-nil}
 use Rattle.record_codec.specs.declared.commit.Commit.{Commit}
 use Rattle.record_codec.specs.Spelling.{spelling, HasSpelling}
-use Rattle.record_codec.specs.Reading.{Begins, BeginsNone}
-use Rattle.record_codec.proofs.Forms.{next}
-use Rattle.record_codec.proofs.WriteForms.{unique_commit}
+use Rattle.record_parts.specs.Reading.{Begins, BeginsNone}
+use Rattle.record_parts.proofs.Forms.{next}
+use Rattle.record_codec.proofs.CommitForms.{unique_commit}
 
 pub whole : (bytes : List ℕ) (c : Commit) → Begins spelling HasSpelling bytes c [] → bytes ≡ spelling c
 whole bytes c b = b.parts ∙ append-nil (spelling c)

@@ -3,9 +3,9 @@ ghost use Rattle.record_codec.specs.declared.commit.Commit.{Commit as CommitData
 ghost use Rattle.record_codec.specs.Spelling.{spelling, HasSpelling};
 
 use crate::commits::{commit_of, put_commit};
-use crate::fault::ReadError;
 use document_keys::NoMemory;
 use mutations::Batch;
+use record_parts::ReadError;
 use std::alloc::Global;
 
 /// One step of the durable state.

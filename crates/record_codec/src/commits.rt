@@ -1,15 +1,13 @@
 ghost use Rattle.std.specs.Prelude.{◌≡◌, ◌++◌, OnOk};
 ghost use Rattle.record_codec.specs.Spelling.{batch, step, spelling, IsSpelledBatch, HasSpelling};
-ghost use Rattle.record_codec.specs.Reading.{Reads};
+ghost use Rattle.record_parts.specs.Reading.{Reads};
 
 use crate::commit::Commit;
-use crate::fault::ReadError;
-use crate::numbers::{after, byte_of, u64_of};
-use crate::times::time_of;
-use crate::writes::{put_writes, writes_of};
-use crate::writing::{put_number, put_time};
 use document_keys::NoMemory;
 use mutations::Batch;
+use record_parts::{
+    ReadError, after, byte_of, put_number, put_time, put_writes, time_of, u64_of, writes_of,
+};
 use std::alloc::Global;
 
 /// The byte that begins a commit, and names the format.

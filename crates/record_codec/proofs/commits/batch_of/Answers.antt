@@ -1,9 +1,10 @@
 use Rattle.std.proofs.Common.{[]}
 use Rattle.std.proofs.lemmas.Result.{err_from_is_err_and}
-use Rattle.record_codec.proofs.Wide.{fails_also}
-use Rattle.record_codec.proofs.Basics.{word, moment}
-use Rattle.record_codec.proofs.WriteForms.{batch_kind, batch_parts, batch_of_parts, from_time, write_form}
-use Rattle.record_codec.proofs.Combine.{no_first, no_second, pair_read, kind_read, kind_none, list}
+use Rattle.record_parts.proofs.Wide.{fails_also}
+use Rattle.record_parts.proofs.Basics.{word, moment}
+use Rattle.record_parts.proofs.WriteForms.{write_form}
+use Rattle.record_codec.proofs.CommitForms.{batch_kind, batch_parts, batch_of_parts, from_time}
+use Rattle.record_parts.proofs.Combine.{no_first, no_second, pair_read, kind_read, kind_none, list}
 use Rattle.record_codec.proofs.commits.batch_of.Goals as goal
 
 pub returns-in_err-id : goal.returns-in_err-id

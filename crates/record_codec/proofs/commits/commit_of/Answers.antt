@@ -1,7 +1,7 @@
 use Rattle.std.proofs.lemmas.Result.{err_from_is_err_and}
-use Rattle.record_codec.proofs.Wide.{fails_always}
-use Rattle.record_codec.proofs.WriteForms.{format_kind, format_made}
-use Rattle.record_codec.proofs.Combine.{no_kind, same_reads}
+use Rattle.record_parts.proofs.Wide.{fails_always}
+use Rattle.record_codec.proofs.CommitForms.{format_kind, format_made}
+use Rattle.record_parts.proofs.Combine.{no_kind, same_reads}
 use Rattle.record_codec.proofs.commits.commit_of.Goals as goal
 
 pub returns-in_err-rest : goal.returns-in_err-rest

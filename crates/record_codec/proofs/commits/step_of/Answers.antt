@@ -1,8 +1,8 @@
 use Rattle.std.proofs.Common.{arith}
 use Rattle.std.proofs.lemmas.Result.{err_from_is_err_and}
-use Rattle.record_codec.proofs.Wide.{fails_also, fails_always}
-use Rattle.record_codec.proofs.WriteForms.{step_tagged, enqueue_kind, step_other}
-use Rattle.record_codec.proofs.Combine.{no_tag, other_tag, tag_read, tag_none}
+use Rattle.record_parts.proofs.Wide.{fails_also, fails_always}
+use Rattle.record_codec.proofs.CommitForms.{step_tagged, enqueue_kind, step_other}
+use Rattle.record_parts.proofs.Combine.{no_tag, other_tag, tag_read, tag_none}
 use Rattle.record_codec.proofs.commits.step_of.Goals as goal
 
 pub returns-in_err-byte : goal.returns-in_err-byte

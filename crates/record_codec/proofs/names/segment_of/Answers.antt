@@ -1,9 +1,0 @@
-use Rattle.std.proofs.lemmas.Result.{err_from_is_err_and}
-use Rattle.record_codec.proofs.Wide.{fails_also}
-use Rattle.record_codec.proofs.Basics.{segment_other}
-use Rattle.record_codec.proofs.names.segment_of.Goals as goal
-
-pub returns-in_err-segment : goal.returns-in_err-segment
-returns-in_err-segment c =
-    let p = err_from_is_err_and c.from_residual-in_err-segment.result c.from_residual-in_err-segment.ensures.1 in
-    rw p.1 (fails_also p.0 (λ other. segment_other c.args.bytes.now c.in_ok-content.content.now c.in_ok-content.rest.now c.in_ok-content.ensures (c.in_err-segment.ensures.fault other).1) p.2)

@@ -1,7 +1,0 @@
-use Rattle.std.specs.List.{flat_map}
-use Rattle.record_codec.specs.Spelling.{text, IsSegmentText}
-use Rattle.record_codec.specs.Reading.{Begins, AreMany}
-use Rattle.record_codec.proofs.names.segments_of.Given as goal
-
-abbrev pub invariant-loop : goal.invariant-loop
-invariant-loop l = Begins (flat_map text) (AreMany IsSegmentText l.counter) l.initial.rest l.segments.items l.rest

@@ -1,7 +1,0 @@
-use Rattle.std.proofs.Common.{◌≡◌, ◌++◌, length, take}
-use Rattle.std.specs.List.{flat_map}
-use Rattle.record_codec.specs.Spelling.{number, transform}
-use Rattle.record_codec.proofs.transforms.put_transforms.Given as goal
-
-abbrev pub invariant-loop-transform : goal.invariant-loop-transform
-invariant-loop-transform l = l.out.items ≡ (l.fn.out.items ++ number (length l.transforms)) ++ flat_map transform (take l.transform-index l.transforms)

@@ -1,7 +1,0 @@
-use Rattle.std.specs.List.{flat_map}
-use Rattle.record_codec.specs.Spelling.{transform, IsSpelledTransform}
-use Rattle.record_codec.specs.Reading.{Begins, AreMany}
-use Rattle.record_codec.proofs.transforms.transforms_of.Given as goal
-
-abbrev pub invariant-loop : goal.invariant-loop
-invariant-loop l = Begins (flat_map transform) (AreMany IsSpelledTransform l.counter) l.initial.rest l.transforms.items l.rest

@@ -1,7 +1,0 @@
-use Rattle.std.specs.List.{flat_map}
-use Rattle.record_codec.specs.Spelling.{write, IsSpelledWrite}
-use Rattle.record_codec.specs.Reading.{Begins, AreMany}
-use Rattle.record_codec.proofs.writes.writes_of.Given as goal
-
-abbrev pub invariant-loop : goal.invariant-loop
-invariant-loop l = Begins (flat_map write) (AreMany IsSpelledWrite l.counter) l.initial.rest l.writes.items l.rest

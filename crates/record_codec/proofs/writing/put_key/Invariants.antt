@@ -1,7 +1,0 @@
-use Rattle.std.proofs.Common.{◌≡◌, ◌++◌, length, take}
-use Rattle.std.specs.List.{flat_map}
-use Rattle.record_codec.specs.Spelling.{number, text}
-use Rattle.record_codec.proofs.writing.put_key.Given as goal
-
-abbrev pub invariant-loop-i : goal.invariant-loop-i
-invariant-loop-i l = l.out.items ≡ (l.fn.out.items ++ number (length l.name)) ++ flat_map text (take l.i l.name)

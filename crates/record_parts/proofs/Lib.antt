@@ -1,0 +1,9 @@
+pub mod Basics
+pub mod Combine
+pub mod Entries
+pub mod Forms
+pub mod Options
+pub mod Puts
+pub mod Values
+pub mod Wide
+pub mod WriteForms
