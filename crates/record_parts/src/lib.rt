@@ -18,7 +18,7 @@ mod writes;
 mod writing;
 
 pub use fault::ReadError;
-pub use fields::{DEPTH, value_of, values_of};
+pub use fields::{DEPTH, fields_of, value_of, values_of};
 pub use names::{key_of, segment_of, segments_of, slice_of, text_of};
 pub use numbers::{after, byte_of, flag_of, u32_of, u64_of};
 pub use paths::{path_of, put_path};
