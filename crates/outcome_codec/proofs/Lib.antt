@@ -1,0 +1,2 @@
+pub mod Adjacents
+pub mod OutcomeForms

@@ -1,0 +1,6 @@
+use Rattle.document_keys.specs.Order.{PathBefore}
+use Rattle.outcome_codec.proofs.Adjacents.{Adjacent}
+use Rattle.outcome_codec.proofs.ascending.keys_ascend.Given as goal
+
+abbrev pub invariant-loop-i : goal.invariant-loop-i
+invariant-loop-i l = Adjacent PathBefore l.keys l.i
