@@ -41,7 +41,10 @@ pub fn ids_of(alloc: Global, bytes: &[u8]) -> Result<(Vec<u32>, &[u8]), ReadErro
 }
 
 /// Appends the four bytes of an id.
-pub(crate) fn put_id(out: &mut Vec<u8>, id: u32) -> Result<(), NoMemory>
+///
+/// # Errors
+/// `NoMemory`
+pub fn put_id(out: &mut Vec<u8>, id: u32) -> Result<(), NoMemory>
     ensures { OnOk result (out.new.items ≡ out.old.items ++ target_id id) }
 {
     out.extend_from_slice(&id.to_be_bytes())?;

@@ -16,7 +16,7 @@ mod results;
 mod rows;
 
 pub use entries::{entries_of, put_entries};
-pub use ids::{ids_of, put_ids};
+pub use ids::{ids_of, put_id, put_ids};
 pub use keys::{keys_of, put_keys};
 pub use laws::no_front;
 pub use parts::{KeyedEntry, PointRow};

@@ -3,16 +3,49 @@ ghost use Rattle.record_codec.specs.declared.commit.Commit.{Commit as CommitData
 ghost use Rattle.record_codec.specs.Spelling.{spelling, HasSpelling};
 
 use crate::commits::{commit_of, put_commit};
-use document_keys::NoMemory;
-use mutations::Batch;
+use document_keys::{KeySet, NoMemory, Sequence};
+use mutations::{Batch, WriteResults};
+use outcome_codec::{KeyedEntry, PointRow};
+use queries::Target;
 use record_parts::ReadError;
 use std::alloc::Global;
+use value_model::Timestamp;
 
 /// One step of the durable state.
 #[derive(Debug, Drop)]
 pub enum Commit {
     /// A batch joins the pending ones.
     Enqueue(Batch),
+    /// The backend took the first pending batch, at the time, with a result for each of its writes.
+    Acknowledge {
+        batch: u64,
+        at: Timestamp,
+        results: WriteResults,
+    },
+    /// The backend refused the first pending batch.
+    Reject {
+        batch: u64,
+    },
+    /// A target gets an id.
+    Allocate {
+        id: u32,
+        target: Target,
+    },
+    /// What the backend told up to the read time: entries by ascending key, and rows of targets by ascending id.
+    Point {
+        at: Timestamp,
+        entries: Sequence<KeyedEntry>,
+        rows: Sequence<PointRow>,
+    },
+    /// The rows of the targets, by ascending id, become blank.
+    Reset {
+        ids: Sequence<u32>,
+    },
+    /// The entries of the keys go, and the rows of the targets, by ascending id, become blank.
+    Drop {
+        keys: KeySet,
+        ids: Sequence<u32>,
+    },
 }
 
 /// The commit's one spelling.
