@@ -37,6 +37,7 @@ reported_part most text piece k within =
 
 committed_counts : (s : State) (c : Commit) → (committed s c).number ≡ s.number + 1
 committed_counts s (Enqueue batch) = refl
+committed_counts s commit = refl
 
 after_counts : (s : State) (c : Option Commit) → (after s c).number ≡ s.number + length (made c)
 after_counts s None = omega arith

@@ -10,7 +10,7 @@ use Rattle.record_codec.specs.Spelling.{spelling, HasSpelling}
 use Rattle.record_codec.proofs.Whole.{one_value}
 use Rattle.host_api.specs.Host.{Files}
 use Rattle.disk_journal.proofs.Pairs.{gives_once}
-use Rattle.local_store.specs.State.{State, start, Fits, committed, most_commits, Replays}
+use Rattle.local_store.specs.State.{State, start, Fits, committed, most_commits, Replays, IsEnqueue}
 use Rattle.local_store.specs.Files.{FindsState}
 
 -- one payload more
@@ -82,6 +82,12 @@ leads_on payloads i payload batch old new below item has is fits pushed so_far =
 -- whether a commit fits rests on the number and the next id alone
 pub fits_alike : (n i : ℕ) (bs cs : List Batch) (commit : Commit) → n ≡ i → Fits (record { number = i; batches = bs; next_batch = i + 1 }) commit → Fits (record { number = n; batches = cs; next_batch = n + 1 }) commit
 fits_alike n i bs cs (Enqueue batch) same fits = (record { id = fits.0.id ∙ ap (λ k. k + 1) (sym same); some = fits.0.some; most = fits.0.most }, subst (λ k. k < most_commits) (sym same) fits.1)
+fits_alike n i bs cs commit same fits = absurd fits.0
+
+-- only a batch fits
+pub enqueues : (s : State) (commit : Commit) → Fits s commit → IsEnqueue commit
+enqueues s (Enqueue batch) fits = tt
+enqueues s commit fits = absurd fits.0
 
 pub spelled_as : (commit : Commit) (batch : Batch) (bytes : List ℕ) → commit ≡ Enqueue batch → HasSpelling commit × (bytes ≡ spelling commit) → HasSpelling (Enqueue batch) × (bytes ≡ spelling (Enqueue batch))
 spelled_as commit batch bytes same found = subst (λ (c : Commit). HasSpelling c × (bytes ≡ spelling c)) same found

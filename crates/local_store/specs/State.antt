@@ -24,9 +24,15 @@ pub record IsNext (s : State) (batch : Batch) : Type 0 where
   pub some : 1 ≤ length batch.writes
   pub most : length batch.writes ≤ 500
 
--- the commit suits the state
+-- the commit puts a batch behind the pending ones
+abbrev pub IsEnqueue : Commit → Type 0
+IsEnqueue (Enqueue batch) = Unit {0}
+IsEnqueue _ = ⊥
+
+-- The commit suits the state. What the streams bring has no effect yet, so no such commit does.
 abbrev pub Suits : State → Commit → Type 0
 Suits s (Enqueue batch) = IsNext s batch
+Suits s _ = ⊥
 
 -- and a number is left for it
 abbrev pub Fits : State → Commit → Type 0
@@ -38,6 +44,7 @@ effect s (Enqueue batch) = record s {
   batches = s.batches ++ batch ∷ [];
   next_batch = s.next_batch + 1;
 }
+effect s _ = s
 
 -- and each counts
 abbrev pub committed : State → Commit → State

@@ -2,7 +2,7 @@
 
 ghost use Rattle.std.specs.Prelude.{◌≡◌, ◌+◌, ◌≤◌, ◌^◌, [], length, map, IsTrue, ◌↔◌, IfOk, MatchOption};
 ghost use Rattle.local_store.specs.Laying.{AreLaid};
-ghost use Rattle.local_store.specs.State.{State, start, Fits, Replays};
+ghost use Rattle.local_store.specs.State.{State, start, Fits, IsEnqueue, Replays};
 
 use crate::laying::lay;
 use document_keys::NoMemory;
@@ -30,17 +30,24 @@ pub(crate) fn fits(number: u64, next_batch: u64, commit: &Commit) -> bool
     ensures { IsTrue result ↔ Fits
         (record { number = number; batches = []; next_batch = next_batch }) commit.now }
 {
-    let Commit::Enqueue(batch) = commit;
-    let writes = batch.writes.as_slice().len();
-    batch.id == next_batch && writes >= 1 && writes <= MOST_WRITES && number < MOST_COMMITS
+    match commit {
+        Commit::Enqueue(batch) => {
+            let writes = batch.writes.as_slice().len();
+            batch.id == next_batch && writes >= 1 && writes <= MOST_WRITES && number < MOST_COMMITS
+        }
+        _ => false,
+    }
 }
 
 /// The batch that the commit puts into the state.
 pub(crate) fn batch_of(commit: Commit) -> Batch
+    requires { IsEnqueue commit }
     ensures { commit ≡ Commit.Enqueue result }
 {
-    let Commit::Enqueue(batch) = commit;
-    batch
+    match commit {
+        Commit::Enqueue(batch) => batch,
+        _ => unreachable!(),
+    }
 }
 
 /// The tables of the state to which the payloads, one after another, lead from the empty one, or `None` where one of them

@@ -10,8 +10,8 @@ use Rattle.mutations.specs.declared.write.Write.TheVariants.{Update, Delete}
 
 -- the value is no array and no map
 abbrev pub IsScalar : Data → Type 0
-IsScalar (array items) = ⊥
-IsScalar (map members) = ⊥
+IsScalar (array _) = ⊥
+IsScalar (map _) = ⊥
 IsScalar _ = Unit {0}
 
 -- a value that may be the result of the change: what an array's is says nothing, any other one's is a scalar

@@ -3,7 +3,7 @@ use Rattle.mutations.specs.declared.batch.Batch.{Batch}
 use Rattle.record_codec.specs.declared.commit.Commit.{Commit}
 use Rattle.local_store.specs.State.{Fits}
 use Rattle.local_store.proofs.Laid.{none_laid}
-use Rattle.local_store.proofs.Replayed.{stuck, unfit, leads_on, fits_alike, spelled_as}
+use Rattle.local_store.proofs.Replayed.{stuck, unfit, leads_on, fits_alike, spelled_as, enqueues}
 use Rattle.local_store.proofs.Spelled.{batch_of_fields}
 use Rattle.local_store.proofs.replay.replay.Goals as goal
 
@@ -25,6 +25,9 @@ returns-then-not-fits-clause-state c =
     stuck _ c.loop-payload.payload-index c.payload-item.result _ c.loop-payload-test.true c.payload-item.is c.loop-payload.invariant.replays
     (unfit (record { number = c.loop-payload.payload-index; batches = c.loop-payload.pending.batches; next_batch = c.loop-payload.payload-index + 1 }) c.in-Some.commit _ (found.0, sym c.as_slice.ensures.value ∙ found.1)
     (λ fits. let yes_it_does = c.fits.ensures.1 (fits_alike c.loop-payload.number c.loop-payload.payload-index c.loop-payload.pending.batches [] c.in-Some.commit c.loop-payload.invariant.number fits) in let no_it_does = c.if-not-fits.true in cc))
+
+pub batch_of-batch-requires : goal.batch_of-batch-requires
+batch_of-batch-requires c = enqueues _ c.in-Some.commit (c.fits.ensures.0 c.if-not-fits.false)
 
 pub lay-requires-clause-fields : goal.lay-requires-clause-fields
 lay-requires-clause-fields c =

@@ -8,8 +8,12 @@ use Rattle.local_store.specs.Laying.{AreLaid}
 use Rattle.local_store.specs.Store.{Store, IsOver}
 use Rattle.local_store.proofs.Committed.{stands, nothing_moves, append_moves, appends_payload, leads_more, over_finds, over_more, state_more, still_kept}
 use Rattle.local_store.proofs.Laid.{laid_more}
+use Rattle.local_store.proofs.Replayed.{enqueues}
 use Rattle.local_store.proofs.Spelled.{batch_of_fields}
 use Rattle.local_store.proofs.local_store.LocalStore.commit.Goals as goal
+
+pub batch_of-batch-requires : goal.batch_of-batch-requires
+batch_of-batch-requires g c = enqueues _ c.args.commit c.requires.fits
 
 pub returns-in_err-frame-clause-files : goal.returns-in_err-frame-clause-files
 returns-in_err-frame-clause-files g c = λ told whole. stands c.args.self.now.place whole (λ at same. nothing_moves _ (c.requires.stored told at same))
