@@ -1,0 +1,5 @@
+pub mod Filling
+pub mod Members
+pub mod Order
+pub mod Pairs
+pub mod Updated
