@@ -1,0 +1,53 @@
+-- The entries of a cache, as contracts see them: a finite map from keys to what is known of the document and how that is
+-- sealed, and beside it the room for more.
+use Rattle.std.specs.Prelude.{◌≡◌, ℕ, List, Bool, false, Option, Some, None, is_some, option_and_then, IsTrue, if◌then◌else◌}
+use Rattle.std.specs.Coded.{Coded, coded×, coded_list, coded_ℕ}
+use Rattle.std.specs.Map.{lookup}
+use Rattle.document_keys.specs.KeySet.{is_key}
+use Rattle.document_keys.specs.Names.{IsKey}
+use Rattle.value_model.specs.declared.document.Entry.{Entry}
+use Rattle.value_model.specs.declared.document.Seal.{Seal}
+use Rattle.remote_documents.specs.contracts.slot.Slot as slot
+use Rattle.remote_documents.specs.declared.slot.Slot.{Slot}
+use Rattle.remote_documents.specs.declared.slot.Slot.TheVariants.{Reserved, Held}
+
+-- the places of the table by key, ascending: each is made for an entry, or holds one
+abbrev pub Table : Type 0
+Table = List (List (List ℕ) × Slot)
+
+abbrev pub table_code : Coded Table
+table_code = coded_list (coded× (coded_list (coded_list coded_ℕ)) slot.the_row.coded)
+
+-- the entry that a place holds, with its seal
+abbrev pub held : Slot → Option (Entry × Seal)
+held Reserved = None
+held (Held entry seal) = Some (entry, seal)
+
+-- the entry of a key, with its seal
+abbrev pub entry_of : Table → List (List ℕ) → Option (Entry × Seal)
+entry_of table key = option_and_then held (lookup (is_key key) table)
+
+-- the table has a place for the key's entry
+abbrev pub has_place : Table → List (List ℕ) → Bool
+has_place table key = is_some (lookup (is_key key) table)
+
+-- what has a place is the key of a document
+abbrev pub HasKeysOnly : Table → Type 0
+HasKeysOnly table = (key : List (List ℕ)) → IsTrue (has_place table key) → IsKey key
+
+-- no entry changes
+abbrev pub SameEntries : Table → Table → Type 0
+SameEntries old new = (key : List (List ℕ)) → entry_of new key ≡ entry_of old key
+
+-- one key has this entry, or none, and every other the one that it had
+abbrev pub Changes : List (List ℕ) → Option (Entry × Seal) → Table → Table → Type 0
+Changes key entry old new = (q : List (List ℕ)) → entry_of new q ≡ (if is_key key q then entry else entry_of old q)
+
+-- every place stays
+abbrev pub KeepsPlaces : Table → Table → Type 0
+KeepsPlaces old new = (key : List (List ℕ)) → IsTrue (has_place old key) → IsTrue (has_place new key)
+
+-- every place stays, but that of this key
+abbrev pub KeepsOtherPlaces : List (List ℕ) → Table → Table → Type 0
+KeepsOtherPlaces key old new = (q : List (List ℕ)) → is_key key q ≡ false
+    → IsTrue (has_place old q) → IsTrue (has_place new q)

@@ -1,0 +1,173 @@
+ghost use Rattle.std.specs.Prelude.{◌≡◌, ◌↔◌, ℕ, List, Some, None, IsTrue, IsOk, OnOk, OnErr, IfOk, option_map};
+ghost use Rattle.std.specs.List.{AllPairs, Contains};
+ghost use Rattle.std.specs.Option.{IsSome};
+ghost use Rattle.document_keys.specs.Order.{PathBefore};
+ghost use Rattle.value_model.specs.Documents.{IsIn};
+ghost use Rattle.remote_documents.specs.Table.{Changes, KeepsOtherPlaces, KeepsPlaces, SameEntries};
+ghost use Rattle.remote_documents.specs.Table.{entry_of, has_place, held};
+
+use crate::below::{is_below, least_key};
+use crate::slot::Slot;
+use document_keys::{CollectionPath, DocumentKey, KeySet, NoMemory};
+use std::alloc::Global;
+use std::collections::BTreeMap;
+use std::marker::Model;
+use value_model::{Entry, Seal};
+
+/// What is known of documents, by key. Contracts see a finite map from keys to entries with their seals, by `entry_of`, and
+/// beside it the room for more, by `has_place`.
+#[derive(Debug, Drop)]
+pub struct RemoteDocuments {
+    slots: BTreeMap<DocumentKey, Slot>,
+    alloc: Global,
+}
+
+impl Model for RemoteDocuments {
+    ghost use Rattle.remote_documents.specs.Table.{HasKeysOnly, Table, table_code};
+
+    ghost Value = { Table };
+
+    ghost coded = { table_code };
+
+    ghost view = { λ documents. documents.slots.entries };
+
+    ghost invariant = { λ documents. HasKeysOnly documents.slots.entries };
+}
+
+/// Whether the place holds an entry.
+fn is_held(slot: &Slot) -> bool
+    ensures { IsTrue result ↔ IsSome (held slot.now) }
+{
+    matches!(slot, Slot::Held(_, _))
+}
+
+/// Whether the key is that of a document of the collection, and has an entry.
+fn is_listed(collection: &CollectionPath, key: &DocumentKey, slot: &Slot) -> bool
+    ensures { IsTrue result ↔ (IsIn collection.now key.now × IsSome (held slot.now)) }
+{
+    key.is_in(collection) && is_held(slot)
+}
+
+impl RemoteDocuments {
+    /// No entries. It takes no memory yet.
+    pub fn new(alloc: Global) -> RemoteDocuments
+        ensures { (key : List (List ℕ)) → entry_of result key ≡ None }
+    {
+        RemoteDocuments {
+            slots: BTreeMap::new(alloc),
+            alloc,
+        }
+    }
+
+    /// The entry of the key and its seal, lent; `None` exactly where there is no entry.
+    pub fn entry(&self, key: &DocumentKey) -> Option<(&Entry, &Seal)>
+        ensures { option_map (λ pair. (pair.0.now, pair.1.now)) result ≡ entry_of self.now key.now }
+    {
+        match self.slots.get(key) {
+            Some(Slot::Held(entry, seal)) => Some((entry, seal)),
+            _ => None,
+        }
+    }
+
+    /// Makes a place for the key's entry. Nothing else changes.
+    ///
+    /// # Errors
+    /// `NoMemory`, never where there is a place.
+    pub fn reserve(&mut self, key: &DocumentKey) -> Result<(), NoMemory>
+        ensures same { SameEntries self.old self.new }
+        ensures room { OnOk result (IsTrue (has_place self.new key.now)) }
+        ensures kept { IsTrue (has_place self.old key.now) → IsOk result }
+        ensures places { KeepsPlaces self.old self.new }
+    {
+        // what it says of the key is the invariant of the table
+        let _count = key.len();
+        if !self.slots.contains_key(key) {
+            self.slots.insert(key.copy(self.alloc)?, Slot::Reserved)?;
+        }
+        Ok(())
+    }
+
+    /// Puts the entry with its seal in place of the key's old one, where there is a place. It takes no memory.
+    pub fn set(&mut self, key: &DocumentKey, entry: Entry, seal: Seal)
+        requires { IsTrue (has_place self.old key.now) }
+        ensures done { Changes key.now (Some (entry, seal)) self.old self.new }
+        ensures places { KeepsPlaces self.old self.new }
+    {
+        let Some(slot) = self.slots.get_mut(key) else {
+            return;
+        };
+        *slot = Slot::Held(entry, seal);
+    }
+
+    /// Puts the entry with its seal in place of the key's old one.
+    ///
+    /// # Errors
+    /// `NoMemory`, never where there is a place for the key: no entry has changed then.
+    pub fn put(
+        &mut self,
+        _alloc: Global,
+        key: DocumentKey,
+        entry: Entry,
+        seal: Seal,
+    ) -> Result<(), NoMemory>
+        ensures done { OnOk result (Changes key (Some (entry, seal)) self.old self.new) }
+        ensures undone { OnErr result (SameEntries self.old self.new) }
+        ensures kept { IsTrue (has_place self.old key) → IsOk result }
+        ensures places { KeepsPlaces self.old self.new }
+    {
+        self.reserve(&key)?;
+        self.set(&key, entry, seal);
+        Ok(())
+    }
+
+    /// Takes the key's entry away, if there is one, and its place.
+    pub fn remove(&mut self, key: &DocumentKey)
+        ensures done { Changes key.now None self.old self.new }
+        ensures places { KeepsOtherPlaces key.now self.old self.new }
+    {
+        self.slots.remove(key);
+    }
+
+    /// The keys of the collection's documents among those that have an entry, ascending. It looks at the places below the
+    /// collection's path alone.
+    ///
+    /// # Errors
+    /// `NoMemory`
+    pub fn keys_in(
+        &self,
+        alloc: Global,
+        collection: &CollectionPath,
+    ) -> Result<Vec<DocumentKey>, NoMemory>
+        ensures ascending { IfOk result (λ keys. AllPairs PathBefore keys.items) }
+        ensures members { IfOk result (λ keys. (key : List (List ℕ)) →
+            Contains keys.items key ↔ (IsIn collection.now key × IsSome (entry_of self.now key))) }
+    {
+        let least = least_key(alloc, collection)?;
+        let mut keys = Vec::new(alloc);
+        for (key, slot) in self.slots.range(&least..) {
+            if !is_below(collection, key) {
+                return Ok(keys);
+            }
+            if is_listed(collection, key, slot) {
+                keys.push(key.copy(alloc)?)?;
+            }
+        }
+        Ok(keys)
+    }
+
+    /// The keys of all entries.
+    ///
+    /// # Errors
+    /// `NoMemory`
+    pub fn keys(&self, alloc: Global) -> Result<KeySet, NoMemory>
+        ensures { IfOk result (λ keys. (key : List (List ℕ)) → Contains keys key ↔ IsSome (entry_of self.now key)) }
+    {
+        let mut keys = KeySet::new(alloc);
+        for (key, slot) in self.slots.iter() {
+            if is_held(slot) {
+                keys.insert(alloc, key.copy(alloc)?)?;
+            }
+        }
+        Ok(keys)
+    }
+}
