@@ -1,6 +1,6 @@
 -- Limbo listens (the client SDK's rule of limbo resolution): a document that a listener shows, though its target doesn't hold
 -- it, is in limbo and listened to by itself. At most 100 such listens run at a time; the other keys wait in a queue.
-use Rattle.std.specs.Prelude.{◌≡◌, ℕ, ◌+◌, ◌*◌, ℤ, pos, Bool, ◌&&◌, not, nat_lt, nat_le, nat_eq, if◌then◌else◌}
+use Rattle.std.specs.Prelude.{ℕ, ◌+◌, ◌%◌, ℤ, pos, Bool, false, ◌==◌, ◌&&◌, not, nat_lt, nat_le, nat_eq, if◌then◌else◌}
 use Rattle.std.specs.Prelude.{Option, List, [], ◌∷◌, ◌++◌, length, map, drop}
 use Rattle.std.specs.Cmp.Lexicographic.{pointwise}
 use Rattle.std.specs.List.{filter, list_any}
@@ -19,8 +19,9 @@ abbrev pub has : List Key → Key → Bool
 has keys key = list_any (same_key key) keys
 
 -- an id of a limbo listen is odd and positive
-abbrev pub IsOdd : ℤ → Type 0
-IsOdd id = (n : ℕ) × (id ≡ pos (2 * n + 1))
+abbrev pub is_odd : ℤ → Bool
+is_odd (pos n) = n % 2 == 1
+is_odd _ = false
 
 -- the running listens, ascending by id; the keys that wait, first come first; the id that the next listen gets
 pub record Limbo : Type 0 where

@@ -1,8 +1,8 @@
 ghost use Rattle.std.specs.Prelude.{◌≡◌, ◌≤◌, ◌<◌, ◌+◌, ◌-◌, ◌*◌, ◌++◌, ◌<ℤ◌, pos, [], false, length, zip, drop, take};
-ghost use Rattle.std.specs.Prelude.{IfOk, OnOk, OnErr, option_map};
+ghost use Rattle.std.specs.Prelude.{IsTrue, IfOk, OnOk, OnErr, option_map};
 ghost use Rattle.std.specs.List.{AllPairs, filter};
 ghost use Rattle.limbo_resolver.specs.Held.{firsts, joined};
-ghost use Rattle.limbo_resolver.specs.Limbo.{IsOdd, Key, ended, has, has_place, held, ids_of, kept};
+ghost use Rattle.limbo_resolver.specs.Limbo.{is_odd, Key, ended, has, has_place, held, ids_of, kept};
 ghost use Rattle.limbo_resolver.specs.Limbo.{key_in, started, updated, without};
 
 use crate::ids::{ended_ids, kept_ids, place, push_ids};
@@ -89,7 +89,7 @@ fn prepare(
 impl LimboResolver {
     /// Without listens. The first gets this id, which is odd and positive, and the next ones go on by twos.
     pub fn new(alloc: Global, first: i32) -> LimboResolver
-        requires { IsOdd first }
+        requires { IsTrue (is_odd first) }
         ensures lists { (result.running ≡ []) × (result.waiting ≡ []) }
         ensures next { pos result.next ≡ first }
     {

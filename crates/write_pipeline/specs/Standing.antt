@@ -23,6 +23,10 @@ pub record StandsFor (p : WritePipeline) (h : Steps) : Type 0 where
 abbrev pub Takes : WritePipeline → WritePipeline → Step → Type 0
 Takes old new step = (h : Steps) → StandsFor old h → StandsFor new (step ∷ h)
 
+-- what stood for steps stands for them still
+abbrev pub Stays : WritePipeline → WritePipeline → Type 0
+Stays old new = (h : Steps) → StandsFor old h → StandsFor new h
+
 -- the pipeline stands for steps after which a batch may be sent
 pub record MaySend (p : WritePipeline) : Type 0 where
   pub steps : Steps

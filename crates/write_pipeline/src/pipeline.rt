@@ -1,4 +1,4 @@
-ghost use Rattle.std.specs.Prelude.{◌≡◌, ◌≤◌, ◌↔◌, ◌∷◌, [], IsTrue, IfOk, IfErr};
+ghost use Rattle.std.specs.Prelude.{◌≡◌, ◌≤◌, ◌∷◌, [], IfOk, IfErr, OnErr};
 ghost use Rattle.write_pipeline.specs.Order.{Steps, latest_token, next_place, rejects};
 ghost use Rattle.write_pipeline.specs.Order as step;
 
@@ -27,7 +27,7 @@ fn rejects(code: u8) -> bool
 }
 
 impl WritePipeline {
-    ghost use Rattle.write_pipeline.specs.Standing.{Fails, Fits, MaySend, StandsFor, Takes, closing_of, step_of};
+    ghost use Rattle.write_pipeline.specs.Standing.{Fails, Fits, MaySend, StandsFor, Stays, Takes, closing_of, step_of};
 
     /// A pipeline without a stream.
     pub fn new() -> WritePipeline
@@ -61,7 +61,7 @@ impl WritePipeline {
         ensures fits { IfOk result (λ answer. (h : Steps) → StandsFor self.old h → Fits h first.entry response.now answer) }
         ensures done { IfOk result (λ answer. Takes self.old self.new (step_of answer)) }
         ensures fails { IfErr result (λ member. (h : Steps) → StandsFor self.old h → Fails h first.entry response.now member) }
-        ensures undone { IfErr result (λ member. (h : Steps) → StandsFor self.old h → StandsFor self.new h) }
+        ensures undone { OnErr result (Stays self.old self.new) }
     {
         let results = response.results.as_slice();
         if !self.shaken {
