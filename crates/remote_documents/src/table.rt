@@ -115,8 +115,9 @@ impl RemoteDocuments {
         ensures kept { IsTrue (has_place self.old key) → IsOk result }
         ensures places { KeepsPlaces self.old self.new }
     {
-        self.reserve(&key)?;
-        self.set(&key, entry, seal);
+        // what it says of the key is the invariant of the table
+        let _size = key.len();
+        self.slots.insert(key, Slot::Held(entry, seal))?;
         Ok(())
     }
 

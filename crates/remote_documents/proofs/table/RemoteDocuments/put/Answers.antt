@@ -1,9 +1,10 @@
-use Rattle.std.proofs.Common.{◌∙◌, Some, if◌then◌else◌, ap}
-use Rattle.document_keys.specs.KeySet.{is_key}
+use Rattle.remote_documents.proofs.Tables.{only_keys, place_of, still}
 use Rattle.remote_documents.proofs.table.RemoteDocuments.put.Goals as goal
 
-pub returns-clause-done : goal.returns-clause-done
-returns-clause-done c = λ q. c.set.ensures.done q ∙ ap (λ e. if is_key c.args.key q then Some (c.args.entry, c.args.seal) else e) (c.in_ok-reserve.ensures.same q)
+pub invariant_of-self-2 : goal.invariant_of-self-2
+invariant_of-self-2 c =
+    only_keys c.self.inside.slots.entries c.insert.new.self.entries c.args.key _ c.in_ok-insert.ensures.updates.0 (λ some. c.len-size.ensures.key) c.self.invariant
 
 pub returns-clause-places : goal.returns-clause-places
-returns-clause-places c = λ q had. c.set.ensures.places q (c.in_ok-reserve.ensures.places q had)
+returns-clause-places c =
+    λ q. rw (← c.self.view_is) (still (place_of c.self.inside.slots.entries) (place_of c.insert.new.self.entries) c.args.key q _ (c.in_ok-insert.ensures.updates.0 q))
