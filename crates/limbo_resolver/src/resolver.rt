@@ -90,7 +90,8 @@ impl LimboResolver {
     /// Without listens. The first gets this id, which is odd and positive, and the next ones go on by twos.
     pub fn new(alloc: Global, first: i32) -> LimboResolver
         requires { IsTrue (is_odd first) }
-        ensures lists { (result.running ≡ []) × (result.waiting ≡ []) }
+        ensures running { result.running ≡ [] }
+        ensures waiting { result.waiting ≡ [] }
         ensures next { pos result.next ≡ first }
     {
         LimboResolver {
