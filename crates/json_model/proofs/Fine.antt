@@ -82,6 +82,9 @@ leaf_fits root leaf.Parent name d h = text_fine _ _ d name (parent_fine root) h
 leaf_fits root leaf.QueryPath name d h = text_fine _ _ d name query_fine h
 leaf_fits root leaf.Limit name d h = fine _ _ h
 leaf_fits root leaf.Descendants name d h = descendants_fine name d h
+leaf_fits root leaf.TargetId name d h = fine _ _ h
+leaf_fits root leaf.Count name d h = fine _ _ h
+leaf_fits root leaf.Code name d h = fine _ _ h
 leaf_fits root (leaf.Constant which) name d h = text_fine _ _ d name (constant_fine which name) h
 
 -- what a reader of leaves knows
@@ -128,4 +131,7 @@ fits_leaf root leaf.Parent name d (text, (is, h)) = in_text text [] is (parent_f
 fits_leaf root leaf.QueryPath name d (text, (is, h)) = in_text text [] is (few (not_many_in_query text h) (inl (h, refl)))
 fits_leaf root leaf.Limit name d h = inl (h, refl)
 fits_leaf root leaf.Descendants name d h = ap (descendants_faults name) (sym h)
+fits_leaf root leaf.TargetId name d h = inl (h, refl)
+fits_leaf root leaf.Count name d h = inl (h, refl)
+fits_leaf root leaf.Code name d h = inl (h, refl)
 fits_leaf root (leaf.Constant which) name d (text, (is, h)) = in_text text [] is (ap (λ b. if b then [] else if is_untaken which text then json_fault.Unsupported text ∷ [] else json_fault.BadShape name ∷ []) (sym h))

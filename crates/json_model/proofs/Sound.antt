@@ -197,6 +197,9 @@ required_ascending object.CompositeFilter = refl
 required_ascending object.FieldFilter = refl
 required_ascending object.ListFilter = refl
 required_ascending object.UnaryFilter = refl
+required_ascending object.DocumentChange = refl
+required_ascending object.Document = refl
+required_ascending object.DocumentDelete = refl
 required_ascending _ = refl
 
 both_true : (a b : Bool) → (a && b) ≡ true → (a ≡ true) × (b ≡ true)

@@ -62,6 +62,9 @@ leaf_spelled o leaf.Parent d f is = cc
 leaf_spelled o leaf.QueryPath d f is = cc
 leaf_spelled o leaf.Limit d f is = cc
 leaf_spelled o leaf.Descendants d f is = cc
+leaf_spelled o leaf.TargetId d f is = cc
+leaf_spelled o leaf.Count d f is = cc
+leaf_spelled o leaf.Code d f is = cc
 leaf_spelled o (leaf.Constant which) d f is = cc
 
 -- a member, by its name

@@ -20,6 +20,10 @@ is_test text = bytes_eq text (codes "IS_NOT_NULL") || bytes_eq text (codes "IS_N
 unfoldable pub is_direction : List ℕ → Bool
 is_direction text = bytes_eq text (codes "ASCENDING") || (bytes_eq text (codes "DESCENDING") || bytes_eq text (codes "DIRECTION_UNSPECIFIED"))
 
+-- what became of targets
+unfoldable pub is_change_type : List ℕ → Bool
+is_change_type text = bytes_eq text (codes "ADD") || (bytes_eq text (codes "CURRENT") || (bytes_eq text (codes "NO_CHANGE") || (bytes_eq text (codes "REMOVE") || bytes_eq text (codes "RESET"))))
+
 -- a test that isn't supported
 unfoldable pub is_untaken_test : List ℕ → Bool
 is_untaken_test text = bytes_eq text (codes "IS_NAN") || bytes_eq text (codes "IS_NOT_NAN")
@@ -34,6 +38,7 @@ is_constant constants.Junction text = is_junction text
 is_constant constants.Operator text = is_operator text
 is_constant constants.Test text = is_test text
 is_constant constants.Direction text = is_direction text
+is_constant constants.ChangeType text = is_change_type text
 
 -- it is one that isn't supported
 abbrev pub is_untaken : Constants → List ℕ → Bool

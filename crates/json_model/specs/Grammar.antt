@@ -76,6 +76,9 @@ is_scalar leaf.Parent = false
 is_scalar leaf.QueryPath = false
 is_scalar leaf.Limit = false
 is_scalar leaf.Descendants = false
+is_scalar leaf.TargetId = false
+is_scalar leaf.Count = false
+is_scalar leaf.Code = false
 is_scalar (leaf.Constant which) = false
 is_scalar _ = true
 

@@ -1,5 +1,5 @@
 -- Whole numbers of 64 bits with sign: JSON numbers without fraction or exponent, but not `-0`, or texts.
-use Rattle.std.specs.Prelude.{◌≡◌, ◌⊎◌, ℕ, ℤ, pos, List, codes, FitsSigned}
+use Rattle.std.specs.Prelude.{◌≡◌, ◌⊎◌, ◌≤◌, ℕ, ℤ, pos, List, codes, FitsSigned}
 use Rattle.std.specs.Fmt.{signed_decimal}
 use Rattle.std.specs.Int.{w32, w64}
 use Rattle.serde_json.specs.Data.{Data as Json, number, unsigned, negative, string}
@@ -17,6 +17,19 @@ IsNumber d z = ((n : ℕ) × (d ≡ number (unsigned n)) × (z ≡ pos n)) ⊎ (
 pub data SpellsWhole (d : Json) (z : ℤ) : Type 0 where
   as_number : FitsSigned w64 z → IsNumber d z → SpellsWhole d z
   as_text : (text : List ℕ) → d ≡ string text → SpellsInteger text z → SpellsWhole d z
+
+-- one from 0 to the most
+pub record SpellsUpTo (most : ℕ) (d : Json) (n : ℕ) : Type 0 where
+  pub whole : SpellsWhole d (pos n)
+  pub few : n ≤ most
+
+-- the most documents that a filter of a watch stream counts: a number of 32 bits with sign has no more
+abbrev pub max_count : ℕ
+max_count = 2147483647
+
+-- the last code of a status
+abbrev pub max_code : ℕ
+max_code = 16
 
 -- one of 32 bits
 pub record SpellsShort (d : Json) (z : ℤ) : Type 0 where

@@ -2,7 +2,7 @@
 use Rattle.std.specs.Prelude.{ℕ, List, [], ◌∷◌, Bool, true, false, not, ◌&&◌, ◌||◌, codes, if◌then◌else◌}
 use Rattle.std.specs.Str.{bytes_eq}
 use Rattle.json_model.specs.declared.place.Place.{Place}
-use Rattle.json_model.specs.declared.place.Place.TheVariants.{Leaf as a_leaf, Object as an_object, Series as a_series, Unsupported, Unknown}
+use Rattle.json_model.specs.declared.place.Place.TheVariants.{Leaf as a_leaf, Object as an_object, Series as a_series, Unsupported, Unknown, Ignored}
 use Rattle.json_model.specs.declared.place.Object.{Object}
 use Rattle.json_model.specs.declared.place.Object.TheVariants as object
 use Rattle.json_model.specs.declared.place.Series.{Series}
@@ -210,6 +210,75 @@ unary_filter_rows =
     (codes "op", a_leaf (leaf.Constant constants.Test)) ∷
     []
 
+-- a message of a watch stream
+unfoldable pub listen_response_rows : List Row
+listen_response_rows =
+    (codes "documentChange", an_object object.DocumentChange) ∷
+    (codes "documentDelete", an_object object.DocumentDelete) ∷
+    (codes "documentRemove", an_object object.DocumentDelete) ∷
+    (codes "filter", an_object object.ExistenceFilter) ∷
+    (codes "targetChange", an_object object.TargetChange) ∷
+    []
+
+-- what `targetChange` holds
+unfoldable pub target_change_rows : List Row
+target_change_rows =
+    (codes "cause", an_object object.Status) ∷
+    (codes "readTime", a_leaf leaf.Time) ∷
+    (codes "resumeToken", a_leaf leaf.Bytes) ∷
+    (codes "targetChangeType", a_leaf (leaf.Constant constants.ChangeType)) ∷
+    (codes "targetIds", a_series series.TargetIds) ∷
+    []
+
+-- what `documentChange` holds
+unfoldable pub document_change_rows : List Row
+document_change_rows =
+    (codes "document", an_object object.Document) ∷
+    (codes "removedTargetIds", a_series series.TargetIds) ∷
+    (codes "targetIds", a_series series.TargetIds) ∷
+    []
+
+-- what `document` of a changed one holds
+unfoldable pub document_rows : List Row
+document_rows =
+    (codes "createTime", Ignored) ∷
+    (codes "fields", an_object object.Fields) ∷
+    (codes "name", a_leaf leaf.Name) ∷
+    (codes "updateTime", a_leaf leaf.Time) ∷
+    []
+
+-- what `documentDelete` and `documentRemove` hold
+unfoldable pub document_delete_rows : List Row
+document_delete_rows =
+    (codes "document", a_leaf leaf.Name) ∷
+    (codes "readTime", a_leaf leaf.Time) ∷
+    (codes "removedTargetIds", a_series series.TargetIds) ∷
+    []
+
+-- what `filter` of a message holds
+unfoldable pub existence_filter_rows : List Row
+existence_filter_rows =
+    (codes "count", a_leaf leaf.Count) ∷
+    (codes "targetId", a_leaf leaf.TargetId) ∷
+    (codes "unchangedNames", Ignored) ∷
+    []
+
+-- a message of a write stream
+unfoldable pub write_response_rows : List Row
+write_response_rows =
+    (codes "commitTime", a_leaf leaf.Time) ∷
+    (codes "streamId", Ignored) ∷
+    (codes "streamToken", a_leaf leaf.Bytes) ∷
+    (codes "writeResults", a_series series.Results) ∷
+    []
+
+-- an item of `writeResults`
+unfoldable pub write_result_rows : List Row
+write_result_rows =
+    (codes "transformResults", a_series series.Values) ∷
+    (codes "updateTime", a_leaf leaf.Time) ∷
+    []
+
 -- the kind of a value, by its name
 abbrev pub value_member : List ℕ → Place
 value_member name = placed value_rows name
@@ -246,6 +315,16 @@ member_place object.ListFilter name = placed list_filter_rows name
 member_place object.UnaryFilter name = placed unary_filter_rows name
 member_place object.Field name = if bytes_eq name (codes "fieldPath") then a_leaf leaf.QueryPath else Unknown
 member_place object.ListOperand name = Unknown
+member_place object.ListenResponse name = placed listen_response_rows name
+member_place object.TargetChange name = placed target_change_rows name
+-- what else a status has is read over, whoever wrote it
+member_place object.Status name = if bytes_eq name (codes "code") then a_leaf leaf.Code else if bytes_eq name (codes "message") then a_leaf leaf.Text else Ignored
+member_place object.DocumentChange name = placed document_change_rows name
+member_place object.Document name = placed document_rows name
+member_place object.DocumentDelete name = placed document_delete_rows name
+member_place object.ExistenceFilter name = placed existence_filter_rows name
+member_place object.WriteResponse name = placed write_response_rows name
+member_place object.WriteResult name = placed write_result_rows name
 
 -- what is to stand in a list
 abbrev pub item_place : Series → Place
@@ -257,6 +336,8 @@ item_place series.Names = a_leaf leaf.Name
 item_place series.Selectors = an_object object.Selector
 item_place series.Orders = an_object object.Order
 item_place series.Filters = an_object object.Filter
+item_place series.TargetIds = a_leaf leaf.TargetId
+item_place series.Results = an_object object.WriteResult
 
 abbrev pub is_unknown : Place → Bool
 is_unknown Unknown = true
@@ -278,6 +359,9 @@ required object.CompositeFilter = codes "op" ∷ []
 required object.FieldFilter = codes "field" ∷ codes "op" ∷ codes "value" ∷ []
 required object.ListFilter = codes "field" ∷ codes "op" ∷ codes "value" ∷ []
 required object.UnaryFilter = codes "field" ∷ codes "op" ∷ []
+required object.DocumentChange = codes "document" ∷ []
+required object.Document = codes "name" ∷ codes "updateTime" ∷ []
+required object.DocumentDelete = codes "document" ∷ []
 required _ = []
 
 -- the name is one of these
@@ -295,6 +379,7 @@ chooses object.Transform = true
 chooses object.Operand = true
 chooses object.Target = true
 chooses object.Filter = true
+chooses object.ListenResponse = true
 chooses _ = false
 
 -- the member is one of them. What isn't supported counts, and in a line and an operand any that would be one elsewhere
@@ -307,4 +392,5 @@ is_choice object.Transform name = not (is_unknown (placed transform_rows name)) 
 is_choice object.Operand name = not (is_unknown (placed value_rows name))
 is_choice object.Target name = not (is_unknown (placed target_rows name))
 is_choice object.Filter name = not (is_unknown (placed filter_rows name))
+is_choice object.ListenResponse name = not (is_unknown (placed listen_response_rows name))
 is_choice _ name = false

@@ -11,7 +11,7 @@ ghost use Rattle.json_model.specs.declared.fault.JsonFault.TheVariants as json_f
 ghost use Rattle.json_model.specs.Clean.{IsClean};
 ghost use Rattle.json_model.specs.Constants.{is_constant};
 ghost use Rattle.json_model.specs.Grammar.{SpellsTime, SpellsName, SpellsText, SpellsBytesTree, SpellsReferenceTree, SpellsPathTree, SpellsId, SpellsParent, SpellsQueryPathTree};
-ghost use Rattle.json_model.specs.Numbers.{SpellsWhole, SpellsShort};
+ghost use Rattle.json_model.specs.Numbers.{SpellsWhole, SpellsShort, SpellsUpTo, max_count, max_code};
 ghost use Rattle.json_model.specs.Storable.{IsStorablePath, IsStorableQueryPath};
 
 use crate::bytes::read_bytes;
@@ -19,7 +19,7 @@ use crate::fault::JsonFault;
 use crate::names::{
     is_documents, read_key, read_path, read_query_path, read_reference, read_segment,
 };
-use crate::numbers::{read_short, read_whole};
+use crate::numbers::{MAX_CODE, MAX_COUNT, read_short, read_up_to, read_whole};
 use crate::place::Constants;
 use crate::setting::Setting;
 use crate::texts::{show_key, show_path, show_segment};
@@ -258,6 +258,48 @@ pub fn clean_limit(alloc: Global, _setting: &Setting<'_>, json: &Json) -> Result
 {
     match read_short(alloc, json)? {
         Some(number) => Ok(number),
+        None => unreachable!(),
+    }
+}
+
+/// The id of a target.
+///
+/// # Errors
+/// `NoMemory`
+pub fn clean_target_id(alloc: Global, _setting: &Setting<'_>, json: &Json) -> Result<i32, NoMemory>
+    requires { IsClean _setting.now (places.Leaf leaves.TargetId) (view json.now) }
+    ensures { IfOk result (λ z. SpellsShort (view json.now) z) }
+{
+    match read_short(alloc, json)? {
+        Some(number) => Ok(number),
+        None => unreachable!(),
+    }
+}
+
+/// A number of documents.
+///
+/// # Errors
+/// `NoMemory`
+pub fn clean_count(alloc: Global, _setting: &Setting<'_>, json: &Json) -> Result<u32, NoMemory>
+    requires { IsClean _setting.now (places.Leaf leaves.Count) (view json.now) }
+    ensures { IfOk result (λ n. SpellsUpTo max_count (view json.now) n) }
+{
+    match read_up_to(alloc, MAX_COUNT, json)? {
+        Some(count) => Ok(count),
+        None => unreachable!(),
+    }
+}
+
+/// The code of a status.
+///
+/// # Errors
+/// `NoMemory`
+pub fn clean_code(alloc: Global, _setting: &Setting<'_>, json: &Json) -> Result<u8, NoMemory>
+    requires { IsClean _setting.now (places.Leaf leaves.Code) (view json.now) }
+    ensures { IfOk result (λ n. SpellsUpTo max_code (view json.now) n) }
+{
+    match read_up_to(alloc, MAX_CODE, json)? {
+        Some(code) => Ok(code as u8),
         None => unreachable!(),
     }
 }

@@ -62,6 +62,21 @@ fn is_direction(text: &str) -> bool
     }
 }
 
+/// Whether it says what became of targets.
+#[tactic(auto, unfolding(crate::specs::Constants::is_change_type))]
+fn is_change_type(text: &str) -> bool
+    ensures { result ≡ constants.is_change_type text.now }
+{
+    match text {
+        "ADD" => true,
+        "CURRENT" => true,
+        "NO_CHANGE" => true,
+        "REMOVE" => true,
+        "RESET" => true,
+        _ => false,
+    }
+}
+
 /// Whether it is a test of a field that isn't supported.
 #[tactic(auto, unfolding(crate::specs::Constants::is_untaken_test))]
 fn is_untaken_test(text: &str) -> bool
@@ -96,6 +111,7 @@ pub(crate) fn is_constant(which: Constants, text: &str) -> bool
         Constants::Operator => is_operator(text),
         Constants::Test => is_test(text),
         Constants::Direction => is_direction(text),
+        Constants::ChangeType => is_change_type(text),
     }
 }
 

@@ -1,11 +1,11 @@
 //! The faults of trees that aren't looked into.
 
-ghost use Rattle.std.specs.Prelude.{◌≡◌, ◌≢◌, ◌⊎◌, ◌↔◌, ℤ, Bool, Some, None, IsTrue, IfOk, codes, if◌then◌else◌};
+ghost use Rattle.std.specs.Prelude.{◌≡◌, ◌≢◌, ◌⊎◌, ◌↔◌, ℕ, ℤ, Bool, Some, None, IsTrue, IfOk, codes, if◌then◌else◌};
 ghost use Rattle.serde_json.specs.Data.{null, boolean, string};
 ghost use Rattle.serde_json.specs.View.{view};
 ghost use Rattle.json_model.specs.declared.fault.JsonFault.TheVariants as json_fault;
 ghost use Rattle.json_model.specs.Ranks.{first_of_least};
-ghost use Rattle.json_model.specs.Numbers.{SpellsWhole, SpellsShort};
+ghost use Rattle.json_model.specs.Numbers.{SpellsWhole, SpellsShort, SpellsUpTo};
 ghost use Rattle.json_model.specs.Faults.{FirstOf, FlatFaults, unknown_faults};
 ghost use Rattle.json_model.specs.Leaves.{Unless, InText, IsNullTree, IsText, IsTimeText, IsBytesText, ReferenceFaults, DocumentFaults, ParentFaults, PathFaults, QueryPathFaults, IdFaults, constant_faults, descendants_faults, LeafFaults};
 
@@ -15,7 +15,7 @@ use crate::fault::{JsonFault, NamingFault};
 use crate::names::{
     bad_name, is_documents, read_key, read_path, read_query_path, read_reference, read_segment,
 };
-use crate::numbers::{read_short, read_whole};
+use crate::numbers::{MAX_CODE, MAX_COUNT, read_short, read_up_to, read_whole};
 use crate::place::{Constants, Leaf, Place};
 use crate::setting::Setting;
 use crate::side::Side;
@@ -275,6 +275,18 @@ fn find_in_limit(alloc: Global, name: &str, json: &Json) -> Result<Option<JsonFa
     bad_shape_unless(alloc, number.is_some(), name)
 }
 
+fn find_up_to(
+    alloc: Global,
+    most: u32,
+    name: &str,
+    json: &Json,
+) -> Result<Option<JsonFault>, NoMemory>
+    ensures { IfOk result (λ found. FirstOf (Unless ((n : ℕ) × SpellsUpTo most (view json.now) n) (json_fault.BadShape name.now)) found) }
+{
+    let number = read_up_to(alloc, most, json)?;
+    bad_shape_unless(alloc, number.is_some(), name)
+}
+
 fn find_in_descendants(
     alloc: Global,
     name: &str,
@@ -346,6 +358,9 @@ fn find_in_leaf(
         Leaf::QueryPath => find_in_query_path(alloc, name, json),
         Leaf::Limit => find_in_limit(alloc, name, json),
         Leaf::Descendants => find_in_descendants(alloc, name, json),
+        Leaf::TargetId => find_in_limit(alloc, name, json),
+        Leaf::Count => find_up_to(alloc, MAX_COUNT, name, json),
+        Leaf::Code => find_up_to(alloc, MAX_CODE, name, json),
         Leaf::Constant(which) => find_in_constant(alloc, which, name, json),
     }
 }

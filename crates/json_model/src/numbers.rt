@@ -1,6 +1,6 @@
-ghost use Rattle.std.specs.Prelude.{ℤ, IfOk, MatchOption};
+ghost use Rattle.std.specs.Prelude.{ℕ, ℤ, IfOk, MatchOption};
 ghost use Rattle.serde_json.specs.View.{view};
-ghost use Rattle.json_model.specs.Numbers.{SpellsInteger, SpellsWhole, SpellsShort, IsNumber};
+ghost use Rattle.json_model.specs.Numbers.{SpellsInteger, SpellsWhole, SpellsShort, SpellsUpTo, IsNumber};
 
 use document_keys::NoMemory;
 use serde_json::Value as Json;
@@ -42,6 +42,31 @@ pub fn read_whole(alloc: Global, json: &Json) -> Result<Option<i64>, NoMemory>
         return Ok(None);
     };
     Ok(Some(number))
+}
+
+/// The most documents that a filter of a watch stream counts.
+pub(crate) const MAX_COUNT: u32 = 2_147_483_647;
+
+/// The last code of a status.
+pub(crate) const MAX_CODE: u32 = 16;
+
+/// The whole number from 0 to the most that a tree spells.
+///
+/// # Errors
+/// `NoMemory`
+pub(crate) fn read_up_to(alloc: Global, most: u32, json: &Json) -> Result<Option<u32>, NoMemory>
+    ensures { IfOk result (λ found. MatchOption found ((n : ℕ) → SpellsUpTo most (view json.now) n → ⊥) (λ n. SpellsUpTo most (view json.now) n)) }
+{
+    let Some(number) = read_whole(alloc, json)? else {
+        return Ok(None);
+    };
+    let Ok(count) = u32::try_from(number) else {
+        return Ok(None);
+    };
+    if count > most {
+        return Ok(None);
+    }
+    Ok(Some(count))
 }
 
 /// The whole number of 32 bits with sign that a tree spells.

@@ -85,6 +85,24 @@ pub enum Object {
     UnaryFilter,
     /// A list of operands: a `Value` that is an array.
     ListOperand,
+    /// A message of a watch stream: one member that names its kind.
+    ListenResponse,
+    /// What `targetChange` holds.
+    TargetChange,
+    /// A status: the code of an error with its message.
+    Status,
+    /// What `documentChange` holds.
+    DocumentChange,
+    /// What `document` of a `DocumentChange` holds.
+    Document,
+    /// What `documentDelete` and `documentRemove` hold.
+    DocumentDelete,
+    /// What `filter` of a message holds.
+    ExistenceFilter,
+    /// A message of a write stream.
+    WriteResponse,
+    /// An item of `writeResults`.
+    WriteResult,
 }
 
 /// A list, by its items.
@@ -106,6 +124,10 @@ pub enum Series {
     Orders,
     /// The filters of a composite one.
     Filters,
+    /// Ids of targets.
+    TargetIds,
+    /// The results of writes.
+    Results,
 }
 
 /// A tree that isn't looked into.
@@ -141,6 +163,12 @@ pub enum Leaf {
     Limit,
     /// Whether collections below are meant, which must be false.
     Descendants,
+    /// The id of a target: a whole number of 32 bits with sign.
+    TargetId,
+    /// A number of documents, from 0 to 2,147,483,647.
+    Count,
+    /// The code of a status, from 0 to 16.
+    Code,
     /// One of several texts.
     Constant(Constants),
 }
@@ -156,6 +184,8 @@ pub enum Constants {
     Test,
     /// The direction of an order.
     Direction,
+    /// What became of targets.
+    ChangeType,
 }
 
 impl Place {

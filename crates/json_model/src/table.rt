@@ -302,6 +302,126 @@ fn unary_filter_member(name: &str) -> Place
     }
 }
 
+/// A message of a watch stream.
+#[tactic(auto, unfolding(crate::specs::Places::listen_response_rows))]
+fn listen_response_member(name: &str) -> Place
+    ensures { result ≡ table.placed table.listen_response_rows name.now }
+{
+    match name {
+        "documentChange" => Place::Object(Object::DocumentChange),
+        "documentDelete" => Place::Object(Object::DocumentDelete),
+        "documentRemove" => Place::Object(Object::DocumentDelete),
+        "filter" => Place::Object(Object::ExistenceFilter),
+        "targetChange" => Place::Object(Object::TargetChange),
+        _ => Place::Unknown,
+    }
+}
+
+/// What `targetChange` holds.
+#[tactic(auto, unfolding(crate::specs::Places::target_change_rows))]
+fn target_change_member(name: &str) -> Place
+    ensures { result ≡ table.placed table.target_change_rows name.now }
+{
+    match name {
+        "cause" => Place::Object(Object::Status),
+        "readTime" => Place::Leaf(Leaf::Time),
+        "resumeToken" => Place::Leaf(Leaf::Bytes),
+        "targetChangeType" => Place::Leaf(Leaf::Constant(Constants::ChangeType)),
+        "targetIds" => Place::Series(Series::TargetIds),
+        _ => Place::Unknown,
+    }
+}
+
+/// A status: what else it has is read over, whoever wrote it.
+fn status_member(name: &str) -> Place
+    ensures { result ≡ table.member_place Object.Status name.now }
+{
+    match name {
+        "code" => Place::Leaf(Leaf::Code),
+        "message" => Place::Leaf(Leaf::Text),
+        _ => Place::Ignored,
+    }
+}
+
+/// What `documentChange` holds.
+#[tactic(auto, unfolding(crate::specs::Places::document_change_rows))]
+fn document_change_member(name: &str) -> Place
+    ensures { result ≡ table.placed table.document_change_rows name.now }
+{
+    match name {
+        "document" => Place::Object(Object::Document),
+        "removedTargetIds" => Place::Series(Series::TargetIds),
+        "targetIds" => Place::Series(Series::TargetIds),
+        _ => Place::Unknown,
+    }
+}
+
+/// What `document` of a changed one holds.
+#[tactic(auto, unfolding(crate::specs::Places::document_rows))]
+fn document_member(name: &str) -> Place
+    ensures { result ≡ table.placed table.document_rows name.now }
+{
+    match name {
+        "createTime" => Place::Ignored,
+        "fields" => Place::Object(Object::Fields),
+        "name" => Place::Leaf(Leaf::Name),
+        "updateTime" => Place::Leaf(Leaf::Time),
+        _ => Place::Unknown,
+    }
+}
+
+/// What `documentDelete` and `documentRemove` hold.
+#[tactic(auto, unfolding(crate::specs::Places::document_delete_rows))]
+fn document_delete_member(name: &str) -> Place
+    ensures { result ≡ table.placed table.document_delete_rows name.now }
+{
+    match name {
+        "document" => Place::Leaf(Leaf::Name),
+        "readTime" => Place::Leaf(Leaf::Time),
+        "removedTargetIds" => Place::Series(Series::TargetIds),
+        _ => Place::Unknown,
+    }
+}
+
+/// What `filter` of a message holds.
+#[tactic(auto, unfolding(crate::specs::Places::existence_filter_rows))]
+fn existence_filter_member(name: &str) -> Place
+    ensures { result ≡ table.placed table.existence_filter_rows name.now }
+{
+    match name {
+        "count" => Place::Leaf(Leaf::Count),
+        "targetId" => Place::Leaf(Leaf::TargetId),
+        "unchangedNames" => Place::Ignored,
+        _ => Place::Unknown,
+    }
+}
+
+/// A message of a write stream.
+#[tactic(auto, unfolding(crate::specs::Places::write_response_rows))]
+fn write_response_member(name: &str) -> Place
+    ensures { result ≡ table.placed table.write_response_rows name.now }
+{
+    match name {
+        "commitTime" => Place::Leaf(Leaf::Time),
+        "streamId" => Place::Ignored,
+        "streamToken" => Place::Leaf(Leaf::Bytes),
+        "writeResults" => Place::Series(Series::Results),
+        _ => Place::Unknown,
+    }
+}
+
+/// An item of `writeResults`.
+#[tactic(auto, unfolding(crate::specs::Places::write_result_rows))]
+fn write_result_member(name: &str) -> Place
+    ensures { result ≡ table.placed table.write_result_rows name.now }
+{
+    match name {
+        "transformResults" => Place::Series(Series::Values),
+        "updateTime" => Place::Leaf(Leaf::Time),
+        _ => Place::Unknown,
+    }
+}
+
 /// The place of the member of that name.
 pub fn member_place(object: Object, name: &str) -> Place
     ensures { result ≡ table.member_place object name.now }
@@ -336,6 +456,15 @@ pub fn member_place(object: Object, name: &str) -> Place
         Object::ListFilter => list_filter_member(name),
         Object::UnaryFilter => unary_filter_member(name),
         Object::Field if name == "fieldPath" => Place::Leaf(Leaf::QueryPath),
+        Object::ListenResponse => listen_response_member(name),
+        Object::TargetChange => target_change_member(name),
+        Object::Status => status_member(name),
+        Object::DocumentChange => document_change_member(name),
+        Object::Document => document_member(name),
+        Object::DocumentDelete => document_delete_member(name),
+        Object::ExistenceFilter => existence_filter_member(name),
+        Object::WriteResponse => write_response_member(name),
+        Object::WriteResult => write_result_member(name),
         _ => Place::Unknown,
     }
 }
@@ -353,6 +482,8 @@ pub fn item_place(series: Series) -> Place
         Series::Selectors => Place::Object(Object::Selector),
         Series::Orders => Place::Object(Object::Order),
         Series::Filters => Place::Object(Object::Filter),
+        Series::TargetIds => Place::Leaf(Leaf::TargetId),
+        Series::Results => Place::Object(Object::WriteResult),
     }
 }
 
@@ -375,6 +506,9 @@ pub fn required(object: Object) -> &'static [&'static str]
         Object::FieldFilter => &["field", "op", "value"],
         Object::ListFilter => &["field", "op", "value"],
         Object::UnaryFilter => &["field", "op"],
+        Object::DocumentChange => &["document"],
+        Object::Document => &["name", "updateTime"],
+        Object::DocumentDelete => &["document"],
         _ => &[],
     }
 }
@@ -391,7 +525,8 @@ pub fn chooses(object: Object) -> bool
         | Object::Transform
         | Object::Operand
         | Object::Target
-        | Object::Filter => true,
+        | Object::Filter
+        | Object::ListenResponse => true,
         _ => false,
     }
 }
@@ -432,6 +567,7 @@ pub fn is_choice(object: Object, name: &str) -> bool
         Object::Transform => is_transform_choice(name),
         Object::Target => !target_member(name).is_unknown(),
         Object::Filter => !filter_member(name).is_unknown(),
+        Object::ListenResponse => !listen_response_member(name).is_unknown(),
         _ => false,
     }
 }

@@ -5,9 +5,9 @@ use Rattle.document_keys.specs.Paths.{printed_path}
 use Rattle.serde_json.specs.Data.{Data as Json, string, Members, no_members}
 use Rattle.serde_json.specs.Written.{has_float, items_have_float, members_have_float}
 use Rattle.value_model.specs.Data.{Data, Entries}
-use Rattle.json_model.specs.Forms.{before, present, unless_empty, printed_each}
+use Rattle.json_model.specs.Forms.{present, unless_empty, printed_each}
 use Rattle.json_model.specs.Printed.{printed_value}
-use Rattle.json_model.proofs.Digits.{value_digits, printed_fields_digits}
+use Rattle.json_model.proofs.Digits.{NoFloat, neither, row_digits, each_digits, list_digits, value_digits, printed_fields_digits}
 use Rattle.mutations.specs.declared.transform.Change.{Change}
 use Rattle.mutations.specs.declared.transform.Change.TheVariants.{ServerTime, Increment, Maximum, Minimum, Append, RemoveAll}
 use Rattle.mutations.specs.declared.transform.Transform.{Transform}
@@ -17,28 +17,11 @@ use Rattle.mutations.specs.declared.write.Write.{Write}
 use Rattle.mutations.specs.declared.write.Write.TheVariants.{Update, Delete}
 use Rattle.json_rpc.specs.Printed.{printed_condition, printed_elements, printed_change, printed_transform, path_tree, printed_mask, fields_given, printed_update, printed_write}
 
--- what is there has none
-abbrev NoFloat : Option Json → Type 0
-NoFloat None = Unit {0}
-NoFloat (Some d) = has_float d ≡ false
-
-neither : (a b : Bool) → a ≡ false → b ≡ false → (a || b) ≡ false
-neither a b first second = rw (first, second)
-
-row_digits : (name : List ℕ) (found : Option Json) (ms : Members) → NoFloat found → members_have_float ms ≡ false → members_have_float (before name found ms) ≡ false
-row_digits name None ms none rest = rest
-row_digits name (Some d) ms none rest = neither (has_float d) (members_have_float ms) none rest
-
-each_digits : {X : Type 0} (print : X → Json) → ((x : X) → has_float (print x) ≡ false) → (xs : List X) → items_have_float (printed_each print xs) ≡ false
-each_digits print none [] = refl
-each_digits print none (x ∷ xs) = neither (has_float (print x)) (items_have_float (printed_each print xs)) (none x) (each_digits print none xs)
-
-list_digits : {X : Type 0} (print : X → Json) → ((x : X) → has_float (print x) ≡ false) → (xs : List X) → NoFloat (unless_empty (printed_each print xs))
-list_digits print none [] = tt
-list_digits print none (x ∷ xs) = each_digits print none (x ∷ xs)
+printed_digits : {X : Type 0} (print : X → Json) → ((x : X) → has_float (print x) ≡ false) → (xs : List X) → NoFloat (unless_empty (printed_each print xs))
+printed_digits print none xs = list_digits (printed_each print xs) (each_digits print none xs)
 
 elements_digits : (vs : List Data) → has_float (printed_elements vs) ≡ false
-elements_digits vs = row_digits (codes "values") (unless_empty (printed_each printed_value vs)) no_members (list_digits printed_value value_digits vs) refl
+elements_digits vs = row_digits (codes "values") (unless_empty (printed_each printed_value vs)) no_members (printed_digits printed_value value_digits vs) refl
 
 change_digits : (path : List ℕ) (change : Change) → has_float (printed_change path change) ≡ false
 change_digits path ServerTime = refl
@@ -53,7 +36,7 @@ transform_digits transform = change_digits (printed_path transform.path) transfo
 
 mask_digits : (mask : Option (List (List (List ℕ)))) → NoFloat (option_map printed_mask mask)
 mask_digits None = tt
-mask_digits (Some mask) = row_digits (codes "fieldPaths") (unless_empty (printed_each path_tree mask)) no_members (list_digits path_tree (λ path. refl) mask) refl
+mask_digits (Some mask) = row_digits (codes "fieldPaths") (unless_empty (printed_each path_tree mask)) no_members (printed_digits path_tree (λ path. refl) mask) refl
 
 condition_digits : (condition : Precondition) → NoFloat (printed_condition condition)
 condition_digits Free = tt
@@ -78,6 +61,6 @@ write_digits root (Update key fields mask transforms condition) =
     row_digits (codes "currentDocument") (printed_condition condition) (present (the_update ∷ the_mask ∷ the_transforms ∷ [])) (condition_digits condition)
     (row_digits (codes "update") (Some (printed_update root key fields)) (present (the_mask ∷ the_transforms ∷ [])) (update_digits root key fields)
     (row_digits (codes "updateMask") (option_map printed_mask mask) (present (the_transforms ∷ [])) (mask_digits mask)
-    (row_digits (codes "updateTransforms") (unless_empty (printed_each printed_transform transforms)) no_members (list_digits printed_transform transform_digits transforms) refl)))
+    (row_digits (codes "updateTransforms") (unless_empty (printed_each printed_transform transforms)) no_members (printed_digits printed_transform transform_digits transforms) refl)))
 write_digits root (Delete key condition) =
     row_digits (codes "currentDocument") (printed_condition condition) (present ((codes "delete", Some (string (name_text root key))) ∷ [])) (condition_digits condition) refl
