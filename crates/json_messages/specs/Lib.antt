@@ -1,0 +1,6 @@
+pub mod ChangeTypes
+pub mod Faults
+pub mod Grammar
+pub mod Laws
+pub mod Printed
+pub mod Storable

@@ -1,0 +1,157 @@
+//! Messages of a write stream.
+
+ghost use Rattle.std.specs.Prelude.{◌≡◌, [], IfOk, IfErr, IfSome, Some, option_map};
+ghost use Rattle.serde_json.specs.View.{view};
+ghost use Rattle.value_model.specs.Data.{items_of};
+ghost use Rattle.value_model.specs.Storable.{AreStorableItems, IsCountable};
+ghost use Rattle.json_model.specs.Clean.{IsClean};
+ghost use Rattle.json_model.specs.Faults.{IsFault};
+ghost use Rattle.json_model.specs.Forms.{SpellsEach};
+ghost use Rattle.json_model.specs.Grammar.{SpellsList};
+ghost use Rattle.json_model.specs.declared.place.Object.TheVariants as objects;
+ghost use Rattle.json_model.specs.declared.place.Place.TheVariants as places;
+ghost use Rattle.json_model.specs.declared.place.Series.TheVariants as serieses;
+ghost use Rattle.json_rpc.specs.Storable.{AreAllStorable};
+ghost use Rattle.json_messages.specs.Faults.{WriteResponseFaults};
+ghost use Rattle.json_messages.specs.Grammar.{SpellsWriteResult, SpellsWriteResponse};
+ghost use Rattle.json_messages.specs.Storable.{IsStorableResult, IsStorableAnswer};
+
+use crate::parts::{clean_time_in, clean_token};
+use document_keys::{Database, NoMemory};
+use json_model::{
+    JsonFault, MAX_NESTING, Object, Place, Series, Setting, Side, check, clean_list, clean_member,
+    clean_object, clean_values,
+};
+use mutations::{Values, WriteResponse, WriteResult, WriteResults};
+use serde_json::Value as Json;
+use std::alloc::Global;
+
+/// The results of transforms; where they are left out there are none.
+fn clean_transform_results(
+    alloc: Global,
+    setting: &Setting<'_>,
+    found: Option<&Json>,
+) -> Result<Values, NoMemory>
+    requires { IfSome found (λ json. IsClean setting.now (places.Series serieses.Values) (view json.now)) }
+    ensures values { IfOk result (λ values. SpellsList (option_map (λ json. view json.now) found.entry) values) }
+    ensures storable { IfOk result (λ values. AreStorableItems (items_of values) × IsCountable values) }
+{
+    match found {
+        Some(list) => {
+            let values = clean_values(alloc, setting, list)?;
+            let _count = values.len();
+            Ok(Values::from_vec(values))
+        }
+        None => Ok(Values::from_vec(Vec::new(alloc))),
+    }
+}
+
+/// The result of a write.
+#[tactic(auto, unfolding(json_model::specs::Places::write_result_rows))]
+fn clean_result(alloc: Global, setting: &Setting<'_>, json: &Json) -> Result<WriteResult, NoMemory>
+    requires { IsClean setting.now (places.Object objects.WriteResult) (view json.now) }
+    ensures answer { IfOk result (λ answer. SpellsWriteResult (view json.now) answer) }
+    ensures storable { IfOk result IsStorableResult }
+{
+    let object = Object::WriteResult;
+    let members = clean_object(setting, object, json);
+    let transforms = clean_member(setting, object, members, "transformResults");
+    let transforms = clean_transform_results(alloc, setting, transforms)?;
+    let update_time = clean_member(setting, object, members, "updateTime");
+    let update_time = clean_time_in(setting, update_time);
+    Ok(WriteResult {
+        update_time,
+        transforms,
+    })
+}
+
+/// The results of a list.
+fn clean_result_items(
+    alloc: Global,
+    setting: &Setting<'_>,
+    json: &Json,
+) -> Result<Vec<WriteResult>, NoMemory>
+    requires { IsClean setting.now (places.Series serieses.Results) (view json.now) }
+    ensures results { IfOk result (λ results. SpellsEach SpellsWriteResult (Some (view json.now)) results.items) }
+    ensures storable { IfOk result (λ results. AreAllStorable IsStorableResult results.items) }
+{
+    let items = clean_list(setting, Series::Results, json);
+    let mut results = Vec::new(alloc);
+    for item in items {
+        results.push(clean_result(alloc, setting, item)?)?;
+    }
+    let _count = results.len();
+    Ok(results)
+}
+
+/// The results of writes; where they are left out there are none.
+fn clean_results(
+    alloc: Global,
+    setting: &Setting<'_>,
+    found: Option<&Json>,
+) -> Result<WriteResults, NoMemory>
+    requires { IfSome found (λ json. IsClean setting.now (places.Series serieses.Results) (view json.now)) }
+    ensures results { IfOk result (λ results. SpellsEach SpellsWriteResult (option_map (λ json. view json.now) found.entry) results) }
+    ensures storable { IfOk result (λ results. AreAllStorable IsStorableResult results) }
+{
+    match found {
+        Some(json) => Ok(WriteResults::from_vec(clean_result_items(alloc, setting, json)?)),
+        None => Ok(WriteResults::from_vec(Vec::new(alloc))),
+    }
+}
+
+/// The message of a write stream that a tree without faults spells.
+///
+/// # Errors
+/// `NoMemory`
+#[tactic(auto, unfolding(json_model::specs::Places::write_response_rows))]
+pub fn clean_write_response(
+    alloc: Global,
+    setting: &Setting<'_>,
+    json: &Json,
+) -> Result<WriteResponse, NoMemory>
+    requires { IsClean setting.now (places.Object objects.WriteResponse) (view json.now) }
+    ensures response { IfOk result (λ response. SpellsWriteResponse (view json.now) response) }
+    ensures storable { IfOk result IsStorableAnswer }
+{
+    let object = Object::WriteResponse;
+    let members = clean_object(setting, object, json);
+    let token = clean_member(setting, object, members, "streamToken");
+    let token = clean_token(alloc, setting, token)?;
+    let results = clean_member(setting, object, members, "writeResults");
+    let results = clean_results(alloc, setting, results)?;
+    let commit_time = clean_member(setting, object, members, "commitTime");
+    let commit_time = clean_time_in(setting, commit_time);
+    Ok(WriteResponse {
+        token,
+        results,
+        commit_time,
+    })
+}
+
+/// The message of a write stream that the tree spells, by the backend's side. The tree then has no fault, and the token, the
+/// values and the times of the message can be stored.
+///
+/// # Errors
+/// The first fault of the least kind, in the walk through the tree; one of the tree itself names `written`. Or `NoMemory`.
+pub fn read_write_response(
+    alloc: Global,
+    root: &Database,
+    json: &Json,
+) -> Result<WriteResponse, JsonFault>
+    ensures response { IfOk result (λ response. SpellsWriteResponse (view json.now) response) }
+    ensures storable { IfOk result IsStorableAnswer }
+    ensures clean { IfOk result (λ _. WriteResponseFaults root.now (view json.now) []) }
+    ensures fault { IfErr result (λ fault. IsFault (WriteResponseFaults root.now (view json.now)) fault) }
+{
+    let setting = Setting {
+        side: Side::Backend,
+        root,
+    };
+    let place = Place::Object(Object::WriteResponse);
+    if let Err(fault) = check(alloc, &setting, MAX_NESTING, place, "written", json) {
+        return Err(fault);
+    }
+    let response = clean_write_response(alloc, &setting, json)?;
+    Ok(response)
+}

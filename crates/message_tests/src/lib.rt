@@ -1,0 +1,12 @@
+//! The tests of the streams' messages in JSON: what trees spell, which fault a tree has, and how requests are printed.
+//!
+//! It has tests and nothing else, since a crate with tests is proved twice. `faults` has a table of trees with a fault, `read`
+//! what trees without one spell, `printed` requests and statuses.
+#![tactic(auto)]
+
+#[cfg(test)]
+mod faults;
+#[cfg(test)]
+mod printed;
+#[cfg(test)]
+mod read;
