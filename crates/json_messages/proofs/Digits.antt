@@ -1,10 +1,10 @@
 -- What is printed has no floats.
 use Rattle.std.proofs.Common.{◌≡◌, ℕ, ℤ, zero, suc, pos, negsuc, List, [], ◌∷◌, Bool, true, false, ◌||◌, codes, nat_lt, Option, Some, None, refl}
 use Rattle.std.specs.Bool.{if◌then◌else◌}
-use Rattle.serde_json.specs.Data.{number, unsigned, string}
+use Rattle.serde_json.specs.Data.{number, unsigned}
 use Rattle.serde_json.specs.Find.{of_integer}
 use Rattle.serde_json.specs.Written.{has_float}
-use Rattle.document_keys.specs.Names.{Root, root_text}
+use Rattle.document_keys.specs.Names.{Root}
 use Rattle.value_model.specs.declared.document.RpcStatus.{RpcStatus}
 use Rattle.json_model.specs.Numbers.{max_count}
 use Rattle.json_model.specs.Forms.{printed_each, unless_empty}
@@ -18,7 +18,6 @@ use Rattle.queries.specs.declared.listen_request.ListenRequest.TheVariants.{Add,
 use Rattle.queries.specs.declared.listen_request.Resume.{Resume}
 use Rattle.queries.specs.declared.target.Target.{Target}
 use Rattle.queries.specs.declared.target.Target.TheVariants.{Document, Collection}
-use Rattle.json_queries.specs.Printed.{target_tree}
 use Rattle.json_queries.proofs.Digits.{target_digits}
 use Rattle.json_messages.specs.Printed.{unless_zero, text_unless_empty, printed_token, printed_status, point_token, point_count, target_member, added_target, printed_listen_request, printed_write_request}
 

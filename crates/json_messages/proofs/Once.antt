@@ -1,12 +1,11 @@
 -- A tree spells one message at most.
-use Rattle.std.proofs.Common.{◌≡◌, ℕ, ℤ, pos, List, [], true, false, codes, Option, Some, None, refl, sym, ap, subst, ◌∙◌}
+use Rattle.std.proofs.Common.{◌≡◌, ℕ, ℤ, pos, List, true, false, codes, Option, Some, None, refl, sym, ap, subst, ◌∙◌}
 use Rattle.std.specs.Bool.{if◌then◌else◌}
 use Rattle.std.specs.Str.{bytes_eq}
 use Rattle.std.proofs.lemmas.Slice.Eq.{bytes_eq-Decides}
 use Rattle.serde_json.specs.Data.{Data as Json, string, Members}
 use Rattle.document_keys.specs.Names.{Root}
 use Rattle.value_model.specs.declared.timestamp.Timestamp.{Timestamp}
-use Rattle.value_model.specs.declared.document.RpcStatus.{RpcStatus}
 use Rattle.value_model.specs.declared.message.ChangeKind.{ChangeKind}
 use Rattle.value_model.specs.declared.message.ChangeKind.TheVariants.{NoChange, Add, Remove as Removed, Current, Reset}
 use Rattle.value_model.specs.declared.message.DocumentChange.{DocumentChange}
@@ -15,7 +14,7 @@ use Rattle.value_model.specs.declared.message.ListenResponse.TheVariants.{Target
 use Rattle.json_model.specs.declared.place.Object.TheVariants as object
 use Rattle.json_model.specs.Bytes.{SpellsBytes}
 use Rattle.json_model.specs.Forms.{InObject}
-use Rattle.json_model.specs.Grammar.{SpellsTime, SpellsName, SpellsBytesTree}
+use Rattle.json_model.specs.Grammar.{SpellsTime, SpellsName}
 use Rattle.json_model.specs.Members.{given}
 use Rattle.json_model.specs.Numbers.{SpellsShort, SpellsUpTo, max_count, max_code}
 use Rattle.json_model.proofs.Forms.{IsOnce, given_once, object_once, choice_once, spells_each_once}

@@ -1,12 +1,11 @@
 -- A status names no document: its faults are the same under any root.
-use Rattle.std.proofs.Common.{◌≡◌, ℕ, ◌-◌, List, [], Bool, true, false, codes, Option, Some, Result, Ok, Err, IfOk, IfErr, inl, inr}
+use Rattle.std.proofs.Common.{ℕ, ◌-◌, List, [], Bool, true, false, codes, Result, Ok, Err, IfOk, IfErr, inl, inr}
 use Rattle.std.specs.Bool.{if◌then◌else◌}
 use Rattle.std.specs.Str.{bytes_eq}
 use Rattle.document_keys.specs.Names.{Root}
 use Rattle.serde_json.specs.Data.{Data as Json, null, boolean, number, string, array, object as an_object, Members, no_members, member}
 use Rattle.value_model.specs.declared.document.RpcStatus.{RpcStatus}
 use Rattle.json_model.specs.declared.side.Side.{Side}
-use Rattle.json_model.specs.declared.place.Place.{Place}
 use Rattle.json_model.specs.declared.place.Place.TheVariants as place
 use Rattle.json_model.specs.declared.place.Object.TheVariants as object
 use Rattle.json_model.specs.declared.place.Leaf.TheVariants as leaf

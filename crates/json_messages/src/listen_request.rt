@@ -75,7 +75,12 @@ fn print_added_target(
     ensures { IfOk result (λ json. view json ≡ added_target root.now id target.now point.now) }
 {
     let mut members = print_target_members(alloc, root, target)?;
-    put_given(alloc, &mut members, "expectedCount", point_count_tree(point))?;
+    put_given(
+        alloc,
+        &mut members,
+        "expectedCount",
+        point_count_tree(point),
+    )?;
     let token = point_token_tree(alloc, point)?;
     put_given(alloc, &mut members, "resumeToken", token)?;
     put_member(alloc, &mut members, "targetId", id_tree(id))?;
@@ -83,12 +88,7 @@ fn print_added_target(
 }
 
 /// An object of the database and a request.
-fn request_tree(
-    alloc: Global,
-    root: &Database,
-    name: &str,
-    request: Json,
-) -> Result<Json, NoMemory>
+fn request_tree(alloc: Global, root: &Database, name: &str, request: Json) -> Result<Json, NoMemory>
     ensures { IfOk result (λ json. view json ≡ object (put name.now (view request) (member (codes "database") (string (root_text root.now)) no_members))) }
 {
     let mut members = Map::new(alloc);

@@ -24,11 +24,7 @@ use std::alloc::Global;
 use value_model::RpcStatus;
 
 /// A code; where it is left out it is 0.
-fn clean_code_in(
-    alloc: Global,
-    setting: &Setting<'_>,
-    found: Option<&Json>,
-) -> Result<u8, NoMemory>
+fn clean_code_in(alloc: Global, setting: &Setting<'_>, found: Option<&Json>) -> Result<u8, NoMemory>
     requires { IfSome found (λ json. IsClean setting.now (places.Leaf leaves.Code) (view json.now)) }
     ensures { IfOk result (λ code. SpellsNumber max_code (option_map (λ json. view json.now) found.entry) code) }
 {
@@ -89,11 +85,7 @@ pub(crate) fn clean_cause(
 }
 
 /// The status that the tree spells, of that side and under that root.
-fn read_under(
-    alloc: Global,
-    setting: &Setting<'_>,
-    json: &Json,
-) -> Result<RpcStatus, JsonFault>
+fn read_under(alloc: Global, setting: &Setting<'_>, json: &Json) -> Result<RpcStatus, JsonFault>
     ensures status { IfOk result (λ status. SpellsStatus (view json.now) status) }
     ensures clean { IfOk result (λ _. FaultsAt setting.now max_nesting (places.Object objects.Status) (codes "status") (view json.now) []) }
     ensures fault { IfErr result (λ fault. IsFault (FaultsAt setting.now max_nesting (places.Object objects.Status) (codes "status") (view json.now)) fault) }

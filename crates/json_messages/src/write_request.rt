@@ -41,7 +41,12 @@ fn print_batch(
     let trees = print_writes(alloc, root, writes)?;
     let mut members = Map::new(alloc);
     put_given(alloc, &mut members, "writes", unless_empty(trees))?;
-    put_given(alloc, &mut members, "streamToken", token_tree(alloc, token)?)?;
+    put_given(
+        alloc,
+        &mut members,
+        "streamToken",
+        token_tree(alloc, token)?,
+    )?;
     Ok(members)
 }
 

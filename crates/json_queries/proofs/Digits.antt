@@ -1,5 +1,5 @@
 -- What is printed of a target has no floats.
-use Rattle.std.proofs.Common.{◌≡◌, ℕ, List, [], ◌∷◌, Bool, false, true, ◌||◌, codes, Option, Some, None, option_map, refl}
+use Rattle.std.proofs.Common.{◌≡◌, Bool, false, true, ◌||◌, codes, refl}
 use Rattle.document_keys.specs.Names.{Root}
 use Rattle.serde_json.specs.Written.{has_float, items_have_float}
 use Rattle.json_model.specs.Forms.{unless_empty, printed_each}

@@ -1,9 +1,9 @@
 -- What is printed of a write has no floats.
-use Rattle.std.proofs.Common.{◌≡◌, ℕ, List, [], ◌∷◌, Bool, false, ◌||◌, codes, Option, Some, None, option_map, refl}
+use Rattle.std.proofs.Common.{◌≡◌, ℕ, List, [], ◌∷◌, false, codes, Option, Some, None, option_map, refl}
 use Rattle.document_keys.specs.Names.{Root, name_text}
 use Rattle.document_keys.specs.Paths.{printed_path}
-use Rattle.serde_json.specs.Data.{Data as Json, string, Members, no_members}
-use Rattle.serde_json.specs.Written.{has_float, items_have_float, members_have_float}
+use Rattle.serde_json.specs.Data.{Data as Json, string, no_members}
+use Rattle.serde_json.specs.Written.{has_float}
 use Rattle.value_model.specs.Data.{Data, Entries}
 use Rattle.json_model.specs.Forms.{present, unless_empty, printed_each}
 use Rattle.json_model.specs.Printed.{printed_value}
