@@ -37,11 +37,7 @@ static LISTENS: [(&str, u8, &str); 15] = [
         2,
         "readTime",
     ),
-    (
-        r#"{"targetChange":{"resumeToken":"A"}}"#,
-        3,
-        "resumeToken",
-    ),
+    (r#"{"targetChange":{"resumeToken":"A"}}"#, 3, "resumeToken"),
     (r#"{"filter":{"count":-1}}"#, 1, "count"),
     (r#"{"filter":{"count":2147483648}}"#, 1, "count"),
     (r#"{"documentChange":{}}"#, 1, "document"),
@@ -123,12 +119,20 @@ fn check_fault(
 
 fn listen_fault(alloc: Global, root: &Database, text: &str) -> Result<JsonFault, Fail> {
     let json = Json::from_str(alloc, text)?;
-    Ok(read_listen_response(alloc, root, &json).err().ok_or("a fault")?)
+    Ok(
+        read_listen_response(alloc, root, &json)
+            .err()
+            .ok_or("a fault")?,
+    )
 }
 
 fn written_fault(alloc: Global, root: &Database, text: &str) -> Result<JsonFault, Fail> {
     let json = Json::from_str(alloc, text)?;
-    Ok(read_write_response(alloc, root, &json).err().ok_or("a fault")?)
+    Ok(
+        read_write_response(alloc, root, &json)
+            .err()
+            .ok_or("a fault")?,
+    )
 }
 
 fn status_fault(alloc: Global, side: Side, text: &str) -> Result<JsonFault, Fail> {
@@ -151,7 +155,13 @@ fn faults_of_listens(rt: HostRuntime) -> Result<(), Fail> {
 
 fn check_written(rt: &(impl Abort + AllocGlobal), root: &Database) -> Result<(), Fail> {
     for (text, kind, name) in WRITTEN {
-        check_fault(rt, &written_fault(rt.alloc(), root, text)?, text, kind, name);
+        check_fault(
+            rt,
+            &written_fault(rt.alloc(), root, text)?,
+            text,
+            kind,
+            name,
+        );
     }
     Ok(())
 }

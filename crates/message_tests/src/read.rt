@@ -14,11 +14,26 @@ use value_model::{ChangeKind, DocumentChange, ListenResponse, RpcStatus, TargetC
 // the kinds of a change of targets, as they are spelled
 static KINDS: [(&str, ChangeKind); 6] = [
     (r#"{"targetChange":{}}"#, ChangeKind::NoChange),
-    (r#"{"targetChange":{"targetChangeType":"NO_CHANGE"}}"#, ChangeKind::NoChange),
-    (r#"{"targetChange":{"targetChangeType":"ADD"}}"#, ChangeKind::Add),
-    (r#"{"targetChange":{"targetChangeType":"REMOVE"}}"#, ChangeKind::Remove),
-    (r#"{"targetChange":{"targetChangeType":"CURRENT"}}"#, ChangeKind::Current),
-    (r#"{"targetChange":{"targetChangeType":"RESET"}}"#, ChangeKind::Reset),
+    (
+        r#"{"targetChange":{"targetChangeType":"NO_CHANGE"}}"#,
+        ChangeKind::NoChange,
+    ),
+    (
+        r#"{"targetChange":{"targetChangeType":"ADD"}}"#,
+        ChangeKind::Add,
+    ),
+    (
+        r#"{"targetChange":{"targetChangeType":"REMOVE"}}"#,
+        ChangeKind::Remove,
+    ),
+    (
+        r#"{"targetChange":{"targetChangeType":"CURRENT"}}"#,
+        ChangeKind::Current,
+    ),
+    (
+        r#"{"targetChange":{"targetChangeType":"RESET"}}"#,
+        ChangeKind::Reset,
+    ),
 ];
 
 const CURRENT: &str =
@@ -130,7 +145,7 @@ fn a_filter(rt: HostRuntime) -> Result<(), Fail> {
 
 fn check_written(rt: &(impl Abort + AllocGlobal), response: &WriteResponse) {
     let token: [u8; 1] = [2];
-    let counts: [u64; 2] = [2, 0];
+    let counts: [usize; 2] = [2, 0];
     let results = response.results.as_slice();
     assert!(rt; response.token.as_slice() == &token[..] && response.commit_time.is_some());
     assert!(rt; results.len() == 2);
