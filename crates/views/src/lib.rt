@@ -1,0 +1,4 @@
+//! Views.
+#![tactic(auto)]
+
+mod printed;
