@@ -1,1 +1,3 @@
+pub mod Indexing
 pub mod Printing
+pub mod Telling
