@@ -1,3 +1,4 @@
 pub mod Indexing
 pub mod Printing
+pub mod PrintedRows
 pub mod Telling

@@ -22,6 +22,20 @@ module _ {X : Type 0} {P : X → Type 0} where
   left_too _ _ x (takes a xs ys has rest) never = takes a (xs ++ x ∷ []) ys has (left_too xs ys x rest never)
   left_too _ _ x (leaves a xs ys no_a rest) never = leaves a (xs ++ x ∷ []) ys no_a (left_too xs ys x rest never)
 
+  module _ (xs ys : List X) (i : ℕ) (x : X) (inside : i < length xs) (at : x ≡ get_or xs i x) (so_far : Picks P (take i xs) ys) where
+    front_more : take i xs ++ x ∷ [] ≡ take (i + 1) xs
+    front_more = ap (λ r. take i xs ++ r ∷ []) at ∙ sym (take_more xs i x inside)
+
+    -- the next one, of which it holds, and of which it doesn't
+    pub picks_next : P x → Picks P (take (i + 1) xs) (ys ++ x ∷ [])
+    picks_next is = subst (λ rs. Picks P rs (ys ++ x ∷ [])) front_more (picked_too (take i xs) ys x so_far is)
+
+    pub leaves_next : (P x → ⊥) → Picks P (take (i + 1) xs) ys
+    leaves_next never = subst (λ rs. Picks P rs ys) front_more (left_too (take i xs) ys x so_far never)
+
+  pub picks_nothing : (xs ys : List X) → xs ≡ [] → ys ≡ [] → Picks P xs ys
+  picks_nothing xs ys e f = subst (λ xs. Picks P xs ys) (sym e) (subst (Picks P []) (sym f) none)
+
 module _ (kind : Kind) (P : Row → Type 0) (rows : List Row) (before : List Change) where
   pub tells_nothing : Tells kind P [] before before
   tells_nothing = record { picked = []; are = none; behind = sym (append-nil before) }
@@ -29,20 +43,18 @@ module _ (kind : Kind) (P : Row → Type 0) (rows : List Row) (before : List Cha
   module _ (i : ℕ) (row : Row) (now : List Change) (inside : i < length rows) (at : row ≡ get_or rows i row) (so_far : Tells kind P (take i rows) before now) where
     pub tells_of : (after : List Change) → P row → after ≡ now ++ change kind row ∷ [] → Tells kind P (take (i + 1) rows) before after
     tells_of after is more =
-        let front : take i rows ++ row ∷ [] ≡ take (i + 1) rows = ap (λ r. take i rows ++ r ∷ []) at ∙ sym (take_more rows i row inside) in
         record {
           picked = so_far.picked ++ row ∷ [];
-          are = subst (λ rs. Picks P rs (so_far.picked ++ row ∷ [])) front (picked_too (take i rows) so_far.picked row so_far.are is);
+          are = picks_next rows so_far.picked i row inside at so_far.are is;
           behind = more ∙ ap (λ (cs : List Change). cs ++ change kind row ∷ []) so_far.behind ∙ append_assoc before (told kind so_far.picked) (change kind row ∷ [])
               ∙ ap (λ (cs : List Change). before ++ cs) (sym (map-append (change kind) so_far.picked (row ∷ [])));
         }
 
     pub tells_not_of : (P row → ⊥) → Tells kind P (take (i + 1) rows) before now
     tells_not_of never =
-        let front : take i rows ++ row ∷ [] ≡ take (i + 1) rows = ap (λ r. take i rows ++ r ∷ []) at ∙ sym (take_more rows i row inside) in
         record {
           picked = so_far.picked;
-          are = subst (λ rs. Picks P rs so_far.picked) front (left_too (take i rows) so_far.picked row so_far.are never);
+          are = leaves_next rows so_far.picked i row inside at so_far.are never;
           behind = so_far.behind;
         }
 

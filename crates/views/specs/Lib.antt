@@ -3,4 +3,7 @@ pub mod Index
 pub mod Limbo
 pub mod Picks
 pub mod Printed
+pub mod Refresh
 pub mod Row
+pub mod Snapshot
+pub mod Viewed

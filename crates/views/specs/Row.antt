@@ -36,6 +36,10 @@ keys_of rows = each (λ (r : Row). r.key) rows
 abbrev pub IsPrinted : DocumentMap → Row → Type 0
 IsPrinted documents r = option_map printed (map.get documents r.key) ≡ Some r.document
 
+-- the row is that of the key, and has what is printed of its document
+abbrev pub PrintsAt : DocumentMap → List (List ℕ) → Row → Type 0
+PrintsAt documents key r = (r.key ≡ key) × IsPrinted documents r
+
 -- The rows are those of the keys, in their order, and each has what is printed of the key's document.
 pub record Prints (documents : DocumentMap) (wanted : List (List (List ℕ))) (rows : List Row) : Type 0 where
   pub keys : keys_of rows ≡ wanted
