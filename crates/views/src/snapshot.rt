@@ -1,4 +1,6 @@
 ghost use Rattle.std.specs.Prelude.{◌≡◌, ◌≤◌, length, MatchOption};
+ghost use Rattle.std.specs.List.{All};
+ghost use Rattle.views.specs.Row.{IsPrinted};
 ghost use Rattle.views.specs.Snapshot.{LendsAt};
 
 use crate::change::Change;
@@ -28,6 +30,23 @@ impl<'a, D: Documents> Model for Snapshot<'a, D> {
 }
 
 impl<'a, D: Documents> Snapshot<'a, D> {
+    /// What was raised, over the documents.
+    pub(crate) fn of(raised: &'a Raised, docs: &'a D) -> Snapshot<'a, D>
+        requires { All (IsPrinted (D.documents docs.now)) raised.now.rows }
+        ensures raised { result.raised ≡ raised.entry.now }
+        ensures documents { result.documents ≡ D.documents docs.entry.now }
+    {
+        Snapshot { raised, docs }
+    }
+
+    /// The document at the index, from 0, lent by the store; `None` exactly past the last.
+    pub fn document(&self, index: u64) -> Option<DocRef<'a>>
+        ensures { MatchOption result (length self.now.raised.rows ≤ index) (λ document. LendsAt self.now index document) }
+    {
+        let row = self.raised.rows.as_slice().get(index as usize)?;
+        self.docs.document(&row.key)
+    }
+
     /// The number of documents.
     pub fn len(&self) -> u64
         ensures { result ≡ length self.now.raised.rows }

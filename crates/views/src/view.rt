@@ -1,9 +1,9 @@
-ghost use Rattle.std.specs.Prelude.{◌≡◌, ◌≢◌, ◌↔◌, IsTrue, IsSome, None, OnOk, OnErr, IfOk, option_map};
+ghost use Rattle.std.specs.Prelude.{◌≡◌, ◌≢◌, ◌↔◌, IsTrue, IfSome, IsSome, false, Some, None, [], OnOk, OnErr, IfOk};
 ghost use Rattle.std.specs.FinMap as map;
 ghost use Rattle.std.specs.List.{All, AllPairs};
 ghost use Rattle.queries.specs.Answer.{IsAnswer};
-ghost use Rattle.views.specs.Refresh.{IsOver, Raises, Refreshes, last_rows};
-ghost use Rattle.views.specs.Snapshot.{Lent};
+ghost use Rattle.views.specs.Changes.{HasChanges};
+ghost use Rattle.views.specs.Refresh.{IsOver, Raises, Refreshes, Shows, last_rows};
 
 use crate::raised::{Raised, are_rows_of};
 use crate::rows::Rows;
@@ -62,7 +62,8 @@ fn is_raised<D: Documents>(
     from_cache: bool,
     may_start: bool,
 ) -> bool
-    ensures { IsTrue result ↔ Raises (D.documents docs.now) answer.now from_cache may_start last.now }
+    ensures raises { IsTrue result ↔ Raises (D.documents docs.now) answer.now from_cache may_start last.now }
+    ensures shows { result ≡ false → IfSome last.now (Shows (D.documents docs.now) answer.now from_cache) }
 {
     match last {
         None => !from_cache || !answer.is_empty() || may_start,
@@ -74,13 +75,37 @@ fn is_raised<D: Documents>(
 
 /// The rows of the last snapshot, or these where there was none.
 fn rows_or<'a>(last: &'a Option<Raised>, none: &'a Rows) -> &'a Rows
-    requires { none.entry.now ≡ [] }
+    requires { none.now ≡ [] }
     ensures { result.now ≡ last_rows last.entry.now }
 {
     match last {
         Some(last) => &last.rows,
         None => none,
     }
+}
+
+/// The snapshot that is raised after the last one.
+fn raised_after<D: Documents>(
+    alloc: Global,
+    docs: &D,
+    last: &Option<Raised>,
+    answer: &[DocumentKey],
+    from_cache: bool,
+) -> Result<Raised, NoMemory>
+    requires there { All (λ key. IsSome (map.get (D.documents docs.now) key)) answer.now }
+    requires distinct { AllPairs ◌≢◌ answer.now }
+    ensures shows { IfOk result (λ raised. Shows (D.documents docs.now) answer.now from_cache raised) }
+    ensures changes { IfOk result (λ raised. HasChanges (last_rows last.now) raised.rows raised.changes) }
+{
+    let none = Rows::new(alloc);
+    Raised::over(alloc, docs, rows_or(last, &none), answer, from_cache)
+}
+
+/// Puts the snapshot in place of the last one.
+fn put(last: &mut Option<Raised>, raised: Raised)
+    ensures { last.new ≡ Some raised }
+{
+    *last = Some(raised);
 }
 
 impl View {
@@ -93,6 +118,50 @@ impl View {
             query,
             raised: None,
         }
+    }
+
+    /// Works out the answer over the documents, with what is known of the target, and raises a snapshot where what is shown
+    /// differs from what was last raised. Where none was raised yet, it raises one where it isn't from the cache, it shows a
+    /// document, or `may_start`.
+    ///
+    /// # Errors
+    /// `NoMemory`: the view is then as before.
+    pub fn refresh<D: Documents>(
+        &mut self,
+        alloc: Global,
+        root: &Database,
+        docs: &D,
+        standing: &Standing,
+        may_start: bool,
+    ) -> Result<Refresh, NoMemory>
+        ensures done { IfOk result (λ refresh. Refreshes root.now (D.documents docs.now) (D.touched_keys docs.now)
+            standing.now may_start self.old self.new refresh) }
+        ensures over { OnOk result (IsOver self.new (D.documents docs.now)) }
+        ensures undone { OnErr result (self.new ≡ self.old) }
+    {
+        let answer = answer_of(alloc, root, docs, &self.query)?;
+        let keys = answer.as_slice();
+        let limbo = standing.limbo(alloc, docs, keys)?;
+        let from_cache = standing.is_from_cache(limbo.as_slice());
+        let raised = is_raised(docs, &self.raised, keys, from_cache, may_start);
+        if raised {
+            let next = raised_after(alloc, docs, &self.raised, keys, from_cache)?;
+            put(&mut self.raised, next);
+        }
+        Ok(Refresh { raised, limbo })
+    }
+
+    /// The last snapshot, where one was raised, lent with the documents that it was raised over, or that are printed the same.
+    pub fn snapshot<'a, D: Documents>(&'a self, docs: &'a D) -> Snapshot<'a, D>
+        requires raised { IsSome self.now.raised }
+        requires over { IsOver self.now (D.documents docs.now) }
+        ensures raised { Some result.raised ≡ self.entry.now.raised }
+        ensures documents { result.documents ≡ D.documents docs.entry.now }
+    {
+        let Some(raised) = &self.raised else {
+            unreachable!();
+        };
+        Snapshot::of(raised, docs)
     }
 
     /// The query.
