@@ -1,5 +1,5 @@
 -- each key of an answer has a document, and they are different
-use Rattle.std.proofs.Common.{◌≡◌, ◌≢◌, ◌∙◌, ℕ, List, get_or, Option, Some, None, IsSome, refl, sym, subst, ap}
+use Rattle.std.proofs.Common.{◌≢◌, ℕ, List, get_or, IsSome, refl, sym, subst}
 use Rattle.std.specs.FinMap as map
 use Rattle.std.specs.List.{All, AllPairs}
 use Rattle.std.proofs.lemmas.List.Elements.{Contains-get_or}

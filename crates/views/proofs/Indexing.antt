@@ -1,5 +1,5 @@
 -- rows, and the index by their keys
-use Rattle.std.proofs.Common.{◌≡◌, ◌∙◌, ◌+◌, ◌<◌, ℕ, Bool, true, false, cond, List, [], ◌∷◌, ◌++◌, length, get_or, Option, Some, None, option_map, Bor, Global, is_some, IsTrue, ◌↔◌, refl, sym, ap, subst}
+use Rattle.std.proofs.Common.{◌≡◌, ◌∙◌, ◌<◌, ℕ, Bool, true, false, cond, List, [], ◌∷◌, ◌++◌, length, get_or, Option, Some, None, option_map, Bor, Global, is_some, IsTrue, ◌↔◌, refl, sym, ap, subst}
 use Rattle.std.specs.List.{All, Contains}
 use Rattle.std.specs.Map.{lookup}
 use Rattle.std.specs.Option.{option_copied}
@@ -54,11 +54,14 @@ module _ (rows : List Row) (old new : Index) (key : List (List ℕ)) (rc : Rc St
       found q other at false e =
           let was : lookup (is_key q) old ≡ Some other = sym (ap (λ b. cond b (Some rc) (lookup (is_key q) old)) e) ∙ sym (put q) ∙ at in
           Contains-append_left rows (row key document ∷ []) (row q other.value) (is.found q other was)
+
       stays : (r : Row) → Contains rows r → IsFoundIn old r → (b : Bool) → is_key key r.key ≡ b → IsFoundIn new r
       stays r there was true e = absurd (fresh (subst (Contains (keys_of rows)) (sym (key_is key r.key e)) (key_there rows r there)))
       stays r there was false e = ap (option_map rc_value) (put r.key ∙ ap (λ b. cond b (Some rc) (lookup (is_key r.key) old)) e) ∙ was
+
       before : All (IsFoundIn new) rows
       before k d inside = stays (get_or rows k d) (Contains-get_or rows k d inside) (is.each k d inside) (is_key key (get_or rows k d).key) refl
+
       here : option_map rc_value (lookup (is_key key) new) ≡ Some document
       here = ap (option_map rc_value) (put key ∙ ap (λ b. cond b (Some rc) (lookup (is_key key) old)) (key_same key key refl)) ∙ ap Some same
 

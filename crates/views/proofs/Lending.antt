@@ -1,12 +1,11 @@
 -- the documents that a snapshot lends
-use Rattle.std.proofs.Common.{◌≡◌, ◌≤◌, ◌∙◌, ℕ, List, get_or, length, Option, Some, None, true, ◌<◌, IfSome, MatchOption, ltb, option_map, sym, ap, subst}
+use Rattle.std.proofs.Common.{◌≡◌, ◌≤◌, ◌∙◌, ℕ, List, length, Option, Some, None, true, ◌<◌, IfSome, MatchOption, ltb, option_map, sym, ap, subst}
 use Rattle.std.proofs.lemmas.Bool.{ltb-true}
 use Rattle.std.specs.FinMap as map
 use Rattle.std.specs.List.{All, slice_get}
 use Rattle.std.proofs.lemmas.List.Elements.{All-get_or}
 use Rattle.std.proofs.lemmas.Option.{slice_get_within, get_or_from_slice_get}
 use Rattle.value_model.specs.declared.documents.DocRef.{DocRef}
-use Rattle.value_model.specs.Documents.{DocumentMap}
 use Rattle.views.specs.Printed.{printed, stored_of}
 use Rattle.views.specs.Row.{Row, row, IsPrinted}
 use Rattle.views.specs.Snapshot.{Lent, LendsAt}

@@ -1,7 +1,10 @@
 pub mod Answered
+pub mod Following
 pub mod Indexing
-pub mod Printing
 pub mod Lending
+pub mod Picking
 pub mod PrintedRows
+pub mod Printing
 pub mod Refreshing
+pub mod Stable
 pub mod Telling

@@ -1,12 +1,11 @@
 -- rows that have what is printed of the documents of keys
-use Rattle.std.proofs.Common.{◌≡◌, ◌≢◌, ◌∙◌, ◌+◌, ◌<◌, ◌≤◌, ◌↔◌, ℕ, Bool, IsTrue, List, [], ◌∷◌, ◌++◌, length, get_or, take, map as each, Option, Some, None, option_map, refl, sym, ap, subst, arith}
+use Rattle.std.proofs.Common.{◌≡◌, ◌∙◌, ◌+◌, ◌<◌, ◌↔◌, ℕ, Bool, IsTrue, List, [], ◌∷◌, ◌++◌, length, get_or, take, Some, None, option_map, refl, sym, ap, subst, arith}
 use Rattle.std.specs.FinMap as map
-use Rattle.std.specs.List.{All, AllPairs, Contains}
-use Rattle.std.proofs.lemmas.List.{get_or-map, get_or_default, length-map, map_more, take_more, map-append, get_or-take}
-use Rattle.std.proofs.lemmas.List.Elements.{All-push, All-more}
+use Rattle.std.proofs.lemmas.List.{get_or-map, take_more, map-append}
+use Rattle.std.proofs.lemmas.List.Elements.{All-push}
 use Rattle.value_model.specs.Documents.{DocumentMap, Stored}
 use Rattle.views.specs.Printed.{printed}
-use Rattle.views.specs.Row.{Row, row, keys_of, IsPrinted, Prints, PrintsAt}
+use Rattle.views.specs.Row.{Row, IsPrinted, Prints, PrintsAt}
 
 module _ (documents : DocumentMap) where
   -- what the store lends of a row's key tells whether the row is printed so

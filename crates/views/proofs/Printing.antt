@@ -1,11 +1,11 @@
 -- when values are printed the same, by their kinds, their items and their fields
-use Rattle.std.proofs.Common.{◌≡◌, ◌≢◌, ◌↔◌, ◌⊎◌, ◌∙◌, inl, inr, ℕ, ◌+◌, ◌<◌, List, [], ◌∷◌, ◌++◌, length, get_or, take, map as each, refl, sym, ap, subst, arith}
-use Rattle.std.proofs.lemmas.List.{get_or-map, map_more, length-map, get_or_default}
+use Rattle.std.proofs.Common.{◌≡◌, ◌≢◌, ◌↔◌, ◌∙◌, inl, inr, ℕ, ◌+◌, ◌<◌, List, [], ◌∷◌, ◌++◌, length, get_or, take, map as each, refl, sym, ap}
+use Rattle.std.proofs.lemmas.List.{get_or-map, map_more, get_or_default}
 use Rattle.value_model.specs.declared.fields.Field.{Field}
 use Rattle.value_model.specs.declared.value.Kind.{Kind}
 use Rattle.value_model.specs.declared.value.Kind.TheVariants as kind
-use Rattle.value_model.specs.Data.{Data, null, boolean, integer, time, pending, text, bytes, reference, array, map, Items, no_items, item, Members, no_members, member, Entries, items_of, members_of, list_of, entries_of, array_of, map_of}
-use Rattle.value_model.specs.Named.{field_data, fields_data}
+use Rattle.value_model.specs.Data.{Data, null, boolean, integer, time, pending, text, bytes, reference, array, map, Items, item, Members, member, Entries, items_of, members_of, list_of, entries_of, array_of, map_of}
+use Rattle.value_model.specs.Named.{fields_data}
 use Rattle.value_model.specs.View.{kind_data}
 use Rattle.views.specs.Printed.{AreNullOrEqual, printed_value, printed_items, printed_members, printed_fields}
 
@@ -114,16 +114,18 @@ entered (e ∷ es) = ap (λ xs. e ∷ xs) (entered es)
 
 -- an array is printed with its items printed, and a map with its fields printed
 pub arrays_print : (xs ys : List Data) → (printed_value (array_of xs) ≡ printed_value (array_of ys)) ↔ (each printed_value xs ≡ each printed_value ys)
-arrays_print xs ys =
-    (λ same. let is : items_of (each printed_value xs) ≡ items_of (each printed_value ys) = cc (items_print xs, items_print ys) in
-          sym (listed (each printed_value xs)) ∙ ap list_of is ∙ listed (each printed_value ys),
-      λ same. ap array (items_print xs) ∙ ap array_of same ∙ sym (ap array (items_print ys)))
+arrays_print xs ys = (
+  λ same. let is : items_of (each printed_value xs) ≡ items_of (each printed_value ys) = cc (items_print xs, items_print ys) in
+      sym (listed (each printed_value xs)) ∙ ap list_of is ∙ listed (each printed_value ys),
+  λ same. ap array (items_print xs) ∙ ap array_of same ∙ sym (ap array (items_print ys)),
+)
 
 pub maps_print : (xs ys : Entries) → (printed_value (map_of xs) ≡ printed_value (map_of ys)) ↔ (printed_fields xs ≡ printed_fields ys)
-maps_print xs ys =
-    (λ same. let is : members_of (printed_fields xs) ≡ members_of (printed_fields ys) = cc (members_print xs, members_print ys) in
-          sym (entered (printed_fields xs)) ∙ ap entries_of is ∙ entered (printed_fields ys),
-      λ same. ap map (members_print xs) ∙ ap map_of same ∙ sym (ap map (members_print ys)))
+maps_print xs ys = (
+  λ same. let is : members_of (printed_fields xs) ≡ members_of (printed_fields ys) = cc (members_print xs, members_print ys) in
+      sym (entered (printed_fields xs)) ∙ ap entries_of is ∙ entered (printed_fields ys),
+  λ same. ap map (members_print xs) ∙ ap map_of same ∙ sym (ap map (members_print ys)),
+)
 
 -- the two kinds aren't both arrays and aren't both maps
 pub record ApartKinds (k l : Kind) : Type 0 where

@@ -1,5 +1,5 @@
 -- what a refresh makes of a view: where a snapshot is raised, and where none is
-use Rattle.std.proofs.Common.{◌≡◌, ◌↔◌, ℕ, Bool, true, false, IsTrue, List, Option, Some, None, IfSome, Vec, Global, refl, sym, ap, subst}
+use Rattle.std.proofs.Common.{◌≡◌, ◌↔◌, ℕ, Bool, true, false, IsTrue, List, Option, Some, None, IfSome, Vec, Global, refl}
 use Rattle.std.specs.List.{All}
 use Rattle.document_keys.specs.declared.key.DocumentKey.{DocumentKey}
 use Rattle.document_keys.specs.Names.{Root}

@@ -1,7 +1,6 @@
 -- rows that are picked one after the other, and the changes that are told of them
-use Rattle.std.proofs.Common.{◌≡◌, ◌∙◌, ◌+◌, ◌<◌, ℕ, List, [], ◌∷◌, ◌++◌, length, get_or, take, map as each, append_assoc, append-nil, Bool, true, false, not, IsTrue, ◌↔◌, Some, refl, sym, ap, subst}
+use Rattle.std.proofs.Common.{◌≡◌, ◌∙◌, ◌+◌, ◌<◌, ℕ, List, [], ◌∷◌, ◌++◌, length, get_or, take, append_assoc, append-nil, Bool, true, false, not, IsTrue, ◌↔◌, Some, refl, sym, ap, subst}
 use Rattle.std.proofs.lemmas.List.{map-append, take_more}
-use Rattle.std.specs.List.{Contains}
 use Rattle.value_model.specs.Documents.{Stored}
 use Rattle.views.specs.declared.change.Change.{Change}
 use Rattle.views.specs.declared.change.Kind.{Kind}

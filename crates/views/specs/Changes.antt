@@ -1,6 +1,6 @@
 -- The changes of a snapshot against the one before (DocumentChange of the client SDKs, without the indexes): first what was
 -- removed, then what was added, then what was modified.
-use Rattle.std.specs.Prelude.{◌≡◌, ◌≢◌, ℕ, List, ◌++◌, map as each}
+use Rattle.std.specs.Prelude.{◌≡◌, ◌≢◌, List, ◌++◌, map as each}
 use Rattle.std.specs.List.{Contains}
 use Rattle.value_model.specs.Documents.{Stored}
 use Rattle.views.specs.declared.change.Change.{Change}

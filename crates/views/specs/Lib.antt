@@ -1,5 +1,6 @@
 pub mod Changes
 pub mod Index
+pub mod Laws
 pub mod Limbo
 pub mod Picks
 pub mod Printed

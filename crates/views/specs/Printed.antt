@@ -2,7 +2,7 @@
 -- sets, and that isn't known yet, is printed as null at any depth, and everything else as it is.
 use Rattle.std.specs.Prelude.{◌≡◌, ◌⊎◌, map as each}
 use Rattle.value_model.specs.declared.documents.DocRef.{DocRef}
-use Rattle.value_model.specs.Data.{Data, null, boolean, integer, time, pending, text, bytes, reference, array, map, Items, no_items, item, Members, no_members, member, Entries}
+use Rattle.value_model.specs.Data.{Data, null, pending, array, map, Items, no_items, item, Members, no_members, member, Entries}
 use Rattle.value_model.specs.Documents.{Stored}
 
 abbrev mutual

@@ -4,7 +4,6 @@ use Rattle.std.specs.Prelude.{◌≡◌, ◌≢◌, ◌⊎◌, ℕ, Bool, false,
 use Rattle.std.specs.List.{All}
 use Rattle.document_keys.specs.Names.{Root}
 use Rattle.queries.specs.Answer.{IsAnswer}
-use Rattle.queries.specs.declared.target.Target.{Target}
 use Rattle.value_model.specs.Documents.{DocumentMap}
 use Rattle.views.specs.declared.raised.Raised.{Raised}
 use Rattle.views.specs.declared.view.Refresh.{Refresh}

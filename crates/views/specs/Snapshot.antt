@@ -1,10 +1,8 @@
 -- A snapshot that is lent, as contracts see it: what was raised, and the documents of the store.
-use Rattle.std.specs.Prelude.{◌≡◌, ℕ, List, Some, refl}
-use Rattle.std.specs.Cmp.Lexicographic.{slice_cmp}
+use Rattle.std.specs.Prelude.{◌≡◌, ℕ, Some, refl}
 use Rattle.std.specs.Coded.{Coded, code_by, coded×, coded_list, coded_ℕ}
 use Rattle.std.specs.FinMap as map
 use Rattle.std.specs.List.{slice_get}
-use Rattle.std.specs.Ordering.{nat_cmp}
 use Rattle.value_model.specs.declared.documents.DocRef.{DocRef}
 use Rattle.value_model.specs.Documents.{DocumentMap}
 use Rattle.views.specs.contracts.raised.Raised as raised

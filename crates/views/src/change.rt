@@ -31,12 +31,7 @@ fn is_modified(old: &Rows, row: &Row) -> bool
 }
 
 /// Puts a change of this kind for the row's key to the others.
-fn tell(
-    alloc: Global,
-    kind: Kind,
-    row: &Row,
-    changes: &mut Vec<Change>,
-) -> Result<(), NoMemory>
+fn tell(alloc: Global, kind: Kind, row: &Row, changes: &mut Vec<Change>) -> Result<(), NoMemory>
     ensures { OnOk result (changes.new.items ≡ changes.old.items ++ record { kind = kind; key = row.now.key } ∷ []) }
 {
     let key = row.key.copy(alloc)?;

@@ -1,7 +1,7 @@
-use Rattle.std.proofs.Common.{◌∷◌, ◌++◌, ◌∙◌, ◌+◌, List, [], IsTrue, Vec, Global, take, ap, subst, sym}
+use Rattle.std.proofs.Common.{◌+◌, IsTrue, Vec, Global, take, ap, subst, sym}
 use Rattle.std.specs.List.{Contains}
 use Rattle.views.specs.declared.change.Change.{Change}
-use Rattle.views.specs.Changes.{IsNotIn, Tells, change}
+use Rattle.views.specs.Changes.{IsNotIn, Tells}
 use Rattle.views.specs.Row.{Row, keys_of}
 use Rattle.views.proofs.Telling.{tells_nothing, tells_of, tells_not_of}
 use Rattle.views.proofs.change.tell_missing.Goals as goal

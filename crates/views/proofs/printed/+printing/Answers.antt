@@ -1,8 +1,6 @@
-use Rattle.std.proofs.Common.{rules, ◌≡◌, ◌↔◌, ◌∙◌, IsTrue, sym, subst, arith}
-use Rattle.value_model.specs.Data.{Data}
+use Rattle.std.proofs.Common.{rules, IsTrue, arith}
 use Rattle.value_model.proofs.Sizes.{item_below, field_below}
-use Rattle.views.specs.Printed.{AreNullOrEqual, printed_value}
-use Rattle.views.proofs.Printing.{ApartKinds, array_first, map_first, neither_first, kinds_print, arrays_print, maps_print, values_apart, names_apart, field_values_apart, fields_on}
+use Rattle.views.proofs.Printing.{ApartKinds, array_first, map_first, neither_first, kinds_print, arrays_print, maps_print, values_apart, names_apart, field_values_apart}
 use Rattle.views.proofs.printed.+printing.Goals as goal
 use Rattle.views.proofs.printed.+printing.Goals.{is_printed_as-in_default-via-in-Array+in_default, is_printed_as-in_default-via-in-Map+in_default, is_printed_as-in_default-via-in_default}
 

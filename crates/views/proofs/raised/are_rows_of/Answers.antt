@@ -1,5 +1,5 @@
 use Rattle.std.proofs.Common.{IsTrue, arith}
-use Rattle.views.proofs.PrintedRows.{none_print, prints_next, prints_there}
+use Rattle.views.proofs.PrintedRows.{prints_next, prints_there}
 use Rattle.views.proofs.raised.are_rows_of.Goals as goal
 
 pub returns-then-not-is_row_of : goal.returns-then-not-is_row_of

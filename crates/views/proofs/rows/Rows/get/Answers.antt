@@ -1,4 +1,4 @@
-use Rattle.std.proofs.Common.{◌∙◌, refl, subst, sym}
+use Rattle.std.proofs.Common.{subst, sym}
 use Rattle.std.specs.Option.{option_copied}
 use Rattle.views.specs.Row.{HasAtKey}
 use Rattle.views.proofs.Indexing.{got, lent}

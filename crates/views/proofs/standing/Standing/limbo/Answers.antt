@@ -1,4 +1,4 @@
-use Rattle.std.proofs.Common.{◌∷◌, ◌++◌, ◌∙◌, ◌+◌, List, [], IsTrue, Vec, Global, take, ap, refl, subst, sym}
+use Rattle.std.proofs.Common.{◌∷◌, ◌++◌, ◌∙◌, ◌+◌, [], IsTrue, Vec, Global, take, ap, refl, subst, sym}
 use Rattle.document_keys.specs.declared.key.DocumentKey.{DocumentKey}
 use Rattle.views.specs.Limbo.{IsInLimbo}
 use Rattle.views.specs.Picks.{Picks}

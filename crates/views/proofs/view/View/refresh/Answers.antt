@@ -1,4 +1,4 @@
-use Rattle.std.proofs.Common.{◌≡◌, List, ℕ, Some, Option, sym, subst}
+use Rattle.std.proofs.Common.{List, ℕ, Option, sym, subst}
 use Rattle.queries.specs.Answer.{IsAnswer}
 use Rattle.views.specs.declared.raised.Raised.{Raised}
 use Rattle.views.specs.Limbo.{IsFromCache}
