@@ -1,0 +1,4 @@
+pub mod Composites
+pub mod Finding
+pub mod Growing
+pub mod Targets
