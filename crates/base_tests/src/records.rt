@@ -448,18 +448,28 @@ fn check_update(rt: &impl Abort, writes: &[Write]) {
     );
 }
 
+/// The batch that a commit puts behind the pending ones.
+fn batch_in(commit: &Commit) -> Option<&Batch> {
+    match commit {
+        Commit::Enqueue(batch) => Some(batch),
+        _ => None,
+    }
+}
+
 #[test]
 fn content_of_a_delete(rt: HostRuntime) -> Result<(), Fail> {
-    let Commit::Enqueue(batch) = decode(rt.alloc(), &DELETE)?.ok_or("the bytes are a commit")?;
-    check_batch(&rt, &batch);
+    let commit = decode(rt.alloc(), &DELETE)?.ok_or("the bytes are a commit")?;
+    let batch = batch_in(&commit).ok_or("a batch")?;
+    check_batch(&rt, batch);
     check_delete(&rt, batch.writes.as_slice());
     Ok(())
 }
 
 #[test]
 fn content_of_an_update(rt: HostRuntime) -> Result<(), Fail> {
-    let Commit::Enqueue(batch) = decode(rt.alloc(), &WHOLE)?.ok_or("the bytes are a commit")?;
-    check_batch(&rt, &batch);
+    let commit = decode(rt.alloc(), &WHOLE)?.ok_or("the bytes are a commit")?;
+    let batch = batch_in(&commit).ok_or("a batch")?;
+    check_batch(&rt, batch);
     check_update(&rt, batch.writes.as_slice());
     Ok(())
 }
