@@ -11,6 +11,7 @@ use Rattle.document_keys.specs.Order.{PathBefore}
 use Rattle.document_keys.proofs.Lawful.{ordered}
 use Rattle.std.proofs.lemmas.List.{append-nil, length-append}
 use Rattle.limbo_resolver.specs.Held.{firsts, joined, with_one}
+use Rattle.limbo_resolver.specs.Laws.{AreApart}
 use Rattle.limbo_resolver.specs.Limbo.{Key, Limbo, filled, has, has_place, keys_of, same_key}
 use Rattle.limbo_resolver.proofs.Members.{key_is, other_way}
 
@@ -92,11 +93,6 @@ waits running (key ∷ queue) next some = go (has_place (length running) next) r
 abbrev pub news : List Key → List Key → List Key
 news keys wanted = filter (λ key. not (has keys key)) wanted
 
--- no two keys are equal
-abbrev pub AllApart : List Key → Type 0
-AllApart [] = Unit {0}
-AllApart (key ∷ keys) = (has keys key ≡ false) × AllApart keys
-
 has_more : (keys : List Key) (key x : Key) → same_key x key ≡ false → has (keys ++ key ∷ []) x ≡ has keys x
 has_more [] key x apart = rw apart refl
 has_more (k ∷ keys) key x apart = ap (λ b. same_key x k || b) (has_more keys key x apart)
@@ -108,7 +104,7 @@ news_more keys key (x ∷ wanted) apart =
     let p = or_parts (same_key key x) (has wanted key) apart in
     rw (has_more keys key x (other_way key x p.0)) (rw (news_more keys key wanted p.1) refl)
 
-pub joins : (keys wanted : List Key) → AllApart wanted → joined keys wanted ≡ keys ++ news keys wanted
+pub joins : (keys wanted : List Key) → AreApart wanted → joined keys wanted ≡ keys ++ news keys wanted
 joins keys [] apart = sym (append-nil keys)
 joins keys (key ∷ wanted) apart = go (has keys key) (joins keys wanted apart.1) (joins (keys ++ key ∷ []) wanted apart.1)
   where
@@ -161,7 +157,7 @@ pub news_wanted : (keys wanted : List Key) → filter (has wanted) (news keys wa
 news_wanted keys wanted = kept_all wanted (news keys wanted) (in_news wanted keys wanted (in_itself wanted))
 
 -- an ascending list has no key twice
-pub apart : (keys : List Key) → IsAscending keys → AllApart keys
+pub apart : (keys : List Key) → IsAscending keys → AreApart keys
 apart [] ascending = tt
 apart (x ∷ xs) ascending = (none xs (λ k d inside. ascending 0 (suc k) d (omega arith) (omega arith)), apart xs (λ i j d before inside. ascending (suc i) (suc j) d (omega arith) (omega arith)))
   where

@@ -8,6 +8,8 @@
 
 mod ids;
 mod keys;
+mod laws;
 mod resolver;
 
+pub use laws::listens_stay_sound;
 pub use resolver::{LimboChange, LimboResolver};
