@@ -9,6 +9,7 @@ use std::marker::Model;
 use value_model::{DocRef, Documents};
 
 /// A snapshot that a view has raised, over the store that has its documents. Contracts see what was raised, and the documents.
+#[derive(Drop)]
 pub struct Snapshot<'a, D: Documents> {
     raised: &'a Raised,
     docs: &'a D,
