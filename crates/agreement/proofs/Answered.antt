@@ -72,7 +72,7 @@ all_or_one keys (x ∷ xs) = elim (in_or_not keys x) [
 ]
 
 -- the keys of a map
-same_by_order : (key other : Key) → Decides (eq_by_cmp (slice_cmp (slice_cmp nat_cmp)) key other) (key ≡ other)
+pub same_by_order : (key other : Key) → Decides (eq_by_cmp (slice_cmp (slice_cmp nat_cmp)) key other) (key ≡ other)
 same_by_order key other = (
   (λ yes. slice_cmp-IsAntisymmetric (slice_cmp-IsAntisymmetric nat_cmp-IsAntisymmetric) key other ((Equal-is _).0 yes)),
   (λ same. subst (λ (k : Key). eq_by_cmp (slice_cmp (slice_cmp nat_cmp)) key k ≡ true) same ((eq_by_cmp_equiv paths_compute.total).refl key)),
