@@ -1,5 +1,5 @@
 use Rattle.agreement.proofs.Answered.{answers_distinct, answers_there, documents_answered, answers_kept}
-use Rattle.agreement.proofs.answers_suffice.Goals as goal
+use Rattle.agreement.proofs.laws.answers_suffice.Goals as goal
 
 pub returns-clause-distinct : goal.returns-clause-distinct
 returns-clause-distinct c = answers_distinct
