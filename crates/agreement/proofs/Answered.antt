@@ -28,7 +28,7 @@ use Rattle.queries.proofs.Candidates.{false_from}
 use Rattle.queries.proofs.Counting.{in_order_apart, no_more_than}
 use Rattle.queries.proofs.Lawful.{answers_law}
 use Rattle.agreement.specs.Backend.{Key, same_key, Written, written, document_at, Answers}
-use Rattle.agreement.specs.Limits.{AnswersAreDistinct, AnswersAreThere, DocumentsAreAnswered, AnswersAreKept}
+use Rattle.agreement.specs.Answers.{AnswersAreDistinct, AnswersAreThere, DocumentsAreAnswered, AnswersAreKept}
 use Rattle.agreement.proofs.Counting.{same_key-true}
 
 pub answers_distinct : AnswersAreDistinct

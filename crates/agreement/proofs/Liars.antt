@@ -9,7 +9,9 @@ use Rattle.queries.specs.declared.target.Target.TheVariants.{Document}
 use Rattle.agreement.specs.Backend.{Key, same_key, Written, written, IsInAnswer, document_at}
 use Rattle.agreement.specs.Transcript.{Remove, Current, Change, Sends, Filter, Heard, Asked, Cut}
 use Rattle.agreement.specs.Follows.{Follows}
-use Rattle.agreement.specs.Client.{Unknown, Committed, Entry, Resets, Acks, IsAllowed}
+use Rattle.agreement.specs.Entries.{Unknown, Committed, Entry}
+use Rattle.agreement.specs.Client.{Resets, Acks}
+use Rattle.agreement.specs.Allowed.{IsAllowed}
 use Rattle.agreement.specs.Agrees.{IsTouched, Agrees}
 use Rattle.agreement.proofs.Answered.{documents_answered}
 use Rattle.agreement.proofs.Examples.{two, four, a, some_fields, add, point, plain}

@@ -9,11 +9,12 @@ use Rattle.agreement.specs.History.{Write, IsHistory}
 use Rattle.agreement.specs.Transcript.{Event, Message, told}
 use Rattle.agreement.specs.Follows.{Follows, AreUnique, HonestFilter}
 use Rattle.agreement.specs.Stated.{FollowsAsStated}
-use Rattle.agreement.specs.Client.{Client, Turn, run, after, IsAllowed, AreAllowed, Numbers}
-use Rattle.agreement.specs.Engine.{turn_of, IsVerdict, IsUnused, Spares}
+use Rattle.agreement.specs.Client.{Client, Turn, run, after}
+use Rattle.agreement.specs.Allowed.{IsAllowed, AreAllowed, Numbers}
+use Rattle.agreement.specs.MessageTurns.{turn_of, IsVerdict, IsUnused, Spares}
 use Rattle.agreement.specs.Sound.{Sound, Live}
 use Rattle.agreement.specs.Agrees.{IsTouched, AreLocal, IsSynced, Agrees}
-use Rattle.agreement.specs.Chain.{started, next_run, empty}
+use Rattle.agreement.specs.NextRun.{started, next_run, empty}
 
 -- The premises of a run: the client is sound at its start, its turns are allowed, and all that was sent and heard follows the
 -- backend's documents. The backend gives no token twice for different points of a query.

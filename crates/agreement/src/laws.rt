@@ -2,7 +2,7 @@
 
 ghost use Rattle.agreement.specs.Laws.{SoundnessIsKept, SyncedSnapshotsAgree, EmptyIsSound, SoundCarriesOver, MomentsAreSound, StartsAreLive};
 ghost use Rattle.agreement.specs.Laws.{HistoriesStand, FiltersTell, MessagesAreAllowed, IdsWait, WordsSuffice, TicksAreOrdered, SyncedRun};
-ghost use Rattle.agreement.specs.Limits.{AnswersAreDistinct, AnswersAreThere, DocumentsAreAnswered, AnswersAreKept};
+ghost use Rattle.agreement.specs.Answers.{AnswersAreDistinct, AnswersAreThere, DocumentsAreAnswered, AnswersAreKept};
 
 /// What the client keeps stays sound over any allowed turns whose messages follow the backend's documents.
 pub fn soundness_is_kept()
