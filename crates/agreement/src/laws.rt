@@ -2,6 +2,7 @@
 
 ghost use Rattle.agreement.specs.Laws.{SoundnessIsKept, SyncedSnapshotsAgree, EmptyIsSound, SoundCarriesOver, MomentsAreSound, StartsAreLive};
 ghost use Rattle.agreement.specs.Laws.{HistoriesStand, FiltersTell, MessagesAreAllowed, IdsWait, WordsSuffice, TicksAreOrdered, SyncedRun};
+ghost use Rattle.agreement.specs.Streams.{StreamsAgree};
 ghost use Rattle.agreement.specs.Answers.{AnswersAreDistinct, AnswersAreThere, DocumentsAreAnswered, AnswersAreKept};
 
 /// What the client keeps stays sound over any allowed turns whose messages follow the backend's documents.
@@ -53,6 +54,11 @@ pub fn ids_wait()
 /// A backend that keeps to more, as that its read times never fall, keeps to what is asked.
 pub fn words_suffice()
     ensures { WordsSuffice }
+{}
+
+/// What the events of a run say of an id on a stream is what `listen_protocol` says of the stream's calls.
+pub fn streams_agree()
+    ensures { StreamsAgree }
 {}
 
 /// Times as numbers stand in the order of the moments, and none is 0.
