@@ -83,7 +83,7 @@ pub record TicksAreOrdered : Type 0 where
   pub before : (time other : Timestamp) → IsMoment time → IsMoment other → (instant time <ℤ instant other) ↔ (tick time < tick other)
   pub same : (time other : Timestamp) → IsMoment time → IsMoment other → tick time ≡ tick other → time ≡ other
 
--- A run that meets all premises, and ends in a snapshot of one document that no unfinished write touches.
+-- A run from an empty store that meets all premises, and ends in a snapshot of one document that no unfinished write touches.
 pub record SyncedRun : Type 0 where
   pub setting : Setting
   pub version : List Event → ℕ

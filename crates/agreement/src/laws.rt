@@ -66,7 +66,7 @@ pub fn ticks_are_ordered()
     ensures { TicksAreOrdered }
 {}
 
-/// A first sync of one document meets all premises.
+/// A first sync of a query of a collection meets all premises.
 pub fn first_sync_is_honest()
     ensures { SyncedRun }
 {}
