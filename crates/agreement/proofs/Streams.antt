@@ -26,7 +26,7 @@ ne a b apart = false_from_ne_true (a == b) (λ yes. apart (eqb-true a b yes))
 suc_apart : (n : ℕ) → (suc n == 0) ≡ false
 suc_apart n = ne (suc n) 0 (λ e. absurd (omega (arith, e)))
 
-names_same : (ids : List ℤ) (id : Id) → names ids id ≡ is_of ids id
+pub names_same : (ids : List ℤ) (id : Id) → names ids id ≡ is_of ids id
 names_same [] id = refl
 names_same (i ∷ ids) id = rw (suc_apart (length ids)) refl
 

@@ -14,21 +14,21 @@ use Rattle.listen_protocol.specs.Calls.{Calls, asked, unasked, came, applied, sk
 use Rattle.listen_protocol.specs.Transcript as stream
 use Rattle.listen_protocol.proofs.Ids.{counts_live}
 use Rattle.agreement.specs.Backend.{Key, same_key, Id, same_id}
-use Rattle.agreement.specs.Transcript.{Kind, No_change, Add, Remove, Current, Reset, is_kind, Request, Event, Heard, Asks, Unasks, Passes, News, Silent, Out, Sent, kind_role, start_by, current_by, is_current, counts, request_by, request, start_keys, said_sent, said_out, said, news_by, news, told_by}
-use Rattle.agreement.specs.Streams.{message_of, events, StartWithKeys, StreamsAgree}
+use Rattle.agreement.specs.Transcript.{Kind, No_change, Add, Remove, Current, Reset, is_kind, Request, Event, Heard, Asks, Unasks, Passes, News, Silent, Out, Sent, kind_role, start_by, current_by, is_current, counts, request_by, request, start_keys, said_sent, said_out, said, news_by, news, told_by, told}
+use Rattle.agreement.specs.Streams.{message_of, events, StartWithKeys}
 use Rattle.agreement.proofs.Answered.{same_by_order}
-use Rattle.agreement.proofs.Streams.{flip, adds, sort_of, is_sort, asked_same, counts_same}
+use Rattle.agreement.proofs.Streams.{flip, adds, sort_of, is_sort, counts_same}
 
-asked_none : (b c : Bool) → start_by (if b then Asks else Passes) c false ≡ None
+pub asked_none : (b c : Bool) → start_by (if b then Asks else Passes) c false ≡ None
 asked_none true c = refl
 asked_none false c = refl
 
-unasked_none : (b c : Bool) → start_by (if b then Unasks else Passes) c false ≡ None
+pub unasked_none : (b c : Bool) → start_by (if b then Unasks else Passes) c false ≡ None
 unasked_none true c = refl
 unasked_none false c = refl
 
 -- an id that counts after a message counted before, or the message adds it
-counted_step : (m : ListenResponse) (id : Id) (h : Calls) → stream.counts id (came m ∷ h) ≡ true → (stream.counts id h || adds (sort_of m id)) ≡ true
+pub counted_step : (m : ListenResponse) (id : Id) (h : Calls) → stream.counts id (came m ∷ h) ≡ true → (stream.counts id h || adds (sort_of m id)) ≡ true
 counted_step m id h counted =
     let p = and_parts (stream.is_live id (came m ∷ h)) (stream.counts id h || calls.changes calls.is_add m id) counted in
     subst (λ (b : Bool). (stream.counts id h || b) ≡ true) (is_sort m id).adds_is p.1
@@ -214,13 +214,9 @@ told_from id key keys op n None true is starts = rw is ((λ yes. (refl, starts.0
 told_from id key keys op n None false is starts = rw is ((λ yes. absurd (false≢true yes)), (λ there. absurd (false≢true there.0)))
 told_from id key keys op n (Some m) begins is starts = says_told n op key (calls.puts_in m id) is
 
-pub streams_agree : StreamsAgree
-streams_agree = record {
-  asks = λ opening older h id. asked_same opening older id h;
-  counting = λ opening older h id. counts_same opening older id h;
-  current = λ opening older h id. current_same opening older id h;
-  tells = λ opening older h id starts counted key.
-      let found = request_same opening older id h starts (counts_live id h counted).0 in
-      rw found.1 (told_from id key (stream.starting id h) found.0 (news id key (events opening older h)) (find (λ message. calls.names message id key) (stream.since id h))
-      (stream.starts_with_add id h) (news_same opening older id key h counted) (found.2 key));
-}
+pub told_same : (opening : Calls → Request) (older : List Event) (h : Calls) (id : Id) → StartWithKeys opening h → stream.counts id h ≡ true
+    → (key : Key) → (told id (events opening older h) key ≡ true) ↔ stream.IsTold id h key
+told_same opening older h id starts counted key =
+    let found = request_same opening older id h starts (counts_live id h counted).0 in
+    rw found.1 (told_from id key (stream.starting id h) found.0 (news id key (events opening older h)) (find (λ message. calls.names message id key) (stream.since id h))
+    (stream.starts_with_add id h) (news_same opening older id key h counted) (found.2 key))

@@ -1,14 +1,14 @@
 -- The calls of one watch stream, as `listen_protocol` has them, and the same as events.
-use Rattle.std.specs.Prelude.{◌≡◌, ◌↔◌, true, List, [], ◌∷◌}
+use Rattle.std.specs.Prelude.{◌≡◌, ◌↔◌, ◌==◌, Bool, true, false, not, List, [], ◌∷◌}
 use Rattle.std.specs.List.{Contains}
 use Rattle.value_model.specs.declared.message.ChangeKind.{ChangeKind}
 use Rattle.value_model.specs.declared.message.ChangeKind.TheVariants as kind
 use Rattle.value_model.specs.declared.message.ListenResponse.{ListenResponse}
 use Rattle.value_model.specs.declared.message.ListenResponse.TheVariants as sent
-use Rattle.listen_protocol.specs.Calls.{Calls, asked, unasked, came, applied, skipped}
+use Rattle.listen_protocol.specs.Calls.{Call, Calls, asked, unasked, came, applied, skipped}
 use Rattle.listen_protocol.specs.Transcript as stream
 use Rattle.agreement.specs.Backend.{Key, Id, same_id, tick, tick_of}
-use Rattle.agreement.specs.Transcript.{Kind, No_change, Add, Remove, Current, Reset, Message, Change, Sends, Deletes, Removes, Filter, Request, Event, Cut, Asked, Unasked, Heard, start_keys, is_asked, counts, is_current, told}
+use Rattle.agreement.specs.Transcript.{Kind, No_change, Add, Remove, Current, Reset, Message, Change, Sends, Deletes, Removes, Filter, Request, Event, Cut, Asked, Unasked, Heard, start_keys, is_asked, counts, is_current, told, token, point_time}
 
 abbrev pub kind_of : ChangeKind → Kind
 kind_of kind.NoChange = No_change
@@ -43,8 +43,30 @@ StartWithKeys opening (came message ∷ h) = StartWithKeys opening h
 StartWithKeys opening (applied ∷ h) = StartWithKeys opening h
 StartWithKeys opening (skipped ∷ h) = StartWithKeys opening h
 
--- Both say the same of an id: whether it is asked, whether it counts, and of one that counts whether it is CURRENT, and its
--- told keys.
+-- the call is a point
+abbrev pub is_point : Call → Bool
+is_point (came message) = not (point_time (Heard (message_of message)) == 0)
+is_point _ = false
+
+-- it says what became of a point
+abbrev pub is_taking : Call → Bool
+is_taking applied = true
+is_taking skipped = true
+is_taking _ = false
+
+-- A point is applied or skipped right behind its message, and nothing else is.
+abbrev pub PointsAreTaken : Calls → Type 0
+PointsAreTaken [] = Unit {0}
+PointsAreTaken (call ∷ []) = is_taking call ≡ false
+PointsAreTaken (call ∷ before ∷ h) = (is_taking call ≡ is_point before) × PointsAreTaken (before ∷ h)
+
+-- the newest call isn't that a point was applied or skipped
+abbrev pub EndsUntaken : Calls → Type 0
+EndsUntaken [] = Unit {0}
+EndsUntaken (call ∷ h) = is_taking call ≡ false
+
+-- Both say the same of an id: whether it is asked, whether it counts, and of one that counts whether it is CURRENT, its
+-- told keys and its token.
 pub record StreamsAgree : Type 0 where
   pub asks : (opening : Calls → Request) (older : List Event) (h : Calls) (id : Id)
       → is_asked id (events opening older h) ≡ stream.is_asked_in id h
@@ -54,3 +76,5 @@ pub record StreamsAgree : Type 0 where
       → is_current id (events opening older h) ≡ stream.is_current_in id h
   pub tells : (opening : Calls → Request) (older : List Event) (h : Calls) (id : Id) → StartWithKeys opening h
       → stream.counts id h ≡ true → (key : Key) → (told id (events opening older h) key ≡ true) ↔ stream.IsTold id h key
+  pub tokens : (opening : Calls → Request) (older : List Event) (h : Calls) (id : Id) → PointsAreTaken h → EndsUntaken h
+      → stream.counts id h ≡ true → token id (events opening older h) ≡ stream.token_in id h

@@ -1,4 +1,4 @@
-use Rattle.agreement.proofs.StreamsTold.{streams_agree}
+use Rattle.agreement.proofs.StreamsTokens.{streams_agree}
 use Rattle.agreement.proofs.laws.streams_agree.Goals as goal
 
 pub returns : goal.returns
