@@ -15,7 +15,7 @@ pub record Numbers (keys : Keys) (n : ℕ) : Type 0 where
   pub length : n ≡ length list
 
 -- At a point the key gets a Missing entry only where an id whose query asks for this document is CURRENT and wasn't told it.
-pub record IsAbsent (s : Setting) (past : List Event) (key : Key) (id : Id) : Type 0 where
+pub record IsAbsent (past : List Event) (key : Key) (id : Id) : Type 0 where
   pub opening : Request
   pub requested : request id past ≡ Some opening
   pub document : wanted opening.query ≡ Some key
@@ -23,7 +23,6 @@ pub record IsAbsent (s : Setting) (past : List Event) (key : Key) (id : Id) : Ty
   pub current : is_current id past ≡ true
   pub untold : told id past key ≡ false
 
--- the id holds the key: in its row, among its told keys, or among those that it is current with
 abbrev pub Holds : Option Keys → Key → Type 0
 Holds None key = ⊥
 Holds (Some keys) key = keys key ≡ true
@@ -32,8 +31,10 @@ abbrev pub keys_of : Option Tuple → Option Keys
 keys_of None = None
 keys_of (Some row) = Some row.keys
 
+-- The id is tied to the key: its row has it, it is current with it, or it is a listener's that counts and was told it.
 abbrev pub IsTied : Setting → Client → Id → Key → Type 0
-IsTied s c id key = Holds (keys_of (c.row id)) key ⊎ (Holds (c.current id) key ⊎ ((s.listens id ≡ true) × (counts id c.past ≡ true) × (told id c.past key ≡ true)))
+IsTied s c id key = Holds (keys_of (c.row id)) key
+    ⊎ (Holds (c.current id) key ⊎ ((s.listens id ≡ true) × (counts id c.past ≡ true) × (told id c.past key ≡ true)))
 
 -- a message at which something may be dropped or reset: an end, or a filter, whose id is reset
 abbrev pub IsReset : Setting → Message → (Id → Bool) → Type 0
@@ -57,7 +58,7 @@ pub record IsAcked (s : Setting) (key : Key) (e : Entry) : Type 0 where
 abbrev pub IsAllowed : Setting → Client → Turn → Type 0
 IsAllowed s c (Aims id query) = (c.row id ≡ None) × (c.current id ≡ None) × (is_asked id c.past ≡ false)
 IsAllowed s c (Hears m missing) = IsJudged s c.past m
-    × ((key : Key) → missing key ≡ true → (id : Id) × IsAbsent s (Heard m ∷ c.past) key id)
+    × ((key : Key) → missing key ≡ true → (id : Id) × IsAbsent (Heard m ∷ c.past) key id)
 IsAllowed s c (Resets m keys ids) = IsReset s m ids × ((key : Key) (id : Id) → keys key ≡ true → IsTied s c id key → ids id ≡ true)
 IsAllowed s c (Acks entries) = (key : Key) (e : Entry) → entries key ≡ Some e → IsAcked s key e
 IsAllowed s c _ = ⊤
