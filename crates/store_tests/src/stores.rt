@@ -133,23 +133,30 @@ fn failing_host(alloc: Global, call: u64) -> Result<MemHost, Fail> {
     Ok(MemHost::new(alloc, Vec::new(alloc), Vec::new(alloc), failing)?)
 }
 
+/// What the commit meets on the store; nothing where it doesn't fit.
+fn attempt(
+    alloc: Global,
+    host: &mut MemHost,
+    store: &mut LocalStore,
+    payload: &[u8],
+) -> Result<Option<StoreFault>, Fail> {
+    let commit = decode(alloc, payload)?.ok_or("a commit")?;
+    if !store.fits(&commit) {
+        return Ok(None);
+    }
+    Ok(store.commit(alloc, host, commit).err())
+}
+
 /// What the first commit meets on a new store, tried twice.
 fn faults(
     alloc: Global,
     host: &mut MemHost,
     payload: &[u8],
 ) -> Result<(Option<StoreFault>, Option<StoreFault>), Fail> {
-    let first = decode(alloc, payload)?.ok_or("a commit")?;
-    let again = decode(alloc, payload)?.ok_or("a commit")?;
     let mut store = LocalStore::open(alloc, host)?;
-    if !store.fits(&first) {
-        return Err("it doesn't fit".into());
-    }
-    let fault = store.commit(alloc, host, first).err();
-    if !store.fits(&again) {
-        return Ok((fault, None));
-    }
-    Ok((fault, store.commit(alloc, host, again).err()))
+    let fault = attempt(alloc, host, &mut store, payload)?;
+    let again = attempt(alloc, host, &mut store, payload)?;
+    Ok((fault, again))
 }
 
 // a new store is formatted in 12 calls, and an append takes four more
