@@ -1,8 +1,11 @@
 //! A store over the journal: opened, committed to, spent, and asked for its documents.
 
+ghost use Rattle.std.specs.Prelude.{IsTrue};
+ghost use Rattle.local_store.specs.Store.{IsStored};
+
 use crate::journal::host_of;
 use document_keys::{DocumentKey, Segment};
-use host_api::MemHost;
+use host_api::{Host, MemHost};
 use local_store::{LocalStore, StoreFault};
 use mutations::{Batch, Precondition, Write, Writes};
 use record_codec::{Commit, decode};
@@ -134,12 +137,15 @@ fn failing_host(alloc: Global, call: u64) -> Result<MemHost, Fail> {
 }
 
 /// What the commit meets on the store; nothing where it doesn't fit.
-fn attempt(
+fn attempt<H: Host>(
     alloc: Global,
-    host: &mut MemHost,
+    host: &mut H,
     store: &mut LocalStore,
     payload: &[u8],
-) -> Result<Option<StoreFault>, Fail> {
+) -> Result<Option<StoreFault>, Fail>
+    requires { IsTrue H.tells_files → IsStored store.old (H.view host.old) }
+    ensures { IsTrue H.tells_files → IsStored store.new (H.view host.new) }
+{
     let commit = decode(alloc, payload)?.ok_or("a commit")?;
     if !store.fits(&commit) {
         return Ok(None);
