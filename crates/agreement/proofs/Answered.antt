@@ -1,16 +1,12 @@
 -- What the theorem asks of the answers of queries.
 use Rattle.std.proofs.Common.{◌≡◌, ◌≢◌, ◌⊎◌, inl, inr, ℕ, zero, suc, ◌+◌, ◌<◌, ◌≤◌, Bool, true, false, List, [], ◌∷◌, length, get_or, Option, Some, None, IfSome, option_map, refl, sym, ap, subst, ◌∙◌, arith}
-use Rattle.std.specs.Cmp.{Equal-is}
 use Rattle.std.specs.FinMap as finite
-use Rattle.std.specs.FinMap.{slice_cmp-IsAntisymmetric, nat_cmp-IsAntisymmetric}
 use Rattle.std.specs.FinMap.Entries.{find, is_some-find}
 use Rattle.std.specs.Option.{is_some}
-use Rattle.std.proofs.lemmas.Cmp.{eq_by_cmp_equiv}
-use Rattle.document_keys.proofs.Order.{paths_compute}
 use Rattle.std.specs.List.{All, AllPairs, Contains, list_any}
 use Rattle.std.specs.Bool.{Decides}
-use Rattle.std.specs.Ordering.{eq_by_cmp, nat_cmp}
-use Rattle.std.specs.Cmp.Lexicographic.{slice_cmp, pointwise_decides, bytes_decides}
+use Rattle.std.specs.Ordering.{nat_cmp}
+use Rattle.std.specs.Cmp.Lexicographic.{slice_cmp}
 use Rattle.std.proofs.lemmas.Bool.{cases_lt}
 use Rattle.std.proofs.lemmas.List.Elements.{All-cons, All-nil, All-contains, Contains-get_or}
 use Rattle.std.proofs.lemmas.List.Kept.{AllPairs-cons}
@@ -22,19 +18,19 @@ use Rattle.queries.specs.Answer.{Finds, KeyBefore, ComeBefore, limit_of, IsAnswe
 use Rattle.queries.specs.Checked.{IsChecked}
 use Rattle.queries.specs.Matching.{Matches}
 use Rattle.queries.specs.declared.target.Target.{Target}
-use Rattle.queries.specs.declared.target.Target.TheVariants.{Document, Collection}
+use Rattle.queries.specs.declared.target.Target.TheVariants.{Document}
 use Rattle.queries.proofs.Answers.{one_way, chained}
 use Rattle.queries.proofs.Candidates.{false_from}
 use Rattle.queries.proofs.Counting.{in_order_apart, no_more_than}
 use Rattle.queries.proofs.Lawful.{answers_law}
-use Rattle.agreement.specs.Backend.{Key, same_key, Written, written, document_at, Answers}
+use Rattle.agreement.specs.Backend.{Key, is_key, Written, written, document_at, Answers}
 use Rattle.agreement.specs.Answers.{AnswersAreDistinct, AnswersAreThere, DocumentsAreAnswered, AnswersAreKept}
-use Rattle.agreement.proofs.Counting.{same_key-true}
+use Rattle.agreement.proofs.Counting.{is_key-true, is_key-decides}
 
 pub answers_distinct : AnswersAreDistinct
 answers_distinct query root documents keys answer =
-    IsDistinct-from_apart same_key keys (λ i j d ahead inside. false_from _ (λ yes.
-    in_order_apart (KeyBefore query root documents) (one_way query root documents) keys answer.ordered i j d ahead inside (same_key-true _ _ yes)))
+    IsDistinct-from_apart is_key keys (λ i j d ahead inside. false_from _ (λ yes.
+    in_order_apart (KeyBefore query root documents) (one_way query root documents) keys answer.ordered i j d ahead inside (is_key-true _ _ yes)))
 
 pub answers_there : AnswersAreThere
 answers_there query root documents key answer = (written answer.0.stored, ap (option_map written) answer.0.there)
@@ -45,17 +41,15 @@ answered_by root documents key d None is there = cc
 answered_by root documents key d (Some stored) is there = (record { stored = stored; there = is; matches = refl }, tt)
 
 pub documents_answered : DocumentsAreAnswered
-documents_answered (Document asked) root documents key d wants there =
-    let same : asked ≡ key = cc in
-    subst (λ (k : Key). Answers (Document k) root documents key) (sym same) (answered_by root documents key d (finite.get documents key) refl there)
-documents_answered (Collection target) root documents key d wants there = cc
+documents_answered query root documents key d wants there =
+    subst (λ (q : Target). Answers q root documents key) (sym wants) (answered_by root documents key d (finite.get documents key) refl there)
 
 -- lists of keys, by the test
-pub has_decides : (keys : List Key) (key : Key) → Decides (list_any (same_key key) keys) (Contains keys key)
-has_decides keys key = is_member-Decides (pointwise_decides bytes_decides) keys key
+pub has_decides : (keys : List Key) (key : Key) → Decides (list_any (is_key key) keys) (Contains keys key)
+has_decides keys key = is_member-Decides is_key-decides keys key
 
 in_or_not : (keys : List Key) (key : Key) → Contains keys key ⊎ (Contains keys key → ⊥)
-in_or_not keys key = by (list_any (same_key key) keys) (has_decides keys key)
+in_or_not keys key = by (list_any (is_key key) keys) (has_decides keys key)
   where
     by : (b : Bool) → Decides b (Contains keys key) → Contains keys key ⊎ (Contains keys key → ⊥)
     by true decides = inl (decides.0 refl)
@@ -72,16 +66,10 @@ all_or_one keys (x ∷ xs) = elim (in_or_not keys x) [
 ]
 
 -- the keys of a map
-pub same_by_order : (key other : Key) → Decides (eq_by_cmp (slice_cmp (slice_cmp nat_cmp)) key other) (key ≡ other)
-same_by_order key other = (
-  (λ yes. slice_cmp-IsAntisymmetric (slice_cmp-IsAntisymmetric nat_cmp-IsAntisymmetric) key other ((Equal-is _).0 yes)),
-  (λ same. subst (λ (k : Key). eq_by_cmp (slice_cmp (slice_cmp nat_cmp)) key k ≡ true) same ((eq_by_cmp_equiv paths_compute.total).refl key)),
-)
-
 key_listed : (documents : DocumentMap) (key : Key) (stored : Stored) → finite.get documents key ≡ Some stored → Contains (finite.keys documents) key
 key_listed documents key stored there =
     let found : is_some (find (slice_cmp (slice_cmp nat_cmp)) key (finite.entries documents)) ≡ true = ap is_some (sym (finite.get-entries documents key) ∙ there) in
-    (is_member-Decides same_by_order (finite.keys documents) key).0 (sym (is_some-find (slice_cmp (slice_cmp nat_cmp)) key (finite.entries documents)) ∙ found)
+    (is_member-Decides is_key-decides (finite.keys documents) key).0 (sym (is_some-find (slice_cmp (slice_cmp nat_cmp)) key (finite.entries documents)) ∙ found)
 
 module _ (query : Target) (root : Root) (documents : DocumentMap) (keys : List Key) (checked : IsChecked query) (answer : IsAnswer query root documents keys) where
   abbrev Within : Option ℕ → Key → Type 0

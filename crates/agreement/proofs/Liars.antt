@@ -1,13 +1,14 @@
 -- What isn't honest, or isn't allowed, and snapshots that don't agree, at the history of one document.
-use Rattle.std.proofs.Common.{◌≡◌, ◌∙◌, inl, inr, false, cond, [], ◌∷◌, Option, Some, None, option_map, refl, sym, ap, arith}
+use Rattle.std.specs.Prelude.{IfSome}
+use Rattle.std.proofs.Common.{subst, ◌≡◌, ◌∙◌, inl, inr, false, cond, [], ◌∷◌, Option, Some, None, option_map, refl, sym, ap, arith}
 use Rattle.std.specs.FinMap as finite
 use Rattle.std.proofs.lemmas.Bool.{false≢true}
 use Rattle.document_keys.proofs.Order.{paths_compute}
 use Rattle.value_model.specs.Documents.{DocumentMap, Stored}
 use Rattle.value_model.specs.declared.document.DocState.TheVariants.{Synced}
 use Rattle.queries.specs.declared.target.Target.TheVariants.{Document}
-use Rattle.agreement.specs.Backend.{Key, same_key, Written, written, IsInAnswer, document_at}
-use Rattle.agreement.specs.Transcript.{Remove, Current, Change, Sends, Filter, Heard, Asked, Cut}
+use Rattle.agreement.specs.Backend.{Key, is_key, Written, written, IsInAnswer, document_at}
+use Rattle.agreement.specs.Transcript.{Change, Sends, Filter, Heard, Asked, Cut}
 use Rattle.agreement.specs.Follows.{Follows}
 use Rattle.agreement.specs.Entries.{Unknown, Committed, Entry}
 use Rattle.agreement.specs.Client.{Resets, Acks}
@@ -16,6 +17,7 @@ use Rattle.agreement.specs.Agrees.{IsTouched, Agrees}
 use Rattle.agreement.proofs.Answered.{documents_answered}
 use Rattle.agreement.proofs.Examples.{two, four, a, some_fields, add, point, plain}
 use Rattle.agreement.proofs.Whole.{given, written_a, first_moment, no_version, none_pending, at_end, local, stands_at_one, stands_at_two, stands_at_three}
+use Rattle.value_model.specs.declared.message.ChangeKind.TheVariants.{Remove, Current}
 
 in_answer : IsInAnswer given (Document a) 3 a
 in_answer = documents_answered (Document a) given.root (given.world 3) a written_a refl stands_at_three
@@ -42,22 +44,18 @@ false_count follows =
     absurd (omega arith)
 
 -- a drop that leaves a row with the dropped key
-pub row_left : IsAllowed given at_end (Resets (Change Remove (four ∷ []) [] 0) (same_key a) (λ id. false)) → ⊥
+pub row_left : IsAllowed given at_end (Resets (Change Remove (four ∷ []) [] 0) (is_key a) (λ id. false)) → ⊥
 row_left allowed = false≢true (allowed.1 a two refl (inl refl))
 
 -- an acknowledgement with a version that was none
 abbrev false_entry : Key → Option Entry
-false_entry key = cond (same_key a key) (Some (record { what = Unknown; version = 2; seal = Committed 2 })) None
+false_entry key = cond (is_key a key) (Some (record { what = Unknown; version = 2; seal = Committed 2 })) None
 
 pub false_version : IsAllowed given at_end (Acks false_entry) → ⊥
-false_version allowed = elim (allowed a (record { what = Unknown; version = 2; seal = Committed 2 }) refl).true_version [
-  | inl none ↦ (let both : None ≡ Some written_a = sym none ∙ stands_at_two in cc)
-  | inr there ↦
-      let both : Some there.0 ≡ Some written_a = sym there.1 ∙ stands_at_two in
-      let same : there.0 ≡ written_a = cc in
-      let updates : 1 ≡ 2 = ap (λ (w : Written). w.update) (sym same) ∙ there.2 in
-      absurd (omega (arith, updates))
-]
+false_version allowed =
+    let is_true = (allowed a (record { what = Unknown; version = 2; seal = Committed 2 }) refl).1.0 in
+    let updates : 1 ≡ 2 = subst (λ (o : Option Written). IfSome o (λ d. d.update ≡ 2)) stands_at_two is_true in
+    absurd (omega (arith, updates))
 
 untouched : IsTouched none_pending at_end a → ⊥
 untouched touched = elim touched [ inl waits ↦ false≢true waits | inr ahead ↦ ahead ]

@@ -1,36 +1,42 @@
 -- The events of a stream have the token of an id that its calls have.
-use Rattle.std.proofs.Common.{◌≡◌, ◌∙◌, Bool, true, false, not, ◌||◌, ◌==◌, List, [], ◌∷◌, Option, Some, None, refl, sym, ap}
-use Rattle.std.specs.Prelude.{if◌then◌else◌}
+use Rattle.std.proofs.Common.{◌≡◌, ◌∙◌, Bool, true, false, cond, not, ◌&&◌, ◌||◌, ◌==◌, List, [], ◌∷◌, refl, sym, ap}
+use Rattle.std.specs.Prelude.{if◌then◌else◌, is_none}
 use Rattle.std.specs.Ordering.{int_eq}
 use Rattle.std.proofs.lemmas.Bool.{false≢true, and_parts, not-true, not-false}
+use Rattle.value_model.specs.declared.message.ChangeKind.{ChangeKind}
+use Rattle.value_model.specs.declared.message.ChangeKind.TheVariants.{NoChange, Add, Remove, Current, Reset}
 use Rattle.value_model.specs.declared.message.ListenResponse.{ListenResponse}
 use Rattle.value_model.specs.declared.message.ListenResponse.TheVariants as sent
 use Rattle.listen_protocol.specs.Calls as calls
-use Rattle.listen_protocol.specs.Calls.{Call, Calls, asked, unasked, came, applied, skipped}
+use Rattle.listen_protocol.specs.Calls.{Call, Calls, asked, unasked, came, applied, skipped, is_add, is_reset}
 use Rattle.listen_protocol.specs.Transcript as stream
-use Rattle.agreement.specs.Backend.{Id, same_id, Token}
-use Rattle.agreement.specs.Transcript.{Kind, No_change, Add, Remove, Current, Reset, is_kind, Request, Event, Asked, Unasked, Heard, Start, kind_role, start_by, start, counts, own_token, token_by, token, point_time}
+use Rattle.agreement.specs.Backend.{Id, Token}
+use Rattle.agreement.specs.Transcript.{Request, Event, Asked, Unasked, Heard, start, own_token, token, point_time}
 use Rattle.agreement.specs.Streams.{message_of, events, is_point, is_taking, PointsAreTaken, EndsUntaken, StreamsAgree}
-use Rattle.agreement.proofs.Streams.{names_same, adds, sort_of, is_sort, asked_same, counts_same}
-use Rattle.agreement.proofs.StreamsTold.{asked_none, unasked_none, counted_step, current_same, told_same}
+use Rattle.agreement.proofs.Streams.{sort_of, sorted, started_by, start_same, asked_same, counts_same}
+use Rattle.agreement.proofs.StreamsTold.{counted_step, current_same, told_same}
 
 -- what the events before leave to the next one
 carried : Id → List Event → Token
 carried id [] = []
 carried id (f ∷ past) = if point_time f == 0 then token id (f ∷ past) else []
 
-token_alone : (own : Token) (s : Option Start) → own ≡ token_by own s []
-token_alone [] (Some s) = refl
-token_alone [] None = refl
-token_alone (byte ∷ bytes) s = refl
+token_alone : (own : Token) (b : Bool) → own ≡ stream.or_else own (cond b [] [])
+token_alone [] true = refl
+token_alone [] false = refl
+token_alone (byte ∷ bytes) b = refl
 
-token_step : (id : Id) (e : Event) (past : List Event) → token id (e ∷ past) ≡ token_by (own_token id e) (start id e past) (carried id past)
+nested : (a b : Bool) (t : Token) → cond (a && b) t [] ≡ cond a (cond b t []) []
+nested true b t = refl
+nested false b t = refl
+
+token_step : (id : Id) (e : Event) (past : List Event) → token id (e ∷ past) ≡ stream.or_else (own_token id e) (cond (is_none (start id e past)) (carried id past) [])
 unfolding carried
-token_step id e [] = token_alone (own_token id e) (start id e [])
-token_step id e (f ∷ past) = refl
+token_step id e [] = token_alone (own_token id e) (is_none (start id e []))
+token_step id e (f ∷ past) = ap (stream.or_else (own_token id e)) (nested (is_none (start id e (f ∷ past))) (point_time f == 0) (token id (f ∷ past)))
 
 own_same : (m : ListenResponse) (id : Id) → own_token id (Heard (message_of m)) ≡ calls.token_for m id
-own_same (sent.Target change) id = ap (λ (b : Bool). if b then change.resume_token else []) (names_same change.target_ids id)
+own_same (sent.Target change) id = refl
 own_same (sent.Change change) id = refl
 own_same (sent.Delete delete) id = refl
 own_same (sent.Remove remove) id = refl
@@ -41,26 +47,18 @@ last_since : (id : Id) (b : Bool) (m : ListenResponse) (ms : List ListenResponse
 last_since id true m ms = refl
 last_since id false m ms = refl
 
-kept_token : (own before here : Token) → before ≡ here → token_by own None before ≡ stream.or_else own here
-kept_token [] before here same = same
-kept_token (byte ∷ bytes) before here same = refl
-
-new_token : (own before : Token) (s : Start) → token_by own (Some s) before ≡ stream.or_else own []
-new_token [] before s = refl
-new_token (byte ∷ bytes) before s = refl
-
-came_token : (k : Kind) (c : Bool) (own before here : Token) → (c ≡ true → before ≡ here) → (c || adds k) ≡ true
-    → token_by own (start_by (kind_role k) c (is_kind Reset k)) before ≡ stream.or_else own (if not c || is_kind Reset k then [] else here)
-came_token No_change true own before here same counted = kept_token own before here (same refl)
-came_token No_change false own before here same counted = absurd (false≢true counted)
-came_token Add true own before here same counted = kept_token own before here (same refl)
-came_token Add false own before here same counted = new_token own before _
-came_token Remove true own before here same counted = kept_token own before here (same refl)
-came_token Remove false own before here same counted = absurd (false≢true counted)
-came_token Current true own before here same counted = kept_token own before here (same refl)
-came_token Current false own before here same counted = absurd (false≢true counted)
-came_token Reset true own before here same counted = new_token own before _
-came_token Reset false own before here same counted = absurd (false≢true counted)
+came_token : (k : ChangeKind) (c : Bool) (before here : Token) → (c ≡ true → before ≡ here) → (c || is_add k) ≡ true
+    → cond (is_none (started_by k c)) before [] ≡ (if not c || is_reset k then [] else here)
+came_token NoChange true before here same counted = same refl
+came_token NoChange false before here same counted = absurd (false≢true counted)
+came_token Add true before here same counted = same refl
+came_token Add false before here same counted = refl
+came_token Remove true before here same counted = same refl
+came_token Remove false before here same counted = absurd (false≢true counted)
+came_token Current true before here same counted = same refl
+came_token Current false before here same counted = absurd (false≢true counted)
+came_token Reset true before here same counted = refl
+came_token Reset false before here same counted = absurd (false≢true counted)
 
 taken_tail : (call : Call) (h : Calls) → PointsAreTaken (call ∷ h) → PointsAreTaken h
 taken_tail call [] taken = tt
@@ -93,19 +91,18 @@ module _ (opening : Calls → Request) (older : List Event) (id : Id) where
   token_same (asked i keys document ∷ h) taken ends counted =
       let p = and_parts (not (int_eq id i)) (stream.counts id h) counted in
       let call = asked i keys document in
-      token_step id (Asked i (opening (asked i keys document ∷ h))) (events opening older h) ∙ rw (asked_none (same_id i id) (counts id (events opening older h)))
-      (left call h refl taken p.1 (λ untaken. token_same h (taken_tail call h taken) untaken p.1))
+      token_step id (Asked i (opening (asked i keys document ∷ h))) (events opening older h)
+      ∙ left call h refl taken p.1 (λ untaken. token_same h (taken_tail call h taken) untaken p.1)
   token_same (unasked i ∷ h) taken ends counted =
       let p = and_parts (not (int_eq id i)) (stream.counts id h) counted in
       let call = unasked i in
-      token_step id (Unasked (same_id i)) (events opening older h) ∙ rw (unasked_none (same_id i id) (counts id (events opening older h)))
-      (left call h refl taken p.1 (λ untaken. token_same h (taken_tail call h taken) untaken p.1))
+      token_step id (Unasked (λ x. int_eq x i)) (events opening older h)
+      ∙ left call h refl taken p.1 (λ untaken. token_same h (taken_tail call h taken) untaken p.1)
   token_same (came m ∷ h) taken ends counted =
-      let is = is_sort m id in
-      let here = came_token (sort_of m id) (stream.counts id h) (calls.token_for m id) (carried id (events opening older h)) (stream.token_in id h)
+      let here = came_token (sort_of m id) (stream.counts id h) (carried id (events opening older h)) (stream.token_in id h)
       (λ before. left (came m) h refl taken before (λ untaken. token_same h (taken_tail (came m) h taken) untaken before)) (counted_step m id h counted) in
-      token_step id (Heard (message_of m)) (events opening older h) ∙ rw (own_same m id, is.role_is, is.reset_is, counts_same opening older id h, is.stream_reset)
-      (here ∙ sym (last_since id (not (stream.counts id h) || is_kind Reset (sort_of m id)) m (stream.lately id h)))
+      token_step id (Heard (message_of m)) (events opening older h) ∙ rw (own_same m id, start_same opening older id m h, sorted is_reset refl m id)
+      (ap (stream.or_else (calls.token_for m id)) here ∙ sym (last_since id (not (stream.counts id h) || is_reset (sort_of m id)) m (stream.lately id h)))
   token_same (applied ∷ h) taken ends counted = absurd (false≢true (sym ends))
   token_same (skipped ∷ h) taken ends counted = absurd (false≢true (sym ends))
 

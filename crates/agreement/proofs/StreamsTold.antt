@@ -1,37 +1,28 @@
 -- The events of a stream tell an id what its calls tell it.
-use Rattle.std.proofs.Common.{◌≡◌, ◌↔◌, ◌∙◌, ℕ, ℤ, Bool, true, false, not, ◌&&◌, ◌||◌, List, [], ◌∷◌, Option, Some, None, refl, sym, ap, subst}
-use Rattle.std.specs.Prelude.{if◌then◌else◌, IsTrue, MatchOption}
-use Rattle.std.specs.Bool.{one_answer}
+use Rattle.std.proofs.Common.{◌≡◌, ◌↔◌, ◌∙◌, ℕ, ℤ, Bool, true, false, cond, not, ◌&&◌, ◌||◌, List, [], ◌∷◌, Option, Some, None, refl, sym, ap, subst}
+use Rattle.std.specs.Prelude.{if◌then◌else◌, IsTrue, MatchOption, is_none}
 use Rattle.std.specs.List.{Contains, list_any, find}
 use Rattle.std.specs.Ordering.{int_eq}
 use Rattle.std.proofs.lemmas.Bool.{false≢true, and_parts}
-use Rattle.std.specs.Cmp.Lexicographic.{pointwise_decides, bytes_decides}
-use Rattle.document_keys.specs.KeySet.{is_key}
+use Rattle.value_model.specs.declared.message.ChangeKind.{ChangeKind}
+use Rattle.value_model.specs.declared.message.ChangeKind.TheVariants.{NoChange, Add, Remove, Current, Reset}
 use Rattle.value_model.specs.declared.message.ListenResponse.{ListenResponse}
 use Rattle.value_model.specs.declared.message.ListenResponse.TheVariants as sent
 use Rattle.listen_protocol.specs.Calls as calls
-use Rattle.listen_protocol.specs.Calls.{Calls, asked, unasked, came, applied, skipped, lists}
+use Rattle.listen_protocol.specs.Calls.{Calls, asked, unasked, came, applied, skipped, lists, is_add, is_reset}
 use Rattle.listen_protocol.specs.Transcript as stream
 use Rattle.listen_protocol.proofs.Ids.{counts_live}
-use Rattle.agreement.specs.Backend.{Key, same_key, Id, same_id}
-use Rattle.agreement.specs.Transcript.{Kind, No_change, Add, Remove, Current, Reset, is_kind, Request, Event, Heard, Asks, Unasks, Passes, News, Silent, Out, Sent, kind_role, start_by, current_by, is_current, counts, request_by, request, start_keys, said_sent, said_out, said, news_by, news, told_by, told}
+use Rattle.agreement.specs.Backend.{Key, is_key, Id}
+use Rattle.agreement.specs.Transcript.{Request, Event, Heard, News, Silent, Out, Sent, is_current, request, start_keys, said, news, told_by, told}
 use Rattle.agreement.specs.Streams.{message_of, events, StartWithKeys}
-use Rattle.agreement.proofs.Answered.{same_by_order}
-use Rattle.agreement.proofs.Streams.{flip, adds, sort_of, is_sort, counts_same}
-
-pub asked_none : (b c : Bool) → start_by (if b then Asks else Passes) c false ≡ None
-asked_none true c = refl
-asked_none false c = refl
-
-pub unasked_none : (b c : Bool) → start_by (if b then Unasks else Passes) c false ≡ None
-unasked_none true c = refl
-unasked_none false c = refl
+use Rattle.agreement.proofs.Events.{news_by}
+use Rattle.agreement.proofs.Streams.{flip, sort_of, sorted, heard_sorted, started_by, start_same}
 
 -- an id that counts after a message counted before, or the message adds it
-pub counted_step : (m : ListenResponse) (id : Id) (h : Calls) → stream.counts id (came m ∷ h) ≡ true → (stream.counts id h || adds (sort_of m id)) ≡ true
+pub counted_step : (m : ListenResponse) (id : Id) (h : Calls) → stream.counts id (came m ∷ h) ≡ true → (stream.counts id h || is_add (sort_of m id)) ≡ true
 counted_step m id h counted =
     let p = and_parts (stream.is_live id (came m ∷ h)) (stream.counts id h || calls.changes calls.is_add m id) counted in
-    subst (λ (b : Bool). (stream.counts id h || b) ≡ true) (is_sort m id).adds_is p.1
+    subst (λ (b : Bool). (stream.counts id h || b) ≡ true) (sorted is_add refl m id) p.1
 
 -- CURRENT
 any_since : (test : ListenResponse → Bool) (b : Bool) (m : ListenResponse) (ms : List ListenResponse)
@@ -39,10 +30,10 @@ any_since : (test : ListenResponse → Bool) (b : Bool) (m : ListenResponse) (ms
 any_since test true m ms = refl
 any_since test false m ms = refl
 
-current_step : (k : Kind) (c before here : Bool) → (c ≡ true → before ≡ here) → (c || adds k) ≡ true
-    → current_by (start_by (kind_role k) c (is_kind Reset k)) (is_kind Current k) before ≡ (is_kind Current k || (if not c || is_kind Reset k then false else here))
-current_step No_change true before here same counted = same refl
-current_step No_change false before here same counted = absurd (false≢true counted)
+current_step : (k : ChangeKind) (c before here : Bool) → (c ≡ true → before ≡ here) → (c || is_add k) ≡ true
+    → (is_none (started_by k c) && (calls.is_current k || before)) ≡ (calls.is_current k || (if not c || is_reset k then false else here))
+current_step NoChange true before here same counted = same refl
+current_step NoChange false before here same counted = absurd (false≢true counted)
 current_step Add true before here same counted = same refl
 current_step Add false before here same counted = refl
 current_step Remove true before here same counted = same refl
@@ -57,37 +48,33 @@ Says : News → Bool → Type 0
 Says n true = (update : ℕ) × (n ≡ Sent update)
 Says n false = n ≡ Out
 
-keys_same : (a b : Key) → same_key a b ≡ is_key a b
-keys_same a b = one_answer {P = a ≡ b} (same_key a b) (is_key a b) (pointwise_decides bytes_decides a b) (same_by_order a b)
-
 IsSaid : Option News → (named puts : Bool) → Type 0
 IsSaid o true puts = (n : News) × (o ≡ Some n) × Says n puts
 IsSaid o false puts = o ≡ None
 
-sent_said : (same takes puts : Bool) (update : ℕ) → IsSaid (said_sent same takes puts update) (same && (puts || takes)) (puts && not takes)
+sent_said : (same puts takes : Bool) (update : ℕ) → IsSaid (cond (same && takes) (Some Out) (cond (same && puts) (Some (Sent update)) None)) (same && (puts || takes)) (puts && not takes)
 unfolding Says IsSaid
-sent_said false takes puts update = refl
+sent_said false puts takes update = refl
 sent_said true true true update = (Out, refl, refl)
-sent_said true true false update = (Out, refl, refl)
-sent_said true false true update = (Sent update, refl, (update, refl))
+sent_said true false true update = (Out, refl, refl)
+sent_said true true false update = (Sent update, refl, (update, refl))
 sent_said true false false update = refl
 
-out_said : (same takes : Bool) → IsSaid (said_out same takes) (same && takes) false
+out_said : (named : Bool) → IsSaid (cond named (Some Out) None) named false
 unfolding Says IsSaid
-out_said false takes = refl
-out_said true true = (Out, refl, refl)
-out_said true false = refl
+out_said true = (Out, refl, refl)
+out_said false = refl
 
 said_is : (m : ListenResponse) (id : Id) (key : Key) → IsSaid (said id key (Heard (message_of m))) (calls.names m id key) (calls.puts_in m id)
 unfolding Says IsSaid
 said_is (sent.Target change) id key = refl
-said_is (sent.Change change) id key = rw (keys_same change.key key) (sent_said (is_key change.key key) (lists change.removed_target_ids id) (lists change.target_ids id) _)
-said_is (sent.Delete delete) id key = rw (keys_same delete.key key) (out_said (is_key delete.key key) (lists delete.removed_target_ids id))
-said_is (sent.Remove remove) id key = rw (keys_same remove.key key) (out_said (is_key remove.key key) (lists remove.removed_target_ids id))
+said_is (sent.Change change) id key = sent_said (is_key change.key key) (lists change.target_ids id) (lists change.removed_target_ids id) _
+said_is (sent.Delete delete) id key = out_said (is_key delete.key key && lists delete.removed_target_ids id)
+said_is (sent.Remove remove) id key = out_said (is_key remove.key key && lists remove.removed_target_ids id)
 said_is (sent.Filter filter) id key = refl
 
 -- a message that names a key is no change of targets
-named_sort : (m : ListenResponse) (id : Id) (key : Key) → calls.names m id key ≡ true → sort_of m id ≡ No_change
+named_sort : (m : ListenResponse) (id : Id) (key : Key) → calls.names m id key ≡ true → sort_of m id ≡ NoChange
 named_sort (sent.Target change) id key named = absurd (false≢true named)
 named_sort (sent.Change change) id key named = refl
 named_sort (sent.Delete delete) id key named = refl
@@ -103,15 +90,15 @@ module _ (id : Id) (key : Key) (m : ListenResponse) (h : Calls) (before : News) 
   Old : Type 0
   Old = NewsIs id before (find (λ message. calls.names message id key) (stream.since id h)) (stream.starts_with_add id h)
 
-  New : (k : Kind) (c : Bool) (o : Option News) → Type 0
-  New k c o = NewsIs id (news_by (start_by (kind_role k) c (is_kind Reset k)) o before)
-      (find (λ message. calls.names message id key) (if not c || is_kind Reset k then m ∷ [] else m ∷ stream.since id h))
-      (if c then not (is_kind Reset k) && stream.starts_with_add id h else true)
+  New : (k : ChangeKind) (c : Bool) (o : Option News) → Type 0
+  New k c o = NewsIs id (news_by (started_by k c) o before)
+      (find (λ message. calls.names message id key) (if not c || is_reset k then m ∷ [] else m ∷ stream.since id h))
+      (if c then not (is_reset k) && stream.starts_with_add id h else true)
 
-  quiet_step : (k : Kind) (c : Bool) → (c ≡ true → Old) → (c || adds k) ≡ true → calls.names m id key ≡ false → New k c None
+  quiet_step : (k : ChangeKind) (c : Bool) → (c ≡ true → Old) → (c || is_add k) ≡ true → calls.names m id key ≡ false → New k c None
   unfolding New Old NewsIs
-  quiet_step No_change true old counted quiet = rw quiet (old refl)
-  quiet_step No_change false old counted quiet = absurd (false≢true counted)
+  quiet_step NoChange true old counted quiet = rw quiet (old refl)
+  quiet_step NoChange false old counted quiet = absurd (false≢true counted)
   quiet_step Add true old counted quiet = rw quiet (old refl)
   quiet_step Add false old counted quiet = rw quiet refl
   quiet_step Remove true old counted quiet = rw quiet (old refl)
@@ -121,32 +108,28 @@ module _ (id : Id) (key : Key) (m : ListenResponse) (h : Calls) (before : News) 
   quiet_step Reset true old counted quiet = rw quiet refl
   quiet_step Reset false old counted quiet = absurd (false≢true counted)
 
-  named_step : (c : Bool) (n : News) → (c || false) ≡ true → calls.names m id key ≡ true → Says n (calls.puts_in m id) → New No_change c (Some n)
+  named_step : (c : Bool) (n : News) → (c || false) ≡ true → calls.names m id key ≡ true → Says n (calls.puts_in m id) → New NoChange c (Some n)
   unfolding New NewsIs
   named_step true n counted named says = rw named says
   named_step false n counted named says = absurd (false≢true counted)
 
-  step : (b : Bool) → calls.names m id key ≡ b → (c : Bool) (o : Option News) → IsSaid o b (calls.puts_in m id) → (c ≡ true → Old) → (c || adds (sort_of m id)) ≡ true → New (sort_of m id) c o
+  step : (b : Bool) → calls.names m id key ≡ b → (c : Bool) (o : Option News) → IsSaid o b (calls.puts_in m id) → (c ≡ true → Old) → (c || is_add (sort_of m id)) ≡ true → New (sort_of m id) c o
   unfolding IsSaid
   step false quiet c o is old counted = subst (New (sort_of m id) c) (sym is) (quiet_step (sort_of m id) c old counted quiet)
   step true named c o is old counted =
       let none = named_sort m id key named in
-      subst (λ (k : Kind). New k c o) (sym none) (subst (New No_change c) (sym is.1) (named_step c is.0 (subst (λ (k : Kind). (c || adds k) ≡ true) none counted) named is.2))
+      subst (λ (k : ChangeKind). New k c o) (sym none) (subst (New NoChange c) (sym is.1) (named_step c is.0 (subst (λ (k : ChangeKind). (c || is_add k) ≡ true) none counted) named is.2))
 
 module _ (opening : Calls → Request) (older : List Event) (id : Id) where
   pub current_same : (h : Calls) → stream.counts id h ≡ true → is_current id (events opening older h) ≡ stream.is_current_in id h
   current_same [] counted = absurd (false≢true counted)
-  current_same (asked i keys document ∷ h) counted =
-      let p = and_parts (not (int_eq id i)) (stream.counts id h) counted in
-      rw (asked_none (same_id i id) (counts id (events opening older h))) (current_same h p.1)
-  current_same (unasked i ∷ h) counted =
-      let p = and_parts (not (int_eq id i)) (stream.counts id h) counted in
-      rw (unasked_none (same_id i id) (counts id (events opening older h))) (current_same h p.1)
+  current_same (asked i keys document ∷ h) counted = current_same h (and_parts (not (int_eq id i)) (stream.counts id h) counted).1
+  current_same (unasked i ∷ h) counted = current_same h (and_parts (not (int_eq id i)) (stream.counts id h) counted).1
   current_same (came m ∷ h) counted =
-      let is = is_sort m id in
       let goal = current_step (sort_of m id) (stream.counts id h) (is_current id (events opening older h)) (stream.is_current_in id h) (current_same h) (counted_step m id h counted) in
-      rw (is.role_is, is.current_is, is.reset_is, counts_same opening older id h, is.stream_reset) (goal ∙ sym (any_since (λ message. calls.changes calls.is_current message id) (not (stream.counts id h) || is_kind Reset (sort_of m id)) m (stream.since id h)
-      ∙ ap (λ (b : Bool). b || (if not (stream.counts id h) || is_kind Reset (sort_of m id) then false else stream.is_current_in id h)) is.stream_current))
+      rw (start_same opening older id m h, heard_sorted calls.is_current refl m id, sorted is_reset refl m id)
+      (goal ∙ sym (any_since (λ message. calls.changes calls.is_current message id) (not (stream.counts id h) || is_reset (sort_of m id)) m (stream.since id h)
+      ∙ ap (λ (b : Bool). b || (if not (stream.counts id h) || is_reset (sort_of m id) then false else stream.is_current_in id h)) (sorted calls.is_current refl m id)))
   current_same (applied ∷ h) counted = current_same h counted
   current_same (skipped ∷ h) counted = current_same h counted
 
@@ -154,23 +137,18 @@ module _ (opening : Calls → Request) (older : List Event) (id : Id) where
       → NewsIs id (news id key (events opening older h)) (find (λ message. calls.names message id key) (stream.since id h)) (stream.starts_with_add id h)
   unfolding Old New
   news_same key [] counted = absurd (false≢true counted)
-  news_same key (asked i keys document ∷ h) counted =
-      let p = and_parts (not (int_eq id i)) (stream.counts id h) counted in
-      rw (asked_none (same_id i id) (counts id (events opening older h))) (news_same key h p.1)
-  news_same key (unasked i ∷ h) counted =
-      let p = and_parts (not (int_eq id i)) (stream.counts id h) counted in
-      rw (unasked_none (same_id i id) (counts id (events opening older h))) (news_same key h p.1)
+  news_same key (asked i keys document ∷ h) counted = news_same key h (and_parts (not (int_eq id i)) (stream.counts id h) counted).1
+  news_same key (unasked i ∷ h) counted = news_same key h (and_parts (not (int_eq id i)) (stream.counts id h) counted).1
   news_same key (came m ∷ h) counted =
-      let is = is_sort m id in
-      rw (is.role_is, is.reset_is, counts_same opening older id h, is.stream_reset) (step id key m h (news id key (events opening older h)) (calls.names m id key) refl
+      rw (start_same opening older id m h, sorted is_reset refl m id) (step id key m h (news id key (events opening older h)) (calls.names m id key) refl
       (stream.counts id h) (said id key (Heard (message_of m))) (said_is m id key) (news_same key h) (counted_step m id h counted))
   news_same key (applied ∷ h) counted = news_same key h counted
   news_same key (skipped ∷ h) counted = news_same key h counted
 
   -- what the newest add request asked
-  request_asked : (b : Bool) (i : ℤ) (keys here : List Key) (opened : Request) (before : Option Request) → ((key : Key) → (start_keys opened.resume key ≡ true) ↔ Contains keys key)
-      → (b ≡ false → (op : Request) × (before ≡ Some op) × ((key : Key) → (start_keys op.resume key ≡ true) ↔ Contains here key))
-      → (op : Request) × (request_by (if b then Asks else Passes) (Some opened) before ≡ Some op) × ((key : Key) → (start_keys op.resume key ≡ true) ↔ Contains (if b then keys else here) key)
+  request_asked : (b : Bool) (i : ℤ) (keys here : List Key) (opened : Request) (before : Option Request) → ((key : Key) → (start_keys (Some opened) key ≡ true) ↔ Contains keys key)
+      → (b ≡ false → (op : Request) × (before ≡ Some op) × ((key : Key) → (start_keys (Some op) key ≡ true) ↔ Contains here key))
+      → (op : Request) × (cond b (Some opened) before ≡ Some op) × ((key : Key) → (start_keys (Some op) key ≡ true) ↔ Contains (if b then keys else here) key)
   request_asked true i keys here opened before starts old = (opened, refl, starts)
   request_asked false i keys here opened before starts old = old refl
 
@@ -178,37 +156,24 @@ module _ (opening : Calls → Request) (older : List Event) (id : Id) where
   wanted_before true w h other = absurd (false≢true (sym other))
   wanted_before false w h other = h
 
-  request_unasked : (b : Bool) (before : Option Request) → request_by (if b then Unasks else Passes) None before ≡ before
-  request_unasked true before = refl
-  request_unasked false before = refl
-
-  request_came : (k : Kind) (before : Option Request) → request_by (kind_role k) None before ≡ before
-  request_came No_change before = refl
-  request_came Add before = refl
-  request_came Remove before = refl
-  request_came Current before = refl
-  request_came Reset before = refl
-
   request_same : (h : Calls) → StartWithKeys opening h → stream.is_wanted id h ≡ true
-      → (op : Request) × (request id (events opening older h) ≡ Some op) × ((key : Key) → (start_keys op.resume key ≡ true) ↔ Contains (stream.starting id h) key)
+      → (op : Request) × (request id (events opening older h) ≡ Some op) × ((key : Key) → (start_keys (Some op) key ≡ true) ↔ Contains (stream.starting id h) key)
   request_same [] starts wanted = absurd (false≢true wanted)
   request_same (asked i keys document ∷ h) starts wanted =
       rw (flip i id) (request_asked (int_eq id i) i keys (stream.starting id h) (opening (asked i keys document ∷ h)) (request id (events opening older h)) starts.0
       (λ other. request_same h starts.1 (wanted_before (int_eq id i) (stream.is_wanted id h) wanted other)))
-  request_same (unasked i ∷ h) starts wanted =
-      let p = and_parts (not (int_eq id i)) (stream.is_wanted id h) wanted in
-      rw (request_unasked (same_id i id) (request id (events opening older h))) (request_same h starts p.1)
-  request_same (came m ∷ h) starts wanted = rw ((is_sort m id).role_is, request_came (sort_of m id) (request id (events opening older h))) (request_same h starts wanted)
+  request_same (unasked i ∷ h) starts wanted = request_same h starts (and_parts (not (int_eq id i)) (stream.is_wanted id h) wanted).1
+  request_same (came m ∷ h) starts wanted = request_same h starts wanted
   request_same (applied ∷ h) starts wanted = request_same h starts wanted
   request_same (skipped ∷ h) starts wanted = request_same h starts wanted
 
-says_told : (n : News) (op : Request) (key : Key) (b : Bool) → Says n b → (told_by n (Some op) key ≡ true) ↔ (b ≡ true)
+says_told : (n : News) (op : Request) (key : Key) (b : Bool) → Says n b → (told_by n (start_keys (Some op) key) ≡ true) ↔ (b ≡ true)
 unfolding Says
 says_told n op key true says = rw says.1 ((λ yes. refl), (λ yes. refl))
 says_told n op key false says = rw says ((λ yes. absurd (false≢true yes)), (λ yes. absurd (false≢true yes)))
 
-told_from : (id : Id) (key : Key) (keys : List Key) (op : Request) (n : News) (o : Option ListenResponse) (begins : Bool) → NewsIs id n o begins → ((start_keys op.resume key ≡ true) ↔ Contains keys key)
-    → (told_by n (Some op) key ≡ true) ↔ MatchOption o ((begins ≡ true) × Contains keys key) (λ m. IsTrue (calls.puts_in m id))
+told_from : (id : Id) (key : Key) (keys : List Key) (op : Request) (n : News) (o : Option ListenResponse) (begins : Bool) → NewsIs id n o begins → ((start_keys (Some op) key ≡ true) ↔ Contains keys key)
+    → (told_by n (start_keys (Some op) key) ≡ true) ↔ MatchOption o ((begins ≡ true) × Contains keys key) (λ m. IsTrue (calls.puts_in m id))
 unfolding NewsIs
 told_from id key keys op n None true is starts = rw is ((λ yes. (refl, starts.0 yes)), (λ there. starts.1 there.1))
 told_from id key keys op n None false is starts = rw is ((λ yes. absurd (false≢true yes)), (λ there. absurd (false≢true there.0)))

@@ -1,7 +1,7 @@
 //! Laws of agreement. Nothing is done when they run.
 
 ghost use Rattle.agreement.specs.Laws.{SoundnessIsKept, SyncedSnapshotsAgree, EmptyIsSound, SoundCarriesOver, MomentsAreSound, StartsAreLive};
-ghost use Rattle.agreement.specs.Laws.{HistoriesStand, FiltersTell, MessagesAreAllowed, IdsWait, WordsSuffice, TicksAreOrdered, SyncedRun};
+ghost use Rattle.agreement.specs.Laws.{HistoriesStand, FiltersTell, MessagesAreAllowed, IdsWait, WordsSuffice, TicksAreOrdered, SyncedRun, FlagsTell};
 ghost use Rattle.agreement.specs.Streams.{StreamsAgree};
 ghost use Rattle.agreement.specs.Answers.{AnswersAreDistinct, AnswersAreThere, DocumentsAreAnswered, AnswersAreKept};
 
@@ -13,6 +13,12 @@ pub fn soundness_is_kept()
 /// And then each snapshot that isn't from the cache agrees with the backend's documents at the read time.
 pub fn synced_snapshots_agree()
     ensures { SyncedSnapshotsAgree }
+{}
+
+/// A view's flag says that it isn't from the cache exactly where it is such a snapshot: its id is current, and nothing
+/// is in limbo.
+pub fn flags_tell()
+    ensures { FlagsTell }
 {}
 
 /// An empty store is sound for each backend, and what stands on the disk at any moment of a run is sound for the next run.
