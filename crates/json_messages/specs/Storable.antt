@@ -4,11 +4,11 @@ use Rattle.value_model.specs.declared.timestamp.Timestamp.{Timestamp}
 use Rattle.value_model.specs.declared.message.DocumentChange.{DocumentChange}
 use Rattle.value_model.specs.declared.message.ListenResponse.{ListenResponse}
 use Rattle.value_model.specs.declared.message.ListenResponse.TheVariants.{Target, Change, Delete, Remove, Filter}
-use Rattle.value_model.specs.Data.{items_of, entries_depth}
-use Rattle.value_model.specs.Storable.{AreStorable, AreStorableBytes, AreStorableItems, IsCountable, IsStorableKey}
+use Rattle.value_model.specs.Data.{entries_depth}
+use Rattle.value_model.specs.Storable.{AreStorable, AreStorableBytes, IsStorableKey}
 use Rattle.value_model.specs.Time.{IsMoment}
 use Rattle.json_model.specs.Faults.{max_nesting}
-use Rattle.json_rpc.specs.Storable.{AreAllStorable}
+use Rattle.json_rpc.specs.Storable.{AreAllStorable, IsStorableWithin}
 use Rattle.mutations.specs.declared.results.WriteResponse.{WriteResponse}
 use Rattle.mutations.specs.declared.results.WriteResult.{WriteResult}
 
@@ -32,10 +32,9 @@ IsStorableResponse (Delete gone) = IsStorableGone gone.key gone.read_time
 IsStorableResponse (Remove gone) = IsStorableGone gone.key gone.read_time
 IsStorableResponse (Filter filter) = Unit {0}
 
--- the result of a write: what its transforms made, and its time
+-- the result of a write: what its transforms made, each of which nests at most 20 deep, and its time
 pub record IsStorableResult (answer : WriteResult) : Type 0 where
-  pub each : AreStorableItems (items_of answer.transforms)
-  pub count : IsCountable answer.transforms
+  pub values : AreAllStorable (IsStorableWithin max_nesting) answer.transforms
   pub time : IfSome answer.update_time IsMoment
 
 -- a message of a write stream: its token, its results and its time

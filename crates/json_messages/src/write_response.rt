@@ -2,16 +2,14 @@
 
 ghost use Rattle.std.specs.Prelude.{◌≡◌, [], IfOk, IfErr, IfSome, Some, option_map};
 ghost use Rattle.serde_json.specs.View.{view};
-ghost use Rattle.value_model.specs.Data.{items_of};
-ghost use Rattle.value_model.specs.Storable.{AreStorableItems, IsCountable};
 ghost use Rattle.json_model.specs.Clean.{IsClean};
-ghost use Rattle.json_model.specs.Faults.{IsFault};
+ghost use Rattle.json_model.specs.Faults.{IsFault, max_nesting};
 ghost use Rattle.json_model.specs.Forms.{SpellsEach};
 ghost use Rattle.json_model.specs.Grammar.{SpellsList};
 ghost use Rattle.json_model.specs.declared.place.Object.TheVariants as objects;
 ghost use Rattle.json_model.specs.declared.place.Place.TheVariants as places;
 ghost use Rattle.json_model.specs.declared.place.Series.TheVariants as serieses;
-ghost use Rattle.json_rpc.specs.Storable.{AreAllStorable};
+ghost use Rattle.json_rpc.specs.Storable.{AreAllStorable, IsStorableWithin};
 ghost use Rattle.json_messages.specs.Faults.{WriteResponseFaults};
 ghost use Rattle.json_messages.specs.Grammar.{SpellsWriteResult, SpellsWriteResponse};
 ghost use Rattle.json_messages.specs.Storable.{IsStorableResult, IsStorableAnswer};
@@ -34,7 +32,7 @@ fn clean_transform_results(
 ) -> Result<Values, NoMemory>
     requires { IfSome found (λ json. IsClean setting.now (places.Series serieses.Values) (view json.now)) }
     ensures values { IfOk result (λ values. SpellsList (option_map (λ json. view json.now) found.entry) values) }
-    ensures storable { IfOk result (λ values. AreStorableItems (items_of values) × IsCountable values) }
+    ensures storable { IfOk result (AreAllStorable (IsStorableWithin max_nesting)) }
 {
     match found {
         Some(list) => {
@@ -130,7 +128,7 @@ pub fn clean_write_response(
 }
 
 /// The message of a write stream that the tree spells, by the backend's side. The tree then has no fault, and the token, the
-/// values and the times of the message can be stored.
+/// values and the times of the message can be stored; the values nest at most 20 deep.
 ///
 /// # Errors
 /// The first fault of the least kind, in the walk through the tree; one of the tree itself names `written`. Or `NoMemory`.

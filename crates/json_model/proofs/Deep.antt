@@ -12,7 +12,7 @@ use Rattle.json_model.specs.declared.place.Object.TheVariants as object
 use Rattle.json_model.specs.declared.place.Leaf.{Leaf}
 use Rattle.json_model.specs.declared.place.Leaf.TheVariants as leaf
 use Rattle.json_model.specs.declared.place.Series.TheVariants as series
-use Rattle.json_model.specs.Clean.{AreClean}
+use Rattle.json_model.specs.Clean.{IsClean, AreClean}
 use Rattle.json_model.specs.Faults.{FaultsAt, ItemsFaults, MembersFaults, max_nesting}
 use Rattle.json_model.specs.Grammar.{SpellsScalar, SpellsValue, of_kind, SpellsKind, as_scalar, as_array as by_array, as_map as by_map, SpellsList, no_list, a_list, SpellsItems, no_item, an_item, SpellsMap, no_map, a_map, SpellsMembers, no_member, left_out, a_member, SpellsFields}
 use Rattle.json_model.specs.Members.{given}
@@ -133,3 +133,10 @@ clean_deep o ms es (limit, name, room, clean) spelled =
     let inside = sound o limit object.Fields name ms clean in
     let more = members_deep o (limit - inside.levels) ms [] es inside.inside (omega arith) spelled in
     omega arith
+
+-- a value without faults, and the values of a list without faults, nest no deeper than a field's value may
+pub value_within : (o : Origin) (d : json.Data) (v : Data) → IsClean o (place.Object object.Value) d → SpellsValue d v → depth v ≤ max_nesting
+value_within o d v (limit, name, room, clean) spelled = let deep = value_deep o limit d v (name, clean) spelled in omega arith
+
+pub values_within : (o : Origin) (d : json.Data) (ds : List Data) → IsClean o (place.Series series.Values) d → SpellsList (Some d) ds → items_depth (items_of ds) ≤ max_nesting
+values_within o d ds (limit, name, room, clean) spelled = let deep = values_deep o limit name d ds clean spelled in omega arith

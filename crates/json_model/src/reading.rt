@@ -2,7 +2,7 @@
 
 ghost use Rattle.std.specs.Prelude.{◌≡◌, ◌≢◌, ◌≤◌, ◌⊎◌, ℕ, List, [], true, Some, Ok, Err, IfOk, IfErr};
 ghost use Rattle.serde_json.specs.View.{view};
-ghost use Rattle.value_model.specs.Data.{Entries, items_of, entries_depth};
+ghost use Rattle.value_model.specs.Data.{Entries, items_of, depth, items_depth, entries_depth};
 ghost use Rattle.value_model.specs.Storable.{IsStorable, AreStorableItems, AreStorable, IsStorableKey};
 ghost use Rattle.json_model.specs.declared.place.Place.TheVariants as places;
 ghost use Rattle.json_model.specs.declared.place.Leaf.TheVariants as leaves;
@@ -141,6 +141,7 @@ pub fn clean_value(alloc: Global, setting: &Setting<'_>, json: &Json) -> Result<
     requires { IsClean setting.now (places.Object objects.Value) (view json.now) }
     ensures value { IfOk result (λ v. SpellsValue (view json.now) v) }
     ensures storable { IfOk result IsStorable }
+    ensures deep { IfOk result (λ v. depth v ≤ max_nesting) }
 {
     let members = clean_object(setting, Object::Value, json);
     let (name, inner) = clean_choice(setting, Object::Value, members);
@@ -215,6 +216,7 @@ pub fn clean_values(
     requires { IsClean setting.now (places.Series serieses.Values) (view json.now) }
     ensures values { IfOk result (λ vs. SpellsList (Some (view json.now)) vs.items) }
     ensures storable { IfOk result (λ vs. AreStorableItems (items_of vs.items)) }
+    ensures deep { IfOk result (λ vs. items_depth (items_of vs.items) ≤ max_nesting) }
 {
     let items = clean_list(setting, Series::Values, json);
     let mut values = Vec::new(alloc);

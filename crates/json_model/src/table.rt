@@ -428,7 +428,7 @@ pub fn member_place(object: Object, name: &str) -> Place
 {
     match object {
         Object::Value => value_member(name),
-        Object::Array if name == "values" => Place::Series(Series::Values),
+        Object::Array | Object::Elements if name == "values" => Place::Series(Series::Values),
         Object::Map if name == "fields" => Place::Object(Object::Fields),
         Object::Fields => Place::Object(Object::Value),
         Object::Line => line_member(name),
@@ -439,10 +439,8 @@ pub fn member_place(object: Object, name: &str) -> Place
         Object::Update => update_member(name),
         Object::Mask => mask_member(name),
         Object::Condition => condition_member(name),
-        Object::Transform => transform_member(name),
-        Object::ArrayTransform => transform_member(name),
+        Object::Transform | Object::ArrayTransform => transform_member(name),
         Object::Operand => operand_member(name),
-        Object::Elements if name == "values" => Place::Series(Series::Values),
         Object::Documents if name == "documents" => Place::Series(Series::Names),
         Object::Target => target_member(name),
         Object::Query => query_member(name),

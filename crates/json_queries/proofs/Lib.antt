@@ -1,4 +1,3 @@
-pub mod Free
 pub mod Read
 pub mod Once
 pub mod Shown
@@ -6,3 +5,5 @@ pub mod Rows
 pub mod ReadFilters
 pub mod ReadBack
 pub mod Digits
+pub mod Stored
+pub mod Answered

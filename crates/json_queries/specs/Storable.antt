@@ -1,19 +1,23 @@
--- Targets that the journal can hold.
-use Rattle.std.specs.Prelude.{ℕ, ◌<◌, ◌≤◌, ◌^◌, List, IfSome, IsUtf8}
+-- Targets, and queries as they are read, that the journal can hold.
+use Rattle.std.specs.Prelude.{ℕ, ◌<◌, ◌≤◌, ◌^◌, List, IfSome, IsUtf8, FitsSigned}
+use Rattle.std.specs.Int.{w32}
 use Rattle.std.specs.List.{All}
 use Rattle.document_keys.specs.Names.{IsCollection}
 use Rattle.value_model.specs.Data.{Data, array, depth}
-use Rattle.value_model.specs.Storable.{IsCountable, IsStorable, IsStorableKey}
+use Rattle.value_model.specs.Storable.{IsCountable, IsStorable, IsStorableKey, IsStorableSegment}
 use Rattle.json_model.specs.Faults.{max_nesting}
 use Rattle.json_model.specs.Storable.{IsStorableQueryPath}
 use Rattle.queries.specs.declared.filter.Operator.{Operator}
 use Rattle.queries.specs.declared.filter.Operator.TheVariants.{IsIn, IsNotIn, ArrayContainsAny}
 use Rattle.queries.specs.declared.order.Cursor.{Cursor}
 use Rattle.queries.specs.declared.order.Order.{Order}
+use Rattle.queries.specs.declared.raw.RawCollection.{RawCollection}
+use Rattle.queries.specs.declared.raw.RawQuery.{RawQuery}
+use Rattle.queries.specs.declared.raw.RawQuery.TheVariants as raw
 use Rattle.queries.specs.declared.target.CollectionTarget.{CollectionTarget}
 use Rattle.queries.specs.declared.target.Target.{Target}
 use Rattle.queries.specs.declared.target.Target.TheVariants.{Document, Collection}
-use Rattle.queries.specs.Filters.{FilterData, composite, field, unary, FilterItems, no_filters, filter_item, nesting}
+use Rattle.queries.specs.Filters.{FilterData, composite, field, unary, FilterItems, no_filters, filter_item, list_of, nesting}
 
 -- a value of a query, which nests at most 20 deep
 pub record IsStorableOperand (value : Data) : Type 0 where
@@ -86,3 +90,36 @@ pub record IsStorableQuery (target : CollectionTarget) : Type 0 where
 abbrev pub IsStorableTarget : Target → Type 0
 IsStorableTarget (Document key) = IsStorableKey key
 IsStorableTarget (Collection target) = IsStorableQuery target
+
+-- ---- queries as they are read
+
+abbrev mutual
+  -- each field and each operand in a filter can be stored, and the filters that are joined can be counted
+  pub HasCountedParts : FilterData → Type 0
+  HasCountedParts (composite op filters) = IsCountable (list_of filters) × HaveCountedParts filters
+  HasCountedParts (field path op operand) = IsStorableComparison path op operand
+  HasCountedParts (unary path op) = IsStorableQueryPath path
+
+  pub HaveCountedParts : FilterItems → Type 0
+  HaveCountedParts no_filters = Unit {0}
+  HaveCountedParts (filter_item filter filters) = HasCountedParts filter × HaveCountedParts filters
+
+-- a filter as it is read: it nests at most 20 deep
+pub record IsStorableRawFilter (filter : FilterData) : Type 0 where
+  pub parts : HasCountedParts filter
+  pub deep : nesting filter ≤ max_nesting
+
+-- a query of collections as it is read: its limit is any number of 32 bits with sign
+pub record IsStorableRawCollection (query : RawCollection) : Type 0 where
+  pub parent : IfSome query.parent IsStorableKey
+  pub from : All IsStorableSegment query.from
+  pub filter : IfSome query.filter IsStorableRawFilter
+  pub orders : AreStorableOrders query.orders
+  pub start_at : IfSome query.start_at IsStorableCursor
+  pub end_at : IfSome query.end_at IsStorableCursor
+  pub limit : IfSome query.limit (FitsSigned w32)
+
+-- a query as it is read: one document, or collections
+abbrev pub IsStorableRawQuery : RawQuery → Type 0
+IsStorableRawQuery (raw.Document key) = IsStorableKey key
+IsStorableRawQuery (raw.Collection query) = IsStorableRawCollection query

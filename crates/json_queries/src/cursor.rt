@@ -1,7 +1,9 @@
 //! Cursors.
 
 ghost use Rattle.std.specs.Prelude.{◌≡◌, IfOk, IfSome, codes, option_map};
+ghost use Rattle.std.specs.List.{All};
 ghost use Rattle.serde_json.specs.View.{view, items_view, members_view};
+ghost use Rattle.value_model.specs.Storable.{IsCountable};
 ghost use Rattle.json_model.specs.Clean.{IsClean, AreClean};
 ghost use Rattle.json_model.specs.Forms.{printed_each, unless_empty as unless_empty_of};
 ghost use Rattle.json_model.specs.Grammar.{SpellsList};
@@ -11,6 +13,7 @@ ghost use Rattle.json_model.specs.declared.place.Object.TheVariants as objects;
 ghost use Rattle.json_model.specs.declared.place.Place.TheVariants as places;
 ghost use Rattle.json_queries.specs.Grammar.{SpellsCursor, SpellsCursorIn};
 ghost use Rattle.json_queries.specs.Printed.{printed_cursor, unless_false as unless_false_of};
+ghost use Rattle.json_queries.specs.Storable.{IsStorableCursor, IsStorableOperand};
 
 use crate::constants::clean_flag;
 use document_keys::{NoMemory, Sequence};
@@ -30,10 +33,16 @@ fn clean_cursor_values(
     members: &Map<String, Json>,
 ) -> Result<Sequence<Value>, NoMemory>
     requires { AreClean setting.now objects.Cursor (members_view members.now.entries) }
-    ensures { IfOk result (λ values. SpellsList (given (codes "values") (members_view members.now.entries)) values) }
+    ensures values { IfOk result (λ values. SpellsList (given (codes "values") (members_view members.now.entries)) values) }
+    ensures count { IfOk result (λ values. IsCountable values) }
+    ensures storable { IfOk result (λ values. All IsStorableOperand values) }
 {
     match clean_member(setting, Object::Cursor, members, "values") {
-        Some(list) => Ok(Sequence::from_vec(clean_values(alloc, setting, list)?)),
+        Some(list) => {
+            let values = clean_values(alloc, setting, list)?;
+            let _count = values.len();
+            Ok(Sequence::from_vec(values))
+        }
         None => Ok(Sequence::new(alloc)),
     }
 }
@@ -46,7 +55,8 @@ fn clean_cursor_in(
     members: &Map<String, Json>,
 ) -> Result<Cursor, NoMemory>
     requires { AreClean setting.now objects.Cursor (members_view members.now.entries) }
-    ensures { IfOk result (λ cursor. SpellsCursorIn (members_view members.now.entries) cursor) }
+    ensures cursor { IfOk result (λ cursor. SpellsCursorIn (members_view members.now.entries) cursor) }
+    ensures storable { IfOk result IsStorableCursor }
 {
     let before = clean_member(setting, Object::Cursor, members, "before");
     let before = clean_flag(setting, before);
@@ -61,7 +71,8 @@ pub(crate) fn clean_cursor(
     found: Option<&Json>,
 ) -> Result<Option<Cursor>, NoMemory>
     requires { IfSome found (λ json. IsClean setting.now (places.Object objects.Cursor) (view json.now)) }
-    ensures { IfOk result (λ cursor. SpellsCursor (option_map (λ json. view json.now) found.entry) cursor) }
+    ensures cursor { IfOk result (λ cursor. SpellsCursor (option_map (λ json. view json.now) found.entry) cursor) }
+    ensures storable { IfOk result (λ cursor. IfSome cursor IsStorableCursor) }
 {
     let Some(json) = found else {
         return Ok(None);

@@ -6,6 +6,7 @@ ghost use Rattle.serde_json.specs.View.{view};
 ghost use Rattle.json_model.specs.Clean.{IsClean};
 ghost use Rattle.json_model.specs.declared.place.Object.TheVariants as objects;
 ghost use Rattle.json_model.specs.declared.place.Place.TheVariants as places;
+ghost use Rattle.json_model.specs.Storable.{IsStorableQueryPath};
 ghost use Rattle.json_model.specs.Trees.{one};
 ghost use Rattle.json_queries.specs.Grammar.{SpellsField};
 ghost use Rattle.json_queries.specs.Printed.{printed_field};
@@ -22,7 +23,8 @@ pub(crate) fn clean_field(
     json: &Json,
 ) -> Result<FieldPath, NoMemory>
     requires { IsClean setting.now (places.Object objects.Field) (view json.now) }
-    ensures { IfOk result (λ path. SpellsField (view json.now) path) }
+    ensures path { IfOk result (λ path. SpellsField (view json.now) path) }
+    ensures storable { IfOk result IsStorableQueryPath }
 {
     let members = clean_object(setting, Object::Field, json);
     match clean_member(setting, Object::Field, members, "fieldPath") {

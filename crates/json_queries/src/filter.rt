@@ -7,6 +7,7 @@ ghost use Rattle.json_model.specs.Clean.{IsClean, AreClean};
 ghost use Rattle.json_model.specs.Forms.{IsGiven};
 ghost use Rattle.json_model.specs.Grammar.{SpellsValue};
 ghost use Rattle.json_model.specs.Members.{given};
+ghost use Rattle.json_model.specs.Storable.{IsStorableQueryPath};
 ghost use Rattle.json_model.specs.Trees.{one, two};
 ghost use Rattle.json_model.specs.declared.place.Object.TheVariants as objects;
 ghost use Rattle.json_model.specs.declared.place.Place.TheVariants as places;
@@ -15,6 +16,7 @@ ghost use Rattle.queries.specs.Filters.{field, filters_of, unary};
 ghost use Rattle.json_queries.specs.Constants.{junction_text as junction_text_of, operator_text as operator_text_of};
 ghost use Rattle.json_queries.specs.Grammar.{SpellsField, SpellsFilter, SpellsFilterUnder, SpellsFilters, SpellsWhere};
 ghost use Rattle.json_queries.specs.Printed.{composite_filter_tree, field_filter_tree, printed_filter, printed_filters};
+ghost use Rattle.json_queries.specs.Storable.{HasCountedParts, HaveCountedParts, IsStorableOperand, IsStorableRawFilter};
 
 use crate::constants::{
     clean_junction, clean_operator, clean_test, junction_text, operator_text, test_text,
@@ -50,7 +52,8 @@ fn clean_path_in(
     members: &Map<String, Json>,
 ) -> Result<FieldPath, NoMemory>
     requires { AreClean setting.now objects.FieldFilter (members_view members.now.entries) }
-    ensures { IfOk result (λ path. IsGiven (given (codes "field") (members_view members.now.entries)) (λ d. SpellsField d path)) }
+    ensures path { IfOk result (λ path. IsGiven (given (codes "field") (members_view members.now.entries)) (λ d. SpellsField d path)) }
+    ensures storable { IfOk result IsStorableQueryPath }
 {
     match clean_member(setting, Object::FieldFilter, members, "field") {
         Some(field) => clean_field(alloc, setting, field),
@@ -66,7 +69,8 @@ fn clean_operand_in(
     members: &Map<String, Json>,
 ) -> Result<Value, NoMemory>
     requires { AreClean setting.now objects.FieldFilter (members_view members.now.entries) }
-    ensures { IfOk result (λ operand. IsGiven (given (codes "value") (members_view members.now.entries)) (λ d. SpellsValue d operand)) }
+    ensures operand { IfOk result (λ operand. IsGiven (given (codes "value") (members_view members.now.entries)) (λ d. SpellsValue d operand)) }
+    ensures storable { IfOk result IsStorableOperand }
 {
     match clean_member(setting, Object::FieldFilter, members, "value") {
         Some(value) => clean_value(alloc, setting, value),
@@ -77,7 +81,8 @@ fn clean_operand_in(
 /// What `fieldFilter` holds.
 fn clean_field_filter(alloc: Global, setting: &Setting<'_>, json: &Json) -> Result<Filter, NoMemory>
     requires { IsClean setting.now (places.Object objects.FieldFilter) (view json.now) }
-    ensures { IfOk result (λ filter. SpellsFilterUnder (codes "fieldFilter") (view json.now) filter) }
+    ensures filter { IfOk result (λ filter. SpellsFilterUnder (codes "fieldFilter") (view json.now) filter) }
+    ensures storable { IfOk result HasCountedParts }
 {
     let members = clean_object(setting, Object::FieldFilter, json);
     let op = clean_operator_in(setting, members);
@@ -92,7 +97,8 @@ fn clean_field_filter(alloc: Global, setting: &Setting<'_>, json: &Json) -> Resu
 #[tactic(auto, unfolding(json_model::specs::Places::unary_filter_rows))]
 fn clean_unary_filter(alloc: Global, setting: &Setting<'_>, json: &Json) -> Result<Filter, NoMemory>
     requires { IsClean setting.now (places.Object objects.UnaryFilter) (view json.now) }
-    ensures { IfOk result (λ filter. SpellsFilterUnder (codes "unaryFilter") (view json.now) filter) }
+    ensures filter { IfOk result (λ filter. SpellsFilterUnder (codes "unaryFilter") (view json.now) filter) }
+    ensures storable { IfOk result HasCountedParts }
 {
     let members = clean_object(setting, Object::UnaryFilter, json);
     let Some(op) = clean_member(setting, Object::UnaryFilter, members, "op") else {
@@ -124,7 +130,8 @@ fn clean_junction_in(setting: &Setting<'_>, members: &Map<String, Json>) -> Junc
 #[cycle(build)]
 fn clean_items(alloc: Global, setting: &Setting<'_>, json: &Json) -> Result<Vec<Filter>, NoMemory>
     requires { IsClean setting.now (places.Series serieses.Filters) (view json.now) }
-    ensures { IfOk result (λ filters. SpellsFilters (Some (view json.now)) (filters_of filters.items)) }
+    ensures filters { IfOk result (λ filters. SpellsFilters (Some (view json.now)) (filters_of filters.items)) }
+    ensures storable { IfOk result (λ filters. HaveCountedParts (filters_of filters.items)) }
 {
     let items = clean_list(setting, Series::Filters, json);
     let mut filters = Vec::new(alloc);
@@ -143,7 +150,8 @@ fn clean_filters_in(
     members: &Map<String, Json>,
 ) -> Result<Vec<Filter>, NoMemory>
     requires { AreClean setting.now objects.CompositeFilter (members_view members.now.entries) }
-    ensures { IfOk result (λ filters. SpellsFilters (given (codes "filters") (members_view members.now.entries)) (filters_of filters.items)) }
+    ensures filters { IfOk result (λ filters. SpellsFilters (given (codes "filters") (members_view members.now.entries)) (filters_of filters.items)) }
+    ensures storable { IfOk result (λ filters. HaveCountedParts (filters_of filters.items)) }
 {
     match clean_member(setting, Object::CompositeFilter, members, "filters") {
         Some(list) => clean_items(alloc, setting, list),
@@ -159,11 +167,13 @@ fn clean_composite_filter(
     json: &Json,
 ) -> Result<Filter, NoMemory>
     requires { IsClean setting.now (places.Object objects.CompositeFilter) (view json.now) }
-    ensures { IfOk result (λ filter. SpellsFilterUnder (codes "compositeFilter") (view json.now) filter) }
+    ensures filter { IfOk result (λ filter. SpellsFilterUnder (codes "compositeFilter") (view json.now) filter) }
+    ensures storable { IfOk result HasCountedParts }
 {
     let members = clean_object(setting, Object::CompositeFilter, json);
     let op = clean_junction_in(setting, members);
     let filters = clean_filters_in(alloc, setting, members)?;
+    let _count = filters.len();
     Ok(Filter {
         kind: FilterKind::Composite { op, filters },
     })
@@ -174,7 +184,8 @@ fn clean_composite_filter(
 #[tactic(auto, unfolding(json_model::specs::Places::filter_rows))]
 fn clean_filter(alloc: Global, setting: &Setting<'_>, json: &Json) -> Result<Filter, NoMemory>
     requires { IsClean setting.now (places.Object objects.Filter) (view json.now) }
-    ensures { IfOk result (λ filter. SpellsFilter (view json.now) filter) }
+    ensures filter { IfOk result (λ filter. SpellsFilter (view json.now) filter) }
+    ensures storable { IfOk result HasCountedParts }
 {
     let members = clean_object(setting, Object::Filter, json);
     let (name, inner) = clean_choice(setting, Object::Filter, members);
@@ -193,7 +204,8 @@ pub(crate) fn clean_where(
     found: Option<&Json>,
 ) -> Result<Option<Filter>, NoMemory>
     requires { IfSome found (λ json. IsClean setting.now (places.Object objects.Filter) (view json.now)) }
-    ensures { IfOk result (λ filter. SpellsWhere (option_map (λ json. view json.now) found.entry) filter) }
+    ensures filter { IfOk result (λ filter. SpellsWhere (option_map (λ json. view json.now) found.entry) filter) }
+    ensures storable { IfOk result (λ filter. IfSome filter IsStorableRawFilter) }
 {
     match found {
         Some(json) => Ok(Some(clean_filter(alloc, setting, json)?)),

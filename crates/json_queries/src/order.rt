@@ -5,12 +5,14 @@ ghost use Rattle.serde_json.specs.Data.{string};
 ghost use Rattle.serde_json.specs.View.{view, items_view};
 ghost use Rattle.json_model.specs.Clean.{IsClean};
 ghost use Rattle.json_model.specs.Forms.{SpellsEach, printed_each, unless_empty as unless_empty_of};
+ghost use Rattle.json_model.specs.Storable.{IsStorableQueryPath};
 ghost use Rattle.json_model.specs.Trees.{two};
 ghost use Rattle.json_model.specs.declared.place.Object.TheVariants as objects;
 ghost use Rattle.json_model.specs.declared.place.Place.TheVariants as places;
 ghost use Rattle.json_model.specs.declared.place.Series.TheVariants as serieses;
 ghost use Rattle.json_queries.specs.Grammar.{SpellsOrder};
 ghost use Rattle.json_queries.specs.Printed.{printed_order};
+ghost use Rattle.json_queries.specs.Storable.{AreStorableOrders};
 
 use crate::constants::{clean_direction, direction_text};
 use crate::field::{clean_field, print_field};
@@ -24,7 +26,8 @@ use std::alloc::{AllocError, Global};
 #[tactic(auto, unfolding(json_model::specs::Places::order_rows))]
 fn clean_order(alloc: Global, setting: &Setting<'_>, json: &Json) -> Result<Order, NoMemory>
     requires { IsClean setting.now (places.Object objects.Order) (view json.now) }
-    ensures { IfOk result (λ order. SpellsOrder (view json.now) order) }
+    ensures order { IfOk result (λ order. SpellsOrder (view json.now) order) }
+    ensures storable { IfOk result (λ order. IsStorableQueryPath order.path) }
 {
     let members = clean_object(setting, Object::Order, json);
     let direction = clean_member(setting, Object::Order, members, "direction");
@@ -41,13 +44,15 @@ fn clean_order(alloc: Global, setting: &Setting<'_>, json: &Json) -> Result<Orde
 /// The orders of a list.
 fn clean_items(alloc: Global, setting: &Setting<'_>, json: &Json) -> Result<Vec<Order>, NoMemory>
     requires { IsClean setting.now (places.Series serieses.Orders) (view json.now) }
-    ensures { IfOk result (λ orders. SpellsEach SpellsOrder (Some (view json.now)) orders.items) }
+    ensures orders { IfOk result (λ orders. SpellsEach SpellsOrder (Some (view json.now)) orders.items) }
+    ensures storable { IfOk result (λ orders. AreStorableOrders orders.items) }
 {
     let items = clean_list(setting, Series::Orders, json);
     let mut orders = Vec::new(alloc);
     for item in items {
         orders.push(clean_order(alloc, setting, item)?)?;
     }
+    let _count = orders.len();
     Ok(orders)
 }
 
@@ -58,7 +63,8 @@ pub(crate) fn clean_orders(
     found: Option<&Json>,
 ) -> Result<Sequence<Order>, NoMemory>
     requires { IfSome found (λ json. IsClean setting.now (places.Series serieses.Orders) (view json.now)) }
-    ensures { IfOk result (λ orders. SpellsEach SpellsOrder (option_map (λ json. view json.now) found.entry) orders) }
+    ensures orders { IfOk result (λ orders. SpellsEach SpellsOrder (option_map (λ json. view json.now) found.entry) orders) }
+    ensures storable { IfOk result AreStorableOrders }
 {
     match found {
         Some(json) => Ok(Sequence::from_vec(clean_items(alloc, setting, json)?)),

@@ -12,7 +12,7 @@ use Rattle.json_model.specs.declared.place.Series.TheVariants as series
 use Rattle.json_model.specs.Clean.{ItemsAreClean}
 use Rattle.json_model.specs.Grammar.{SpellsKind, SpellsItems, SpellsMembers, as_scalar, no_member}
 use Rattle.json_model.proofs.Built.{kind_known, no_other_kind, no_other_object, whole_list, no_items, one_more, item_clean, field_clean, member_skip, member_more, empty_array, full_array, empty_map, full_map, a_value, a_full_list}
-use Rattle.json_model.proofs.Deep.{clean_deep}
+use Rattle.json_model.proofs.Deep.{clean_deep, value_within, values_within}
 use Rattle.json_model.proofs.Stored.{keys_put, members_put, array_stored, map_stored}
 use Rattle.json_model.proofs.Trees.{null_test, item_depth, entry_depth}
 use Rattle.json_model.proofs.reading.+build.Goals as goal
@@ -100,6 +100,11 @@ pub clean_value-returns-clause-value : goal.clean_value-returns-clause-value
 clean_value-returns-clause-value t c =
     IfOk-weaker c.build_kind.result _ _ (λ v spells. a_value _ _ _ _ v c.clean_object-members.ensures.is c.clean_choice.ensures.only (subst (λ p. SpellsKind p (view c.clean_choice.result.1.now) v) c.value_member.ensures spells)) c.build_kind.ensures.found
 
+pub clean_value-returns-clause-deep : goal.clean_value-returns-clause-deep
+clean_value-returns-clause-deep t c =
+    IfOk-weaker c.build_kind.result _ _
+    (λ v spells. value_within _ _ v c.requires (a_value _ _ _ _ v c.clean_object-members.ensures.is c.clean_choice.ensures.only (subst (λ p. SpellsKind p (view c.clean_choice.result.1.now) v) c.value_member.ensures spells))) c.build_kind.ensures.found
+
 pub clean_values-loop-item-init : goal.clean_values-loop-item-init
 clean_values-loop-item-init t c = no_items _ c.new-values.ensures.items
 
@@ -117,6 +122,11 @@ pub clean_values-returns-clause-values : goal.clean_values-returns-clause-values
 clean_values-returns-clause-values t c =
     let all = whole_list _ c.loop-item.item-index c.loop-item-test.false c.loop-item.auto.item-index-end ∙ c.deref-item-items.ensures.value in
     a_full_list _ _ _ c.clean_list-items.ensures.is (subst (λ l. SpellsItems (items_view l) c.loop-item.values.items) all c.loop-item.invariant.spelled)
+
+pub clean_values-returns-clause-deep : goal.clean_values-returns-clause-deep
+clean_values-returns-clause-deep t c =
+    let all = whole_list _ c.loop-item.item-index c.loop-item-test.false c.loop-item.auto.item-index-end ∙ c.deref-item-items.ensures.value in
+    values_within _ _ _ c.requires (a_full_list _ _ _ c.clean_list-items.ensures.is (subst (λ l. SpellsItems (items_view l) c.loop-item.values.items) all c.loop-item.invariant.spelled))
 
 pub clean_fields-returns-clause-deep : goal.clean_fields-returns-clause-deep
 clean_fields-returns-clause-deep t c =

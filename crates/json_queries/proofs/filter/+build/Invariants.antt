@@ -3,7 +3,7 @@ use Rattle.serde_json.specs.Data.{depth, members_depth}
 use Rattle.serde_json.specs.View.{view, members_view}
 use Rattle.json_model.proofs.Forms.{Spelled}
 use Rattle.json_queries.specs.Grammar.{SpellsFilter}
-use Rattle.json_queries.proofs.Free.{Free}
+use Rattle.json_queries.specs.Storable.{HasCountedParts}
 use Rattle.json_queries.proofs.filter.+build.Given as goal
 
 abbrev pub decreases-clean_filter : goal.decreases-clean_filter
@@ -19,4 +19,4 @@ abbrev pub decreases-clean_items : goal.decreases-clean_items
 decreases-clean_items l = 4 * depth (view l.json.now) + 1
 
 abbrev pub invariant-clean_items-loop-item : goal.invariant-clean_items-loop-item
-invariant-clean_items-loop-item l = Spelled SpellsFilter Free (take l.item-index l.item-items) l.filters.items
+invariant-clean_items-loop-item l = Spelled SpellsFilter HasCountedParts (take l.item-index l.item-items) l.filters.items

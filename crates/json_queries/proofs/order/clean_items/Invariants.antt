@@ -1,8 +1,8 @@
 use Rattle.std.proofs.Common.{take}
 use Rattle.json_model.proofs.Forms.{Spelled}
 use Rattle.json_queries.specs.Grammar.{SpellsOrder}
-use Rattle.json_queries.proofs.Free.{Free}
+use Rattle.json_queries.proofs.Stored.{HasQueryPath}
 use Rattle.json_queries.proofs.order.clean_items.Given as goal
 
 abbrev pub invariant-loop-item : goal.invariant-loop-item
-invariant-loop-item l = Spelled SpellsOrder Free (take l.item-index l.item-items) l.orders.items
+invariant-loop-item l = Spelled SpellsOrder HasQueryPath (take l.item-index l.item-items) l.orders.items

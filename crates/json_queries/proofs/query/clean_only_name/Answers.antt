@@ -17,8 +17,8 @@ unreachable-requires c =
     let only = only_item _ _ _ c.requires c.clean_list-items.ensures.is in
     first_there _ _ _ c.deref.ensures.value only.is c.in-None.ensures.value
 
-pub returns : goal.returns
-returns c =
+pub returns-clause-key : goal.returns-clause-key
+returns-clause-key c =
     let only = only_item _ _ _ c.requires c.clean_list-items.ensures.is in
     let same = first_is _ _ _ _ c.deref.ensures.value only.is c.in-Some.ensures.value in
     IfOk-weaker c.clean_name.result _ _ (λ key names. (view c.in-Some.name.now, (only_tree _ _ _ _ c.clean_list-items.ensures.is only.is same, names))) c.clean_name.ensures.name
