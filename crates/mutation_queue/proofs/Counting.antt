@@ -1,6 +1,6 @@
 -- how often keys stand among those of writes and of batches
-use Rattle.std.proofs.Common.{◌≡◌, ◌∙◌, ◌<◌, ◌≤◌, ◌+◌, ℕ, zero, suc, ◌-◌, append-nil, inl, inr, Bool, true, false, cond, IsTrue, List, [], ◌∷◌, ◌++◌, length, take, drop, get_or, refl, sym, ap, subst, add-zero, length-append, length-take, arith}
-use Rattle.std.specs.List.{Contains}
+use Rattle.std.proofs.Common.{◌≡◌, ◌↔◌, Some, None, ◌∙◌, ◌<◌, ◌≤◌, ◌+◌, ℕ, zero, suc, ◌-◌, append-nil, inl, inr, Bool, true, false, cond, IsTrue, List, [], ◌∷◌, ◌++◌, length, take, drop, get_or, refl, sym, ap, subst, add-zero, length-append, length-take, arith}
+use Rattle.std.specs.List.{Contains, slice_get}
 use Rattle.std.proofs.lemmas.Grind.{flat_map-append}
 use Rattle.std.proofs.lemmas.List.{length-map, map-append, take_more, take-append-drop}
 use Rattle.std.proofs.lemmas.List.Elements.{All-more, Contains-append_cases, Contains-append_left, Contains-append_right}
@@ -100,3 +100,13 @@ counted_pop bs cs b ws old new n writes first counts are = record {
       let many = length-map ws written_key in
       omega (arith, split, many, are.whole);
 }
+
+-- a key is among those behind the first batch where it is counted more often than the first one has it
+pub counted_behind : (key : List (List ℕ)) (bs : List Batch) (n m : ℕ) → n ≡ times key (named_keys bs) → ((b : Batch) → slice_get bs 0 ≡ Some b → m ≡ times key (keys_of b.writes)) → (slice_get bs 0 ≡ None → m ≡ 0) → (m < n) ↔ Contains (named_keys (drop 1 bs)) key
+counted_behind key [] n m counted some none = (λ more. absurd (let zero = none refl in omega (arith, counted, zero, more)), λ there. absurd (omega (arith, there.1)))
+counted_behind key (b ∷ bs) n m counted some none =
+    let here = some b refl in
+    let split = times-append key (keys_of b.writes) (named_keys bs) in (
+      λ more. among_from_times key (named_keys bs) (omega (arith, counted, here, split, more)),
+      λ there. let times = times_from_among key (named_keys bs) there in omega (arith, counted, here, split, times),
+    )

@@ -34,6 +34,16 @@ impl KeyCounts {
         }
     }
 
+    /// How often the key is counted.
+    pub(crate) fn count(&self, key: &DocumentKey) -> u64
+        ensures { result ≡ count_of self.now key.now }
+    {
+        match self.counts.get(key) {
+            Some(count) => *count,
+            None => 0,
+        }
+    }
+
     /// Whether the key is counted at least once.
     pub(crate) fn has(&self, key: &DocumentKey) -> bool
         ensures { IsTrue result ↔ (0 < count_of self.now key.now) }

@@ -1,10 +1,11 @@
-ghost use Rattle.std.specs.Prelude.{◌≡◌, ◌↔◌, [], ◌∷◌, ◌++◌, length, IsTrue, IsOk, OnOk, OnErr, option_map};
+ghost use Rattle.std.specs.Prelude.{◌≡◌, ◌↔◌, [], ◌∷◌, ◌++◌, drop, length, IsTrue, IsOk, OnOk, OnErr, option_map};
 ghost use Rattle.std.specs.List.{Contains, slice_get};
 ghost use Rattle.mutation_queue.specs.Line.{TakesFirst};
 ghost use Rattle.mutation_queue.specs.Queue.{HasRoom, KeepsRoom, named_keys};
 
 use crate::counts::KeyCounts;
 use crate::line::Line;
+use crate::written::times_written;
 use document_keys::{DocumentKey, NoMemory};
 use mutations::Batch;
 use std::alloc::Global;
@@ -121,6 +122,17 @@ impl MutationQueue {
         ensures { IsTrue result ↔ Contains (named_keys self.now.batches) key.now }
     {
         self.counts.has(key)
+    }
+
+    /// Whether a write of a pending batch behind the first one has the key. It looks at the first batch alone.
+    pub fn names_behind(&self, key: &DocumentKey) -> bool
+        ensures { IsTrue result ↔ Contains (named_keys (drop 1 self.now.batches)) key.now }
+    {
+        let first = match self.first() {
+            Some(batch) => times_written(key, batch.writes.as_slice()),
+            None => 0,
+        };
+        self.counts.count(key) > first
     }
 
     /// The number of batches.

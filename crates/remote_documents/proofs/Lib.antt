@@ -1,3 +1,4 @@
 pub mod Listing
+pub mod Maps
 pub mod Ranges
 pub mod Tables

@@ -1,8 +1,12 @@
 -- The entries of a cache, as contracts see them: a finite map from keys to what is known of the document and how that is
 -- sealed, and beside it the room for more.
-use Rattle.std.specs.Prelude.{◌≡◌, ℕ, List, Bool, false, Option, Some, None, is_some, option_and_then, IsTrue, if◌then◌else◌}
+use Rattle.std.specs.Prelude.{◌≡◌, ℕ, List, Bool, false, Option, Some, None, is_some, option_and_then, option_map, IsTrue, if◌then◌else◌}
+use Rattle.std.specs.Cmp.Lexicographic.{slice_cmp}
 use Rattle.std.specs.Coded.{Coded, coded×, coded_list, coded_ℕ}
+use Rattle.std.specs.FinMap as map
+use Rattle.std.specs.List.{filter_map}
 use Rattle.std.specs.Map.{lookup}
+use Rattle.std.specs.Ordering.{nat_cmp}
 use Rattle.document_keys.specs.KeySet.{is_key}
 use Rattle.document_keys.specs.Names.{IsKey}
 use Rattle.value_model.specs.declared.document.Entry.{Entry}
@@ -26,6 +30,18 @@ held (Held entry seal) = Some (entry, seal)
 -- the entry of a key, with its seal
 abbrev pub entry_of : Table → List (List ℕ) → Option (Entry × Seal)
 entry_of table key = option_and_then held (lookup (is_key key) table)
+
+-- entries with their seals, by key, as a finite map
+abbrev pub EntryMap : Type 0
+EntryMap = map.FinMap (slice_cmp (slice_cmp nat_cmp)) (Entry × Seal)
+
+-- the entries of a table as such a map
+abbrev pub entries_in : Table → EntryMap
+entries_in table = map.from_entries (filter_map (λ place. option_map (λ pair. (place.0, pair)) (held place.1)) table)
+
+-- each key has the same entry in the map and in the table
+abbrev pub IsMapOf : Table → Type 0
+IsMapOf table = (key : List (List ℕ)) → map.get (entries_in table) key ≡ entry_of table key
 
 -- the table has a place for the key's entry
 abbrev pub has_place : Table → List (List ℕ) → Bool

@@ -3,7 +3,7 @@ ghost use Rattle.std.specs.List.{AllPairs, Contains};
 ghost use Rattle.std.specs.Option.{IsSome};
 ghost use Rattle.document_keys.specs.Order.{PathBefore};
 ghost use Rattle.value_model.specs.Documents.{IsIn};
-ghost use Rattle.remote_documents.specs.Table.{Changes, KeepsOtherPlaces, KeepsPlaces, SameEntries};
+ghost use Rattle.remote_documents.specs.Table.{Changes, IsMapOf, KeepsOtherPlaces, KeepsPlaces, SameEntries};
 ghost use Rattle.remote_documents.specs.Table.{entry_of, has_place, held};
 
 use crate::below::{is_below, least_key};
@@ -57,6 +57,13 @@ impl RemoteDocuments {
             slots: BTreeMap::new(alloc),
             alloc,
         }
+    }
+
+    /// The entries are a finite map: no key stands twice. It does nothing.
+    pub fn is_map(&self)
+        ensures { IsMapOf self.now }
+    {
+        let _slots = self.slots.iter();
     }
 
     /// The entry of the key and its seal, lent; `None` exactly where there is no entry.

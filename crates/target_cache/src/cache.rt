@@ -131,9 +131,10 @@ impl TargetCache {
         self.rows.get(place)
     }
 
-    /// The id that the next row gets.
+    /// The id that the next row gets, at most 2,147,483,648.
     pub fn next_id(&self) -> u32
-        ensures { result ≡ id_at (length self.now.rows) }
+        ensures id { result ≡ id_at (length self.now.rows) }
+        ensures most { id_at (length self.now.rows) ≤ 2147483648 }
     {
         (2 * self.rows.len() + 2) as u32
     }
