@@ -1,0 +1,4 @@
+pub mod Acks
+pub mod Pairs
+pub mod Steps
+pub mod Times
