@@ -1,0 +1,12 @@
+pub mod Kept
+pub mod Laid
+pub mod Anew
+pub mod Changed
+pub mod Relaid
+pub mod Making
+pub mod Rows
+pub mod Spelled
+pub mod Local
+pub mod Merged
+pub mod Lent
+pub mod Rising

@@ -1,0 +1,45 @@
+-- commits that are ready
+use Rattle.std.proofs.Common.{◌≡◌, ◌∙◌, ◌<◌, ℕ, List, [], ◌++◌, IsTrue, append-nil, refl, sym, ap, subst}
+use Rattle.std.specs.List.{All}
+use Rattle.std.proofs.lemmas.List.Elements.{All-nil}
+use Rattle.overlays.specs.Table as overlay
+use Rattle.overlays.specs.declared.overlays.Overlay.{Overlay}
+use Rattle.remote_documents.specs.Table as remote
+use Rattle.durable_state.specs.Cached.{Changed, dropped}
+use Rattle.durable_state.specs.Ready.{HasRoomFor, HavePlaces, IsReady, LaysAnew, changes_of, moved, put_changes}
+use Rattle.durable_state.specs.State.{most_commits}
+use Rattle.durable_state.specs.Tables.{Tables, state_in}
+use Rattle.durable_state.specs.declared.ready.EntryChange.{EntryChange}
+use Rattle.durable_state.specs.declared.ready.Ready.{Ready}
+use Rattle.durable_state.specs.declared.ready.Step.{Step}
+use Rattle.durable_state.proofs.Anew.{lays_as, lays_nothing}
+
+pub make_ready : (t : Tables) (ready : Ready) (step : Step) (cs : List Changed) (lifted : List (List (List ℕ))) → t.number < most_commits → ready.step ≡ step → changes_of ready ≡ cs → ready.lifted.items ≡ lifted
+    → HasRoomFor t.pending t.targets step → HavePlaces t.entries ready.changes.items → All (λ (o : Overlay). IsTrue (overlay.has_place t.overlays o.key)) ready.overlays.items
+    → LaysAnew (state_in t) (moved (state_in t) step cs) ready.overlays.items lifted → IsReady t ready
+make_ready t ready step cs lifted left step_is changes_are lifted_are room entries places lays = record {
+  number = left;
+  room = subst (HasRoomFor t.pending t.targets) (sym step_is) room;
+  entries = entries;
+  places = places;
+  lays = lays_as (state_in t) ready.step step (changes_of ready) cs ready.overlays.items ready.lifted.items lifted step_is changes_are lifted_are lays;
+}
+
+-- nothing is put, and so much is dropped
+pub only_dropped : (cs : List EntryChange) (ds keys : List (List (List ℕ))) → cs ≡ [] → ds ≡ keys → put_changes cs ++ dropped ds ≡ dropped keys
+only_dropped cs ds keys none is = ap (λ (x : List EntryChange). put_changes x ++ dropped ds) none ∙ ap dropped is
+
+-- nothing is dropped
+pub only_put : (cs : List EntryChange) (ds : List (List (List ℕ))) → ds ≡ [] → put_changes cs ++ dropped ds ≡ put_changes cs
+only_put cs ds none = ap (λ (ks : List (List (List ℕ))). put_changes cs ++ dropped ks) none ∙ append-nil (put_changes cs)
+
+-- a step that changes no entry and no overlay
+pub ready_alone : (t : Tables) (ready : Ready) (step : Step) → t.number < most_commits → (moved (state_in t) step []).batches ≡ (state_in t).batches → ready.step ≡ step → ready.changes.items ≡ [] → ready.dropped ≡ [] → ready.overlays.items ≡ [] → ready.lifted.items ≡ []
+    → HasRoomFor t.pending t.targets step → IsReady t ready
+ready_alone t ready step left batches step_is none_put none_dropped none_laid none_lifted room =
+    make_ready t ready step [] [] left step_is (only_dropped ready.changes.items ready.dropped [] none_put none_dropped) none_lifted room
+    (subst (HavePlaces t.entries) (sym none_put) (All-nil _)) (subst (All (λ (o : Overlay). IsTrue (overlay.has_place t.overlays o.key))) (sym none_laid) (All-nil _))
+    (subst (λ (os : List Overlay). LaysAnew (state_in t) (moved (state_in t) step []) os []) (sym none_laid) (lays_nothing (state_in t) (moved (state_in t) step []) batches refl))
+
+pub none_placed : (table : remote.Table) (changes : List EntryChange) → changes ≡ [] → HavePlaces table changes
+none_placed table changes none = subst (HavePlaces table) (sym none) (All-nil _)

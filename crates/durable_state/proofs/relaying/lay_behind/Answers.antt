@@ -1,0 +1,35 @@
+use Rattle.std.proofs.Common.{◌≡◌, ◌∙◌, ◌<◌, List, ℕ, option_map, not, drop, length, get_or, refl, sym, ap, subst}
+use Rattle.mutations.specs.declared.write.Write.{Write}
+use Rattle.mutation_queue.specs.Queue.{named_keys, written_key}
+use Rattle.overlays.specs.LocalDocument.{base_of, local_document}
+use Rattle.remote_documents.specs.Table.{entries_in}
+use Rattle.durable_state.specs.Cached.{cached, first_writes, with_all}
+use Rattle.durable_state.specs.Documents.{is_among}
+use Rattle.durable_state.specs.Ready.{HasDocument, Settles, put_changes}
+use Rattle.durable_state.proofs.Relaid.{gains, head_writes, laid_same, settled}
+use Rattle.durable_state.proofs.relaying.lay_behind.Goals as goal
+
+pub returns-in_err-settle-clause-same : goal.returns-in_err-settle-clause-same
+returns-in_err-settle-clause-same c = λ q. c.settle.ensures.same q ∙ c.loop-write.invariant.same q
+
+pub loop-write-preserved : goal.loop-write-preserved
+loop-write-preserved c =
+    let i = c.loop-write.write-index in
+    let batches = c.args.pending.now.batches in
+    let ws = first_writes batches in
+    let w = c.write-item.result in
+    let writes_are : c.as_slice-write-items.result.now ≡ ws = c.as_slice-write-items.ensures ∙ head_writes batches c.in-Some.first.now c.in-Some.ensures in
+    let below : i < length ws = subst (λ (l : List Write). i < length l) writes_are c.loop-write-test.true in
+    let item : w ≡ get_or ws i w = subst (λ (l : List Write). w ≡ get_or l i w) writes_are c.write-item.is in
+    let behind = drop 1 batches in
+    let entry = λ (k : List (List ℕ)). cached (with_all (entries_in c.args.entries.now) (put_changes c.args.changes.now)) k in
+    let document = λ (k : List (List ℕ)). local_document k (base_of (entry k)) behind in
+    let key = written_key w in
+    let both = settled c.loop-write.overlays c.settle.new.overlays behind document key _ c.loop-write.relaid c.settle.new.self _ _ (subst (λ k. Settles c.settle.new.overlays behind k (option_map (λ e. e.now) c.known_after-entry.result) c.loop-write.relaid c.settle.new.self) c.written_key-key.ensures c.in_ok-settle.ensures.settled) c.in_ok-settle.ensures.places
+    (ap (λ e. local_document key (base_of e) behind) (sym (c.known_after-entry.ensures ∙ ap entry c.written_key-key.ensures))) c.loop-write.invariant.laid c.loop-write.invariant.lifted in
+    let named = is_among (named_keys behind) in
+    record {
+      same = λ q. c.settle.ensures.same q ∙ c.loop-write.invariant.same q;
+      laid = laid_same (HasDocument document) _ _ _ _ _ refl (gains written_key ws i w below item named) both.0;
+      lifted = both.1 ∙ sym (gains written_key ws i w below item (λ k. not (named k)));
+    }

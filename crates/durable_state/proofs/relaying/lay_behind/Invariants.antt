@@ -1,0 +1,18 @@
+use Rattle.std.proofs.Common.{◌≡◌, drop, not, take}
+use Rattle.std.specs.List.{filter}
+use Rattle.mutation_queue.specs.Queue.{keys_of, named_keys}
+use Rattle.overlays.specs.LocalDocument.{base_of, local_document}
+use Rattle.overlays.specs.Table.{SameOverlays}
+use Rattle.remote_documents.specs.Table.{entries_in}
+use Rattle.durable_state.specs.Cached.{cached, first_writes, with_all}
+use Rattle.durable_state.specs.Documents.{is_among}
+use Rattle.durable_state.specs.Ready.{HasDocument, LaysKeys, put_changes}
+use Rattle.durable_state.proofs.relaying.lay_behind.Given as goal
+
+abbrev pub invariant-loop-write : goal.invariant-loop-write
+invariant-loop-write l = record {
+  same : SameOverlays l.initial.overlays l.overlays;
+  laid : LaysKeys l.overlays (HasDocument (λ key. local_document key (base_of (cached (with_all (entries_in l.entries) (put_changes l.changes)) key)) (drop 1 l.pending.batches)))
+      (filter (is_among (named_keys (drop 1 l.pending.batches))) (keys_of (take l.write-index (first_writes l.pending.batches)))) l.relaid.laid.items;
+  lifted : l.relaid.lifted.items ≡ filter (λ key. not (is_among (named_keys (drop 1 l.pending.batches)) key)) (keys_of (take l.write-index (first_writes l.pending.batches)));
+}

@@ -1,0 +1,7 @@
+pub mod Cached
+pub mod Documents
+pub mod Ready
+pub mod Rising
+pub mod Rows
+pub mod State
+pub mod Tables

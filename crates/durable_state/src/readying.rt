@@ -1,0 +1,158 @@
+//! What a commit needs before it is made: entries, overlays, and a place for each.
+
+ghost use Rattle.std.specs.Prelude.{◌≡◌, IsTrue, IfOk, IfSome, OnOk, option_map};
+ghost use Rattle.std.specs.List.{All};
+ghost use Rattle.mutations.specs.Effect.{IsOfFieldsOnly};
+ghost use Rattle.mutations.specs.Results.{FitsWrites};
+ghost use Rattle.remote_documents.specs.Table as remote;
+ghost use Rattle.remote_documents.specs.Table.{IsMapOf, entries_in};
+ghost use Rattle.durable_state.specs.Cached.{acknowledged_keys, answered_by, cached, seen_at, with_all};
+ghost use Rattle.durable_state.specs.Ready.{HavePlaces, put_change, put_changes};
+
+use crate::ready::EntryChange;
+use acknowledgements::acknowledged_entry;
+use document_keys::{DocumentKey, NoMemory};
+use mutation_queue::written_key;
+use mutations::{Write, WriteResult};
+use outcome_codec::KeyedEntry;
+use remote_documents::RemoteDocuments;
+use std::alloc::Global;
+use value_model::{Entry, Seal, Timestamp};
+
+/// The answer to a batch: its writes, with their results, and the time of the commit.
+#[derive(Drop)]
+pub(crate) struct Answer<'a> {
+    pub(crate) writes: &'a [Write],
+    pub(crate) results: &'a [WriteResult],
+    pub(crate) at: Timestamp,
+}
+
+/// The entry of the key, without its seal.
+pub(crate) fn known<'a>(entries: &'a RemoteDocuments, key: &DocumentKey) -> Option<&'a Entry>
+    requires { IsMapOf entries.now }
+    ensures { option_map (λ e. e.now) result ≡ cached (entries_in entries.now) key.now }
+{
+    match entries.entry(key) {
+        Some((entry, _)) => Some(entry),
+        None => None,
+    }
+}
+
+/// The entry of the key after the changes, without its seal.
+pub(crate) fn known_after<'a>(
+    entries: &'a RemoteDocuments,
+    changes: &'a [EntryChange],
+    key: &DocumentKey,
+) -> Option<&'a Entry>
+    requires { IsMapOf entries.now }
+    ensures { option_map (λ e. e.now) result
+        ≡ cached (with_all (entries_in entries.now) (put_changes changes.now)) key.now }
+{
+    let mut found = known(entries, key);
+    for change in changes {
+        if change.key.cmp(key).is_eq() {
+            found = Some(&change.entry);
+        }
+    }
+    found
+}
+
+/// Makes a place for the key's entry. No entry changes.
+///
+/// # Errors
+/// `NoMemory`
+fn make_place(entries: &mut RemoteDocuments, key: &DocumentKey) -> Result<(), NoMemory>
+    requires { IsMapOf entries.old }
+    ensures same { entries_in entries.new ≡ entries_in entries.old }
+    ensures map { IsMapOf entries.new }
+    ensures places { remote.KeepsPlaces entries.old entries.new }
+    ensures place { OnOk result (IsTrue (remote.has_place entries.new key.now)) }
+{
+    let made = entries.reserve(key);
+    entries.is_map();
+    made
+}
+
+/// The entry that the answer to the writes leaves of the key, if it changes, with a place for it.
+///
+/// # Errors
+/// `NoMemory`
+fn answered_key(
+    alloc: Global,
+    entries: &mut RemoteDocuments,
+    key: &DocumentKey,
+    answer: &Answer,
+) -> Result<Option<EntryChange>, NoMemory>
+    requires paths { All IsOfFieldsOnly answer.now.writes.now }
+    requires fits { FitsWrites answer.now.writes.now answer.now.results.now }
+    requires map { IsMapOf entries.old }
+    ensures same { entries_in entries.new ≡ entries_in entries.old }
+    ensures map { IsMapOf entries.new }
+    ensures places { remote.KeepsPlaces entries.old entries.new }
+    ensures change { IfOk result (λ found. option_map put_change found ≡ answered_by
+        (entries_in entries.old) answer.now.writes.now answer.now.results.now answer.now.at key.now) }
+    ensures place { IfOk result (λ found. IfSome found (λ c. IsTrue (remote.has_place entries.new c.key))) }
+{
+    let entry = known(entries, key);
+    let left = acknowledged_entry(alloc, key, entry, answer.writes, answer.results, answer.at)?;
+    let Some(entry) = left else {
+        return Ok(None);
+    };
+    make_place(entries, key)?;
+    let key = key.copy(alloc)?;
+    let seal = Seal::Committed(answer.at);
+    Ok(Some(EntryChange { key, entry, seal }))
+}
+
+/// The entries that the answer leaves of the keys that its writes name, and a place for each.
+///
+/// # Errors
+/// `NoMemory`
+pub(crate) fn answered(
+    alloc: Global,
+    entries: &mut RemoteDocuments,
+    answer: &Answer,
+) -> Result<Vec<EntryChange>, NoMemory>
+    requires paths { All IsOfFieldsOnly answer.now.writes.now }
+    requires fits { FitsWrites answer.now.writes.now answer.now.results.now }
+    requires map { IsMapOf entries.old }
+    ensures same { entries_in entries.new ≡ entries_in entries.old }
+    ensures map { IsMapOf entries.new }
+    ensures changes { IfOk result (λ changes. put_changes changes.items ≡ acknowledged_keys
+        (entries_in entries.old) answer.now.writes.now answer.now.results.now answer.now.at) }
+    ensures places { IfOk result (λ changes. HavePlaces entries.new changes.items) }
+{
+    let mut changes = Vec::with_capacity(alloc, answer.writes.len())?;
+    for write in answer.writes {
+        let found = answered_key(alloc, entries, written_key(write), answer)?;
+        if let Some(change) = found {
+            changes.push(change)?;
+        }
+    }
+    Ok(changes)
+}
+
+/// The entries of a point, sealed as seen, and a place for each.
+///
+/// # Errors
+/// `NoMemory`
+pub(crate) fn seen(
+    alloc: Global,
+    entries: &mut RemoteDocuments,
+    told: Vec<KeyedEntry>,
+) -> Result<Vec<EntryChange>, NoMemory>
+    requires { IsMapOf entries.old }
+    ensures same { entries_in entries.new ≡ entries_in entries.old }
+    ensures map { IsMapOf entries.new }
+    ensures changes { IfOk result (λ changes. put_changes changes.items ≡ seen_at told.items) }
+    ensures places { IfOk result (λ changes. HavePlaces entries.new changes.items) }
+{
+    let mut changes = Vec::with_capacity(alloc, told.len())?;
+    for keyed in told {
+        let KeyedEntry { key, entry } = keyed;
+        make_place(entries, &key)?;
+        let seal = Seal::Seen;
+        changes.push(EntryChange { key, entry, seal })?;
+    }
+    Ok(changes)
+}

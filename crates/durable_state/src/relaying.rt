@@ -1,0 +1,220 @@
+//! Overlays worked out for a commit, each with a place.
+
+ghost use Rattle.std.specs.Prelude.{◌≡◌, drop, not, map as each, None, IsTrue, IfOk, OnOk, option_map};
+ghost use Rattle.std.specs.List.{All, filter};
+ghost use Rattle.mutation_queue.specs.Queue.{keys_of, named_keys};
+ghost use Rattle.overlays.specs.LocalDocument.{after_batch, base_of, local_document};
+ghost use Rattle.overlays.specs.Table.{IsBatchOfFields, KeepsPlaces, SameOverlays, has_place, shown};
+ghost use Rattle.remote_documents.specs.Table.{IsMapOf, entries_in};
+ghost use Rattle.durable_state.specs.Cached.{cached, first_writes, with_all};
+ghost use Rattle.durable_state.specs.Documents.{is_among};
+ghost use Rattle.durable_state.specs.Ready.{HasDocument, IsOver, LaysKeys, Settles, put_changes};
+
+use crate::ready::EntryChange;
+use crate::readying::{known, known_after};
+use document_keys::{DocumentKey, KeySet, NoMemory};
+use mutation_queue::{MutationQueue, written_key};
+use mutations::Batch;
+use overlays::{Overlay, Overlays};
+use remote_documents::RemoteDocuments;
+use std::alloc::Global;
+use value_model::Entry;
+
+/// The overlay of the key with its local document over the entry and the batches; a place is made for it.
+///
+/// # Errors
+/// `NoMemory`
+fn overlay_over(
+    alloc: Global,
+    overlays: &mut Overlays,
+    key: &DocumentKey,
+    entry: Option<&Entry>,
+    batches: &[Batch],
+) -> Result<Overlay, NoMemory>
+    requires { All IsBatchOfFields batches.now }
+    ensures same { SameOverlays overlays.old overlays.new }
+    ensures places { KeepsPlaces overlays.old overlays.new }
+    ensures key { IfOk result (λ o. o.key ≡ key.now) }
+    ensures place { OnOk result (IsTrue (has_place overlays.new key.now)) }
+    ensures document { IfOk result (λ o. o.document
+        ≡ local_document key.now (base_of (option_map (λ e. e.now) entry.entry)) batches.now) }
+{
+    overlays.reserve(key)?;
+    overlays.prepare(alloc, key, entry, batches, None)
+}
+
+/// The overlay of the key after one batch more; a place is made for it.
+///
+/// # Errors
+/// `NoMemory`
+fn overlay_after(
+    alloc: Global,
+    overlays: &mut Overlays,
+    key: &DocumentKey,
+    entry: Option<&Entry>,
+    batch: &Batch,
+) -> Result<Overlay, NoMemory>
+    requires { IsBatchOfFields batch.now }
+    ensures same { SameOverlays overlays.old overlays.new }
+    ensures places { KeepsPlaces overlays.old overlays.new }
+    ensures key { IfOk result (λ o. o.key ≡ key.now) }
+    ensures place { OnOk result (IsTrue (has_place overlays.new key.now)) }
+    ensures document { IfOk result (λ o. o.document ≡ after_batch key.now
+        (shown overlays.new key.now (base_of (option_map (λ e. e.now) entry.entry))) batch.now) }
+{
+    overlays.reserve(key)?;
+    overlays.extend(alloc, key, entry, batch)
+}
+
+/// The overlays of the keys that the batch names, once it is the last pending one.
+///
+/// # Errors
+/// `NoMemory`
+pub(crate) fn lay_batch(
+    alloc: Global,
+    overlays: &mut Overlays,
+    entries: &RemoteDocuments,
+    batch: &Batch,
+) -> Result<Vec<Overlay>, NoMemory>
+    requires fields { IsBatchOfFields batch.now }
+    requires map { IsMapOf entries.now }
+    ensures same { SameOverlays overlays.old overlays.new }
+    ensures laid { IfOk result (λ laid. LaysKeys overlays.new (HasDocument (λ key. after_batch key
+        (shown overlays.old key (base_of (cached (entries_in entries.now) key))) batch.now))
+        (keys_of batch.now.writes) laid.items) }
+{
+    let mut laid = Vec::with_capacity(alloc, batch.writes.as_slice().len())?;
+    for write in batch.writes.as_slice() {
+        let key = written_key(write);
+        let overlay = overlay_after(alloc, overlays, key, known(entries, key), batch);
+        laid.push(overlay?)?;
+    }
+    Ok(laid)
+}
+
+/// The overlays of those keys that pending batches name, after their entries were changed.
+///
+/// # Errors
+/// `NoMemory`
+pub(crate) fn lay_changed(
+    alloc: Global,
+    overlays: &mut Overlays,
+    pending: &MutationQueue,
+    changes: &[EntryChange],
+) -> Result<Vec<Overlay>, NoMemory>
+    requires { All IsBatchOfFields pending.now.batches }
+    ensures same { SameOverlays overlays.old overlays.new }
+    ensures laid { IfOk result (λ laid. LaysKeys overlays.new (IsOver pending.now.batches changes.now)
+        (filter (is_among (named_keys pending.now.batches)) (each (λ c. c.key) changes.now)) laid.items) }
+{
+    let mut laid = Vec::new(alloc);
+    for change in changes {
+        if pending.names(&change.key) {
+            let entry = Some(&change.entry);
+            let overlay = overlay_over(alloc, overlays, &change.key, entry, pending.as_slice());
+            laid.push(overlay?)?;
+        }
+    }
+    Ok(laid)
+}
+
+/// The overlays of those keys that pending batches name, after their entries are gone.
+///
+/// # Errors
+/// `NoMemory`
+pub(crate) fn lay_dropped(
+    alloc: Global,
+    overlays: &mut Overlays,
+    pending: &MutationQueue,
+    keys: &KeySet,
+) -> Result<Vec<Overlay>, NoMemory>
+    requires { All IsBatchOfFields pending.now.batches }
+    ensures same { SameOverlays overlays.old overlays.new }
+    ensures laid { IfOk result (λ laid. LaysKeys overlays.new
+        (HasDocument (λ key. local_document key None pending.now.batches))
+        (filter (is_among (named_keys pending.now.batches)) keys.now) laid.items) }
+{
+    let mut laid = Vec::new(alloc);
+    for key in keys.as_slice() {
+        if pending.names(key) {
+            let overlay = overlay_over(alloc, overlays, key, None, pending.as_slice());
+            laid.push(overlay?)?;
+        }
+    }
+    Ok(laid)
+}
+
+/// The overlays of keys that pending batches still name, and the keys that none names any more.
+#[derive(Drop)]
+pub(crate) struct Relaid {
+    pub(crate) laid: Vec<Overlay>,
+    pub(crate) lifted: Vec<DocumentKey>,
+}
+
+impl Relaid {
+    /// Puts in what becomes of the key once the first pending batch has left.
+    ///
+    /// # Errors
+    /// `NoMemory`
+    fn settle(
+        &mut self,
+        alloc: Global,
+        overlays: &mut Overlays,
+        pending: &MutationQueue,
+        key: &DocumentKey,
+        entry: Option<&Entry>,
+    ) -> Result<(), NoMemory>
+        requires { All IsBatchOfFields pending.now.batches }
+        ensures same { SameOverlays overlays.old overlays.new }
+        ensures places { KeepsPlaces overlays.old overlays.new }
+        ensures settled { OnOk result (Settles overlays.new (drop 1 pending.now.batches) key.now
+            (option_map (λ e. e.now) entry.entry) self.old self.new) }
+    {
+        if !pending.names_behind(key) {
+            self.lifted.push(key.copy(alloc)?)?;
+            return Ok(());
+        }
+        let behind = &pending.as_slice()[1..];
+        let overlay = overlay_over(alloc, overlays, key, entry, behind)?;
+        self.laid.push(overlay)?;
+        Ok(())
+    }
+}
+
+/// What becomes of the overlays of the keys that the first pending batch names, once it has left and the entries were
+/// changed.
+///
+/// # Errors
+/// `NoMemory`
+pub(crate) fn lay_behind(
+    alloc: Global,
+    overlays: &mut Overlays,
+    pending: &MutationQueue,
+    entries: &RemoteDocuments,
+    changes: &[EntryChange],
+) -> Result<Relaid, NoMemory>
+    requires fields { All IsBatchOfFields pending.now.batches }
+    requires map { IsMapOf entries.now }
+    ensures same { SameOverlays overlays.old overlays.new }
+    ensures laid { IfOk result (λ relaid. LaysKeys overlays.new (HasDocument (λ key. local_document key (base_of
+        (cached (with_all (entries_in entries.now) (put_changes changes.now)) key)) (drop 1 pending.now.batches)))
+        (filter (is_among (named_keys (drop 1 pending.now.batches))) (keys_of (first_writes pending.now.batches)))
+        relaid.laid.items) }
+    ensures lifted { IfOk result (λ relaid. relaid.lifted.items ≡
+        filter (λ key. not (is_among (named_keys (drop 1 pending.now.batches)) key))
+        (keys_of (first_writes pending.now.batches))) }
+{
+    let mut relaid = Relaid {
+        laid: Vec::new(alloc),
+        lifted: Vec::new(alloc),
+    };
+    let Some(first) = pending.first() else {
+        return Ok(relaid);
+    };
+    for write in first.writes.as_slice() {
+        let key = written_key(write);
+        let entry = known_after(entries, changes, key);
+        relaid.settle(alloc, overlays, pending, key, entry)?;
+    }
+    Ok(relaid)
+}
