@@ -7,14 +7,10 @@ use Rattle.disk_journal.specs.Place.{Place, IsOpen}
 use Rattle.disk_journal.specs.Steps.{Appends, GivesBeforeOrAfter}
 use Rattle.disk_journal.proofs.Held.{open_gives, open_crash}
 use Rattle.record_codec.specs.declared.commit.Commit.{Commit}
-use Rattle.mutations.specs.declared.batch.Batch.{Batch}
-use Rattle.record_codec.specs.declared.commit.Commit.TheVariants.{Enqueue}
 use Rattle.record_codec.specs.Spelling.{spelling, HasSpelling}
 use Rattle.local_store.specs.State.{State, Fits, committed, LeadsTo}
 use Rattle.local_store.specs.Files.{FindsState, Moves}
-use Rattle.local_store.specs.Store.{IsFoundIn, IsKept, IsOver}
-use Rattle.overlays.specs.Table.{Table, overlay_of}
-use Rattle.local_store.proofs.Laid.{still_laid}
+use Rattle.local_store.specs.Store.{IsFoundIn, IsOver}
 use Rattle.local_store.proofs.Replayed.{replays_push}
 
 -- whatever a crash may leave of an open store, and what a read gives, finds its state
@@ -56,10 +52,6 @@ appends_payload {g} {ps} {p} {q} {result} {old} {new} same it = subst (λ (r : L
 pub leads_more : {generation : ℕ} {ps : List (List ℕ)} (s : State) (commit : Commit) → LeadsTo generation ps s → HasSpelling commit → Fits s commit → LeadsTo generation (ps ++ spelling commit ∷ []) (committed s commit)
 leads_more {ps = ps} s commit leads has fits = record { first = leads.first; replays = replays_push _ ps s (spelling commit) commit leads.replays has refl fits }
 
--- the state after it
-pub state_more : (number next : ℕ) (old new : List Batch) (batch : Batch) (commit : Commit) (s : State) → record { number = number; batches = old; next_batch = next } ≡ s → commit ≡ Enqueue batch → new ≡ old ++ batch ∷ [] → committed s commit ≡ record { number = number + 1; batches = new; next_batch = next + 1 }
-state_more number next old new batch commit s is same pushed = ap (λ t. committed t commit) (sym is) ∙ ap (λ c. committed (record { number = number; batches = old; next_batch = next }) c) same ∙ ap (λ (l : List Batch). record { number = number + 1; batches = l; next_batch = next + 1 }) (sym pushed)
-
 -- the journal with one payload more
 pub over_more : {s t : State} {place next : Place} {old new : View} (commit : Commit) (is : IsOver s old place) → HasSpelling commit → Fits s commit → next.generation ≡ place.generation → IsOpen next (is.payloads ++ spelling commit ∷ []) new → committed s commit ≡ t → IsOver t new next
 over_more {s} {t} {place} {next} {old} {new} commit is has fits same opened so = record {
@@ -67,7 +59,3 @@ over_more {s} {t} {place} {next} {old} {new} commit is has fits same opened so =
   open_with = opened;
   leads = subst (λ (u : State). LeadsTo next.generation (is.payloads ++ spelling commit ∷ []) u) so (record { first = same ∙ is.leads.first; replays = (leads_more s commit is.leads has fits).replays });
 }
-
--- what is kept where nothing but the room changed
-pub still_kept : {number next : ℕ} {bs cs : List Batch} {old new : Table} → cs ≡ bs → ((q : List (List ℕ)) → overlay_of new q ≡ overlay_of old q) → IsKept number next bs old → IsKept number next cs new
-still_kept {bs = bs} {cs = cs} {old = old} {new = new} same still kept = record { within = kept.within; next = kept.next; laid = still_laid bs cs old new same still kept.laid }

@@ -1,7 +1,6 @@
 -- What an opening finds.
 use Rattle.std.specs.declared.alloc.Global.{Global}
-use Rattle.mutations.specs.declared.batch.Batch.{Batch}
-use Rattle.std.proofs.Common.{◌+◌, length, ◌≡◌, Bool, ℕ, List, [], map, Vec, IsTrue, refl, sym, subst}
+use Rattle.std.proofs.Common.{◌≡◌, Bool, ℕ, List, [], map, Vec, IsTrue, refl, sym, subst}
 use Rattle.host_api.specs.declared.host.FileId.{FileId}
 use Rattle.host_api.specs.declared.host.FileId.TheVariants.{Zero, One}
 use Rattle.host_api.specs.Host.{Files, View, Stays}
@@ -55,8 +54,5 @@ stuck_refuses file old new g ps gives goes_on stuck opens =
 pub none_found : {ps qs : List (Vec ℕ Global)} {g : ℕ} → ps ≡ qs → ((s : State) → Replays start (map (λ p. p.items) ps) s → ⊥) → (s : State) → LeadsTo g (map (λ p. p.items) qs) s → ⊥
 none_found same none s leads = none s (subst (λ (l : List (Vec ℕ Global)). Replays start (map (λ p. p.items) l) s) (sym same) leads.replays)
 
-pub some_found : (ps qs : List (Vec ℕ Global)) (batches : List Batch) (n : ℕ) → ps ≡ qs → n ≡ length qs → Replays start (map (λ p. p.items) ps) (record { number = length ps; batches = batches; next_batch = length ps + 1 })
-    → Replays start (map (λ p. p.items) qs) (record { number = n; batches = batches; next_batch = n + 1 })
-some_found ps qs batches n same count leads =
-    subst (λ (k : ℕ). Replays start (map (λ p. p.items) qs) (record { number = k; batches = batches; next_batch = k + 1 })) (sym count)
-    (subst (λ (l : List (Vec ℕ Global)). Replays start (map (λ p. p.items) l) (record { number = length l; batches = batches; next_batch = length l + 1 })) same leads)
+pub some_found : {ps qs : List (Vec ℕ Global)} (s : State) → ps ≡ qs → Replays start (map (λ p. p.items) ps) s → Replays start (map (λ p. p.items) qs) s
+some_found s same leads = subst (λ (l : List (Vec ℕ Global)). Replays start (map (λ p. p.items) l) s) same leads

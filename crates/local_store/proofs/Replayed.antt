@@ -3,14 +3,12 @@ use Rattle.std.proofs.Common.{◌≡◌, ℕ, ◌+◌, ◌<◌, suc, List, [], �
 use Rattle.std.specs.declared.alloc.Global.{Global}
 use Rattle.std.proofs.Math.Seq.{split_at}
 use Rattle.std.proofs.lemmas.List.{map-append, take_more}
-use Rattle.mutations.specs.declared.batch.Batch.{Batch}
-use Rattle.record_codec.specs.declared.commit.Commit.TheVariants.{Enqueue}
 use Rattle.record_codec.specs.declared.commit.Commit.{Commit}
 use Rattle.record_codec.specs.Spelling.{spelling, HasSpelling}
 use Rattle.record_codec.proofs.Whole.{one_value}
 use Rattle.host_api.specs.Host.{Files}
 use Rattle.disk_journal.proofs.Pairs.{gives_once}
-use Rattle.local_store.specs.State.{State, start, Fits, committed, most_commits, Replays, IsEnqueue}
+use Rattle.local_store.specs.State.{State, start, Fits, committed, Replays}
 use Rattle.local_store.specs.Files.{FindsState}
 
 -- one payload more
@@ -69,25 +67,10 @@ pub unfit : (before : State) (first : Commit) (bytes : List ℕ) → HasSpelling
 unfit before first bytes spelled no_fit c has is fits = no_fit (subst (λ (d : Commit). Fits before d) (one_value c first has spelled.0 (sym is ∙ spelled.1)) fits)
 
 -- the next payload leads on
-pub leads_on : (payloads : List (Vec ℕ Global)) (i : ℕ) (payload : Vec ℕ Global) (batch : Batch) (old new : List Batch) → i < length payloads → payload ≡ get_or payloads i payload
-    → HasSpelling (Enqueue batch) → payload.items ≡ spelling (Enqueue batch) → Fits (record { number = i; batches = old; next_batch = i + 1 }) (Enqueue batch) → new ≡ old ++ batch ∷ []
-    → Replays start (bytes_of (take i payloads)) (record { number = i; batches = old; next_batch = i + 1 })
-    → Replays start (bytes_of (take (i + 1) payloads)) (record { number = i + 1; batches = new; next_batch = i + 1 + 1 })
-leads_on payloads i payload batch old new below item has is fits pushed so_far =
+pub leads_on : (payloads : List (Vec ℕ Global)) (i : ℕ) (payload : Vec ℕ Global) (commit : Commit) (before : State) → i < length payloads → payload ≡ get_or payloads i payload
+    → HasSpelling commit → payload.items ≡ spelling commit → Fits before commit → Replays start (bytes_of (take i payloads)) before
+    → Replays start (bytes_of (take (i + 1) payloads)) (committed before commit)
+leads_on payloads i payload commit before below item has is fits so_far =
     let more : bytes_of (take (i + 1) payloads) ≡ bytes_of (take i payloads) ++ payload.items ∷ [] =
     ap bytes_of (take_more payloads i payload below) ∙ map-append (λ p. p.items) (take i payloads) (get_or payloads i payload ∷ []) ∙ ap (λ (q : Vec ℕ Global). bytes_of (take i payloads) ++ q.items ∷ []) (sym item) in
-    let led = replays_push start (bytes_of (take i payloads)) (record { number = i; batches = old; next_batch = i + 1 }) payload.items (Enqueue batch) so_far has is fits in
-    subst (λ (l : List (List ℕ)). Replays start l (record { number = i + 1; batches = new; next_batch = i + 1 + 1 })) (sym more) (subst (λ (b : List Batch). Replays start (bytes_of (take i payloads) ++ payload.items ∷ []) (record { number = i + 1; batches = b; next_batch = i + 1 + 1 })) (sym pushed) led)
-
--- whether a commit fits rests on the number and the next id alone
-pub fits_alike : (n i : ℕ) (bs cs : List Batch) (commit : Commit) → n ≡ i → Fits (record { number = i; batches = bs; next_batch = i + 1 }) commit → Fits (record { number = n; batches = cs; next_batch = n + 1 }) commit
-fits_alike n i bs cs (Enqueue batch) same fits = (record { id = fits.0.id ∙ ap (λ k. k + 1) (sym same); some = fits.0.some; most = fits.0.most }, subst (λ k. k < most_commits) (sym same) fits.1)
-fits_alike n i bs cs commit same fits = absurd fits.0
-
--- only a batch fits
-pub enqueues : (s : State) (commit : Commit) → Fits s commit → IsEnqueue commit
-enqueues s (Enqueue batch) fits = tt
-enqueues s commit fits = absurd fits.0
-
-pub spelled_as : (commit : Commit) (batch : Batch) (bytes : List ℕ) → commit ≡ Enqueue batch → HasSpelling commit × (bytes ≡ spelling commit) → HasSpelling (Enqueue batch) × (bytes ≡ spelling (Enqueue batch))
-spelled_as commit batch bytes same found = subst (λ (c : Commit). HasSpelling c × (bytes ≡ spelling c)) same found
+    subst (λ (l : List (List ℕ)). Replays start l (committed before commit)) (sym more) (replays_push start (bytes_of (take i payloads)) before payload.items commit so_far has is fits)

@@ -1,5 +1,4 @@
 pub mod Documents
 pub mod Files
-pub mod Laying
 pub mod State
 pub mod Store

@@ -1,15 +1,21 @@
 -- An open store, as contracts see it.
-use Rattle.std.specs.Prelude.{◌≡◌, ◌≤◌, ◌+◌, ℕ, List, Option, None, refl}
+use Rattle.std.specs.Prelude.{◌≡◌, ℕ, List, Option, None, refl}
 use Rattle.std.specs.Coded.{Coded, code_by, coded×, coded_list, coded_option, coded_ℕ}
+use Rattle.std.specs.FinMap as finite
 use Rattle.std.specs.Option.{ForSome}
 use Rattle.host_api.specs.Host.{Files, View}
 use Rattle.disk_journal.specs.Place.{Place, IsOpen}
 use Rattle.disk_journal.specs.contracts.journal.Journal as journal
+use Rattle.value_model.specs.contracts.document.Entry as entry
+use Rattle.value_model.specs.contracts.document.Seal as seal
+use Rattle.value_model.specs.contracts.timestamp.Timestamp as timestamp
+use Rattle.value_model.specs.declared.timestamp.Timestamp.{Timestamp}
 use Rattle.mutations.specs.contracts.batch.Batch as batch
 use Rattle.mutations.specs.declared.batch.Batch.{Batch}
-use Rattle.overlays.specs.Table.{Table}
-use Rattle.local_store.specs.Laying.{AreLaid}
-use Rattle.local_store.specs.State.{State, LeadsTo, most_commits}
+use Rattle.remote_documents.specs.Table.{EntryMap}
+use Rattle.target_cache.specs.contracts.row.Row as row
+use Rattle.target_cache.specs.declared.row.Row.{Row}
+use Rattle.local_store.specs.State.{State, LeadsTo}
 use Rattle.local_store.specs.Files.{FindsState}
 
 -- the state, and where the journal stands, which a spent store has no more
@@ -19,10 +25,19 @@ pub record Store : Type 0 where
 
 -- the store is stored as its fields
 abbrev pub state_code : Coded State
-state_code = code_by (ℕ × (List Batch × ℕ))
-    (coded× coded_ℕ (coded× (coded_list batch.the_row.coded) coded_ℕ))
-    (λ s. (s.number, (s.batches, s.next_batch)))
-    (λ p. record { number = p.0; batches = p.1.0; next_batch = p.1.1 }) (λ _. refl)
+state_code = code_by ((ℕ × (List Batch × ℕ)) × (EntryMap × (Option Timestamp × List Row)))
+    (coded× (coded× coded_ℕ (coded× (coded_list batch.the_row.coded) coded_ℕ))
+    (coded× (finite.code (coded_list (coded_list coded_ℕ)) (coded× entry.the_row.coded seal.the_row.coded))
+    (coded× (coded_option timestamp.the_row.coded) (coded_list row.the_row.coded))))
+    (λ s. ((s.number, (s.batches, s.next_batch)), (s.entries, (s.last_read, s.rows))))
+    (λ p. record {
+      number = p.0.0;
+      batches = p.0.1.0;
+      next_batch = p.0.1.1;
+      entries = p.1.0;
+      last_read = p.1.1.0;
+      rows = p.1.1.1;
+    }) (λ _. refl)
 
 abbrev pub store_code : Coded Store
 store_code = code_by (State × Option Place)
@@ -48,10 +63,3 @@ IsStored store v = ForSome store.place (IsOver store.state v)
 pub record IsFoundIn (s : State) (v : View) : Type 0 where
   pub crash : (c : Files) → v.may_leave c → FindsState c s
   pub reads : FindsState v.bytes s
-
--- what a store keeps: its number and its next id are counted, and the overlays are those of the
--- batches
-pub record IsKept (number next_batch : ℕ) (batches : List Batch) (overlays : Table) : Type 0 where
-  pub within : number ≤ most_commits
-  pub next : next_batch ≤ number + 1
-  pub laid : AreLaid batches overlays

@@ -1,6 +1,5 @@
-//! Laws of what two files find and what a store lends. These functions do nothing: their contracts are the laws.
+//! Laws of what two files find. These functions do nothing: their contracts are the laws.
 
-ghost use Rattle.local_store.specs.Documents.{DocumentsAreLocal};
 ghost use Rattle.local_store.specs.Files.{RefusedFilesAreNoStore, TwoFilesFindOnce};
 
 /// Two files find at most one state.
@@ -11,9 +10,4 @@ pub fn two_files_find_once()
 /// Files that are refused as no store find no state.
 pub fn refused_files_are_no_store()
     ensures { RefusedFilesAreNoStore }
-{}
-
-/// A store lends each local document that there is, and no other.
-pub fn documents_are_local()
-    ensures { DocumentsAreLocal }
 {}

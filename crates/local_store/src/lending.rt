@@ -1,4 +1,4 @@
-//! What a store lends: its local documents.
+//! What a store lends: the local documents of its state.
 
 use crate::local_store::LocalStore;
 use document_keys::{CollectionPath, DocumentKey, NoMemory};
@@ -6,27 +6,18 @@ use std::alloc::Global;
 use value_model::{DocRef, Documents};
 
 impl Documents for LocalStore {
-    ghost use Rattle.mutation_queue.specs.Queue.{named_keys};
-    ghost use Rattle.local_store.specs.Documents.{documents_of};
+    ghost use Rattle.local_store.specs.Documents.{documents_of, touched_keys_of};
 
     ghost documents = { λ store. documents_of store.state };
 
-    ghost touched_keys = { λ store. named_keys store.state.batches };
+    ghost touched_keys = { λ store. touched_keys_of store.state };
 
     fn document<'a>(&'a self, key: &'a DocumentKey) -> Option<DocRef<'a>> {
-        match self.overlays.document(key, None) {
-            Some((fields, update_time)) => Some(DocRef {
-                key,
-                fields,
-                update_time,
-                state: self.state_of(key),
-            }),
-            None => None,
-        }
+        self.tables.document(key)
     }
 
     fn touched(&self, key: &DocumentKey) -> bool {
-        self.pending.names(key)
+        self.tables.touched(key)
     }
 
     fn collection_keys(
@@ -34,7 +25,6 @@ impl Documents for LocalStore {
         alloc: Global,
         collection: &CollectionPath,
     ) -> Result<Vec<DocumentKey>, NoMemory> {
-        let keys = self.overlays.keys_in(alloc, collection)?;
-        Ok(keys)
+        self.tables.collection_keys(alloc, collection)
     }
 }

@@ -1,48 +1,43 @@
-ghost use Rattle.std.specs.Prelude.{◌≡◌, ◌≢◌, ◌⊎◌, ◌↔◌, ◌+◌, ◌≤◌, IsTrue, IfOk, IfErr, IsErrOf, OnErr, OnOk, Err};
+ghost use Rattle.std.specs.Prelude.{◌≡◌, ◌≢◌, ◌⊎◌, ◌↔◌, ◌+◌, ◌≤◌, IsTrue, IfOk, IfErr, IsErrOf, OnErr, OnOk, Err, option_map};
 ghost use Rattle.host_api.specs.Counts.{RisesAt};
 ghost use Rattle.host_api.specs.Host.{KeepsOut};
 ghost use Rattle.disk_journal.specs.Steps.{Opens, SettlesFirst};
 ghost use Rattle.record_codec.specs.Spelling.{HasSpelling, spelling};
-ghost use Rattle.local_store.specs.Documents.{standing_of};
+ghost use Rattle.local_store.specs.Documents.{sealed_entry_of, standing_of};
 ghost use Rattle.local_store.specs.Files.{FindsState, Moves, Refuses};
 ghost use Rattle.local_store.specs.State.{Fits, committed, most_commits};
 ghost use Rattle.local_store.specs.Store.{IsFoundIn, IsSpent, IsStored};
 
 use crate::fault::StoreFault;
-use crate::laying::{put_in_place, readied};
-use crate::replay::{batch_of, fits, replay};
+use crate::replay::replay;
 use disk_journal::{Frame, Journal, OpenFault};
 use document_keys::{DocumentKey, NoMemory};
+use durable_state::DurableState;
 use host_api::Host;
 use mutation_queue::MutationQueue;
-use overlays::Overlays;
 use record_codec::{Commit, encode};
 use std::alloc::Global;
 use std::marker::Model;
-use value_model::DocState;
+use target_cache::TargetCache;
+use value_model::{DocState, Entry, Seal, Timestamp};
 
-/// The durable state, over the journal that keeps it: the number of commits, the id of the next batch, from 1, and the
-/// pending batches in order, with the local documents of the keys that they name. Contracts see the state, and where the
-/// journal stands. After a disk fault there is no journal any more: the store is spent.
+/// The durable state, over the journal that keeps it. Contracts see the state, and where the journal stands. After a disk
+/// fault there is no journal any more: the store is spent.
 #[derive(Drop)]
 pub struct LocalStore {
     journal: Option<Journal>,
-    number: u64,
-    next_batch: u64,
-    pub(crate) pending: MutationQueue,
-    pub(crate) overlays: Overlays,
+    pub(crate) tables: DurableState,
 }
 
 impl Model for LocalStore {
-    ghost use Rattle.local_store.specs.Store.{IsKept, Store, store_code};
+    ghost use Rattle.durable_state.specs.Tables.{state_in};
+    ghost use Rattle.local_store.specs.Store.{Store, store_code};
 
     ghost Value = { Store };
 
     ghost coded = { store_code };
 
-    ghost view = { λ store. record { state = record { number = store.number; batches = store.pending.batches; next_batch = store.next_batch }; place = store.journal } };
-
-    ghost invariant = { λ store. IsKept store.number store.next_batch store.pending.batches store.overlays };
+    ghost view = { λ store. record { state = state_in store.tables; place = store.journal } };
 }
 
 /// The frame of the commit's payload.
@@ -83,16 +78,12 @@ impl LocalStore {
         if journal.generation() != 1 {
             return Err(OpenFault::NotAStore(file));
         }
-        let number = payloads.len() as u64;
         match replay(alloc, payloads.as_slice()) {
             Err(NoMemory) => Err(OpenFault::NoMemory),
             Ok(None) => Err(OpenFault::NotAStore(file)),
             Ok(Some(tables)) => Ok(LocalStore {
                 journal: Some(journal),
-                number,
-                next_batch: number + 1,
-                pending: tables.pending,
-                overlays: tables.overlays,
+                tables,
             }),
         }
     }
@@ -103,39 +94,56 @@ impl LocalStore {
         ensures within { self.now.state.number ≤ most_commits }
         ensures next { self.now.state.next_batch ≤ self.now.state.number + 1 }
     {
-        self.number
+        self.tables.number()
     }
 
     /// The id of the next batch.
     pub fn next_batch(&self) -> u64
         ensures { result ≡ self.now.state.next_batch }
     {
-        self.next_batch
+        self.tables.next_batch()
+    }
+
+    /// The last read time, if there was a point.
+    pub fn last_read(&self) -> Option<Timestamp>
+        ensures { result ≡ self.now.state.last_read }
+    {
+        self.tables.last_read()
     }
 
     /// The pending batches, lent.
     pub fn pending(&self) -> &MutationQueue
         ensures { result.now.batches ≡ self.now.state.batches }
     {
-        &self.pending
+        self.tables.pending()
+    }
+
+    /// The targets, lent.
+    pub fn targets(&self) -> &TargetCache
+        ensures { result.now.rows ≡ self.now.state.rows }
+    {
+        self.tables.targets()
+    }
+
+    /// The entry of the key and its seal, lent; `None` exactly where there is no entry.
+    pub fn entry(&self, key: &DocumentKey) -> Option<(&Entry, &Seal)>
+        ensures { option_map (λ pair. (pair.0.now, pair.1.now)) result ≡ sealed_entry_of self.now.state key.now }
+    {
+        self.tables.entry(key)
     }
 
     /// Whether the commit fits the state.
     pub fn fits(&self, commit: &Commit) -> bool
         ensures { IsTrue result ↔ Fits self.now.state commit.now }
     {
-        fits(self.number, self.next_batch, commit)
+        self.tables.fits(commit)
     }
 
-    /// How the key's document stands to the backend: pending where a pending write names it, else unknown.
+    /// How the key's document stands to the backend.
     pub fn state_of(&self, key: &DocumentKey) -> DocState
         ensures { result ≡ standing_of self.now.state key.now }
     {
-        if self.pending.names(key) {
-            DocState::Pending
-        } else {
-            DocState::Unknown
-        }
+        self.tables.state_of(key)
     }
 
     /// Makes the commit, which fits: its record is on the disk before the state changes, and all memory is taken before the
@@ -172,17 +180,12 @@ impl LocalStore {
             return Err(StoreFault::Spent);
         }
         let frame = frame_of(alloc, &commit)?;
-        let batch = batch_of(commit);
-        self.pending.reserve(&batch)?;
-        let ready = readied(alloc, &mut self.overlays, &batch)?;
+        let ready = self.tables.ready(alloc, commit)?;
         let Some(journal) = self.journal.take() else {
             unreachable!();
         };
         self.journal = Some(journal.append(host, &frame)?);
-        put_in_place(&mut self.overlays, ready);
-        self.pending.push_reserved(batch);
-        self.number += 1;
-        self.next_batch += 1;
-        Ok(self.number)
+        self.tables.apply(ready);
+        Ok(self.tables.number())
     }
 }

@@ -22,7 +22,7 @@ static PAYLOAD: [u8; 97] = [
     1, 0, 0, 0, 0, 0, 0, 0, 0, 0, 0,
 ];
 
-fn room(alloc: Global, id: &str) -> Result<DocumentKey, Fail> {
+pub(crate) fn room(alloc: Global, id: &str) -> Result<DocumentKey, Fail> {
     let mut segments = Vec::new(alloc);
     segments.push(Segment::read(alloc, "rooms")?)?;
     segments.push(Segment::read(alloc, id)?)?;
@@ -30,7 +30,7 @@ fn room(alloc: Global, id: &str) -> Result<DocumentKey, Fail> {
 }
 
 /// The bytes of the commit whose batch has this id.
-fn payload(alloc: Global, id: u8) -> Result<Vec<u8>, Fail> {
+pub(crate) fn payload(alloc: Global, id: u8) -> Result<Vec<u8>, Fail> {
     let (front, rest) = PAYLOAD.split_at(9);
     let mut bytes = front.to_vec(alloc)?;
     bytes.push(id)?;
@@ -50,7 +50,7 @@ fn open_and_commit(alloc: Global, host: &mut MemHost, id: u8) -> Result<LocalSto
     Ok(store)
 }
 
-fn number_of(store: &LocalStore, key: &DocumentKey) -> Option<i64> {
+pub(crate) fn number_of(store: &LocalStore, key: &DocumentKey) -> Option<i64> {
     let document = store.document(key)?;
     match &document.fields.get("n")?.kind {
         Kind::Integer(number) => Some(*number),

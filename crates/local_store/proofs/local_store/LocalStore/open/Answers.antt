@@ -7,7 +7,7 @@ pub returns-then-generation-ne1-clause-refused : goal.returns-then-generation-ne
 returns-then-generation-ne1-clause-refused g c = λ told. stuck_refuses _ _ _ _ _ (c.in_ok-journal.ensures.found told) (c.in_ok-journal.ensures.goes_on told) (λ s leads. c.if-generation-ne1.true (c.generation.ensures ∙ leads.first)) (c.open.ensures.files told)
 
 pub returns-in-Ok-None-clause-refused : goal.returns-in-Ok-None-clause-refused
-returns-in-Ok-None-clause-refused g c = λ told. stuck_refuses _ _ _ _ _ (c.in_ok-journal.ensures.found told) (c.in_ok-journal.ensures.goes_on told) (none_found c.as_slice.ensures.value (rw c.in-Ok-None.field-0-is at c.in-Ok-None.ensures.state)) (c.open.ensures.files told)
+returns-in-Ok-None-clause-refused g c = λ told. stuck_refuses _ _ _ _ _ (c.in_ok-journal.ensures.found told) (c.in_ok-journal.ensures.goes_on told) (none_found c.as_slice.ensures.value (rw c.in-Ok-None.field-0-is at c.in-Ok-None.ensures)) (c.open.ensures.files told)
 
 pub returns-clause-found : goal.returns-clause-found
 returns-clause-found g c = λ told.
@@ -16,7 +16,7 @@ returns-clause-found g c = λ told.
       generation = _;
       payloads = map (λ p. p.items) c.in_ok-journal.payloads.items;
       gives = c.in_ok-journal.ensures.found told;
-      leads = record { first = one; replays = some_found _ _ _ _ c.as_slice.ensures.value (c.len-number.ensures ∙ c.in_ok-journal.payloads.ok.0) (rw c.in-Ok-Some.field-0-is at c.in-Ok-Some.ensures.state) };
+      leads = record { first = one; replays = some_found _ c.as_slice.ensures.value (rw c.in-Ok-Some.field-0-is at c.in-Ok-Some.ensures) };
     }
 
 pub returns-clause-kept : goal.returns-clause-kept
@@ -25,5 +25,5 @@ returns-clause-kept g c = λ told.
     over_finds {place = c.in_ok-journal.journal} (record {
       payloads = map (λ p. p.items) c.in_ok-journal.payloads.items;
       open_with = c.in_ok-journal.ensures.open told;
-      leads = record { first = one; replays = some_found _ _ _ _ c.as_slice.ensures.value (c.len-number.ensures ∙ c.in_ok-journal.payloads.ok.0) (rw c.in-Ok-Some.field-0-is at c.in-Ok-Some.ensures.state) };
+      leads = record { first = one; replays = some_found _ c.as_slice.ensures.value (rw c.in-Ok-Some.field-0-is at c.in-Ok-Some.ensures) };
     })
