@@ -3,10 +3,12 @@
 //! It has tests and nothing else. They stand apart since a crate with tests is proved twice, so `document_keys`,
 //! `value_model`, `mutations`, `json_model`, `json_rpc` and `record_codec` have none, and are tried through what they export.
 //! What writes make of documents, and the faults of values and writes in JSON, are tried by the worked examples. A module for
-//! each subject: `names`, `times`, `order`, `fields`, `messages`, `writes`, `tables`, `paths`, `records`, `requests`, `trees`.
+//! each subject: `names`, `times`, `order`, `fields`, `messages`, `writes`, `tables`, `paths`, `records`, `commits`, `requests`, `trees`.
 //! What several need to make a value stands in `fixtures`. A test function owns one value, and hands it on by reference.
 #![tactic(auto)]
 
+#[cfg(test)]
+mod commits;
 #[cfg(test)]
 mod fields;
 #[cfg(test)]

@@ -289,8 +289,19 @@ static DAMAGES: [(&str, usize, usize, &[u8]); 17] = [
 
 /// The payload with other bytes in place of those between the two.
 fn changed(alloc: Global, from: usize, to: usize, bytes: &[u8]) -> Result<Vec<u8>, Fail> {
-    let (front, _) = PAYLOAD.split_at_checked(from).ok_or("a place within")?;
-    let (_, back) = PAYLOAD.split_at_checked(to).ok_or("a place within")?;
+    replaced(alloc, &PAYLOAD, from, to, bytes)
+}
+
+/// The bytes with others in place of those between the two.
+pub(crate) fn replaced(
+    alloc: Global,
+    payload: &[u8],
+    from: usize,
+    to: usize,
+    bytes: &[u8],
+) -> Result<Vec<u8>, Fail> {
+    let (front, _) = payload.split_at_checked(from).ok_or("a place within")?;
+    let (_, back) = payload.split_at_checked(to).ok_or("a place within")?;
     let mut all = Vec::from_slice(alloc, front)?;
     all.extend_from_slice(bytes)?;
     all.extend_from_slice(back)?;
@@ -307,7 +318,7 @@ fn with_value(alloc: Global, value: &[u8]) -> Result<Vec<u8>, Fail> {
     changed(alloc, 78, 87, value)
 }
 
-fn is_commit(alloc: Global, payload: &[u8]) -> Result<bool, Fail> {
+pub(crate) fn is_commit(alloc: Global, payload: &[u8]) -> Result<bool, Fail> {
     Ok(decode(alloc, payload)?.is_some())
 }
 
@@ -317,7 +328,7 @@ fn written_again(alloc: Global, payload: &[u8]) -> Result<Vec<u8>, Fail> {
     Ok(encode(alloc, &commit)?)
 }
 
-fn check_both_ways(rt: &(impl Abort + AllocGlobal), payload: &[u8]) -> Result<(), Fail> {
+pub(crate) fn check_both_ways(rt: &(impl Abort + AllocGlobal), payload: &[u8]) -> Result<(), Fail> {
     let written = written_again(rt.alloc(), payload)?;
     assert!(rt; written.as_slice() == payload);
     Ok(())
