@@ -184,6 +184,11 @@ def transformed(found, transform, at):
         if transform.get(name) is not None:
             operand, number = read_whole(transform[name]["integerValue"]), number_in(found)
             return {"integerValue": str(operand if number is None else choose(number, operand))}
+    return array_after(found, transform)
+
+
+def array_after(found, transform):
+    """What a transform of an array sets."""
     items = list(found["arrayValue"]) if found is not None and "arrayValue" in found else []
     if transform.get("appendMissingElements") is not None:
         for value in stored_values(transform["appendMissingElements"]):

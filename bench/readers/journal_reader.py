@@ -2,15 +2,15 @@
 """Reads and writes journal files, from the description in docs/FORMATS.md alone.
 
     journal_reader.py read FILE0 FILE1            says what the two files give (a missing file has no bytes)
+    journal_reader.py commits [--commits N] [--seed S]
+                                                  N random commits of all kinds, many damaged, in hex, and what each is read as
     journal_reader.py compare [--program P] [--pairs N] [--seed S]
                                                   N random pairs of damaged files: does the program say the same?
 
-It shares nothing with the program: it is another reader of the same description, so that a mistake in one of them shows. What
-writes make of documents is effects.py's.
+It shares nothing with the program: it is another reader of the same description, so that a mistake in one of them shows. How
+commits are spelled is commits.py's, what they make of a store is store.py's, and what writes make of documents effects.py's.
 """
 import argparse
-import base64
-import datetime
 import json
 import os
 import random
@@ -21,22 +21,17 @@ import tempfile
 sys.dont_write_bytecode = True
 sys.path.insert(0, os.path.dirname(os.path.dirname(os.path.abspath(__file__))))
 from client import NAME_FRONT, find_program, get_line, memory_folder, run_lines  # noqa: E402
-from readers.effects import Documents  # noqa: E402
+from readers.commits import (DOCUMENT_NAME, FIRST_SECOND, KINDS, LAST_SECOND, NoCommit, read_commit, spell_delete,  # noqa: E402
+                             spell_enqueue, spell_entry, spell_ids, spell_keys, spell_list, spell_path, spell_query, spell_result, spell_row, spell_update)
+from readers.store import ARRAYS, Store, Unfit, transforms_of  # noqa: E402
 
 MAGIC = b"FSJRNL1"
 OPEN = 1
 HEADER = 16
-FIRST_SECOND, LAST_SECOND = -62135596800, 253402300799
-DEEPEST = 20
-MOST_NAMES, MOST_WRITES = 21, 500
 
 
 class Foreign(Exception):
     """The file is neither blank nor a journal file."""
-
-
-class NoCommit(Exception):
-    """The bytes spell no commit."""
 
 
 # ---- the files ----------------------------------------------------------------------------------------------------
@@ -101,255 +96,22 @@ def appended(content, payload):
     return content[:end] + bytes([OPEN]) + piece + content[end + 1 + len(piece):]
 
 
-# ---- the commits --------------------------------------------------------------------------------------------------
-
-def spell_text(text):
-    return len(text).to_bytes(8, "big") + text
-
-
-def spell_list(items):
-    return len(items).to_bytes(8, "big") + b"".join(items)
-
-
-def spell_fields(fields):
-    """Fields, as pairs of a name and a value; a value is the pair of its kind's byte and what it holds."""
-    return spell_list([spell_text(name) + spell_value(value) for name, value in fields])
-
-
-def spell_value(value):
-    kind, content = value
-    body = {0: lambda: b"", 1: lambda: bytes([content]), 2: lambda: struct.pack(">q", content), 3: lambda: struct.pack(">qI", *content),
-            4: lambda: struct.pack(">qI", *content),
-            5: lambda: spell_text(content), 6: lambda: spell_text(content),
-            7: lambda: spell_text(content[0]) + spell_text(content[1]) + spell_list(list(map(spell_text, content[2]))),
-            8: lambda: spell_list(list(map(spell_value, content))), 9: lambda: spell_fields(content)}
-    return bytes([kind]) + body[kind]()
-
-
-def spell_path(names):
-    return spell_list(list(map(spell_text, names)))
-
-
-def spell_condition(condition):
-    """None, a boolean, or a time as a pair of seconds and nanoseconds."""
-    if condition is None:
-        return b"\0"
-    return b"\2" + struct.pack(">qI", *condition) if isinstance(condition, tuple) else b"\1" + bytes([condition])
-
-
-def spell_transform(path, kind, operand):
-    """A transform of its kind's byte; its operand is None, a number, or a list of values."""
-    rest = b"" if operand is None else struct.pack(">q", operand) if isinstance(operand, int) else spell_list(list(map(spell_value, operand)))
-    return spell_path(path) + bytes([kind]) + rest
-
-
-def spell_update(key, fields, mask=None, transforms=(), condition=None):
-    """An update. The key is a list of segments, the fields are pairs of a name and a value, the mask is a list of paths."""
-    spelled_mask = b"\0" if mask is None else b"\1" + spell_list(list(map(spell_path, mask)))
-    return b"\1" + spell_path(key) + spell_fields(fields) + spelled_mask + spell_list([spell_transform(*each) for each in transforms]) + spell_condition(condition)
-
-
-def spell_delete(key, condition=None):
-    return b"\2" + spell_path(key) + spell_condition(condition)
-
-
-def spell_enqueue(batch, seconds, nanos, writes):
-    """The bytes of an Enqueue commit of these spelled writes."""
-    return b"\1\1" + batch.to_bytes(8, "big") + struct.pack(">qI", seconds, nanos) + spell_list(writes)
-
-
-class Reader:
-    def __init__(self, content):
-        self.content, self.at = content, 0
-
-    def take(self, count):
-        if count > len(self.content) - self.at:
-            raise NoCommit
-        self.at += count
-        return self.content[self.at - count:self.at]
-
-    def number(self):
-        return int.from_bytes(self.take(8), "big")
-
-    def byte(self, wanted):
-        if self.take(1)[0] != wanted:
-            raise NoCommit
-
-    def text(self):
-        text = self.take(self.number())
-        try:
-            text.decode("utf-8")
-        except UnicodeDecodeError:
-            raise NoCommit
-        return text
-
-
-def is_reserved(name):
-    return len(name) >= 4 and name.startswith(b"__") and name.endswith(b"__")
-
-
-def is_field_name(name):
-    return 1 <= len(name) <= 1500 and not is_reserved(name)
-
-
-def is_segment(name):
-    return is_field_name(name) and b"/" not in name and name not in (b".", b"..")
-
-
-def read_list(reader, item):
-    found = []
-    for _ in range(reader.number()):
-        found.append(item())
-    return found
-
-
-def read_time(reader):
-    """A time, printed with the fewest of 0, 3, 6 and 9 digits that keep it."""
-    seconds, nanos = struct.unpack(">qI", reader.take(12))
-    if not FIRST_SECOND <= seconds <= LAST_SECOND or nanos >= 1_000_000_000:
-        raise NoCommit
-    digits = "%09d" % nanos
-    while digits.endswith("000"):
-        digits = digits[:-3]
-    moment = datetime.datetime(1, 1, 1) + datetime.timedelta(seconds=seconds - FIRST_SECOND)
-    return moment.isoformat() + ("." + digits if digits else "") + "Z"
-
-
-def read_name(reader):
-    project, database = reader.text(), reader.text()
-    if not is_segment(project) or not is_segment(database):
-        raise NoCommit
-    path = b"/".join(read_key(reader))
-    return b"projects/%s/databases/%s/documents/%s" % (project, database, path)
-
-
-def read_boolean(reader):
-    byte = reader.take(1)[0]
-    if byte > 1:
-        raise NoCommit
-    return byte == 1
-
-
-def read_value(reader, deepest):
-    """A value, as it is printed in JSON; arrays and maps may nest so deep."""
-    kind = reader.take(1)[0]
-    scalars = {
-        0: lambda: {"nullValue": None},
-        1: lambda: {"booleanValue": read_boolean(reader)},
-        2: lambda: {"integerValue": str(struct.unpack(">q", reader.take(8))[0])},
-        3: lambda: {"timestampValue": read_time(reader)},
-        5: lambda: {"stringValue": reader.text().decode()},
-        6: lambda: {"bytesValue": base64.b64encode(reader.take(reader.number())).decode()},
-        7: lambda: {"referenceValue": read_name(reader).decode()},
-    }
-    if kind in scalars:
-        return scalars[kind]()
-    if kind not in (8, 9) or deepest == 0:
-        raise NoCommit
-    if kind == 8:
-        values = read_list(reader, lambda: read_value(reader, deepest - 1))
-        return {"arrayValue": {"values": values} if values else {}}
-    fields = read_fields(reader, deepest - 1)
-    return {"mapValue": {"fields": fields} if fields else {}}
-
-
-def read_fields(reader, deepest):
-    pairs = read_list(reader, lambda: (reader.text(), read_value(reader, deepest)))
-    names = [name for name, _ in pairs]
-    if not all(map(is_field_name, names)) or any(a >= b for a, b in zip(names, names[1:])):
-        raise NoCommit
-    return {name.decode(): value for name, value in pairs}
-
-
-def read_key(reader):
-    key = read_list(reader, reader.text)
-    if not key or len(key) % 2 or not all(map(is_segment, key)):
-        raise NoCommit
-    return key
-
-
-def read_path(reader):
-    """The names of a path of a field in a write."""
-    names = read_list(reader, reader.text)
-    if not 1 <= len(names) <= MOST_NAMES or not all(map(is_field_name, names)):
-        raise NoCommit
-    return names
-
-
-def printed_path(names):
-    return ".".join("`" + name.decode().replace("\\", "\\\\").replace("`", "\\`") + "`" for name in names)
-
-
-def read_condition(reader):
-    kind = reader.take(1)[0]
-    if kind > 2:
-        raise NoCommit
-    return [lambda: None, lambda: {"exists": read_boolean(reader)}, lambda: {"updateTime": read_time(reader)}][kind]()
-
-
-def read_transform(reader):
-    """A transform, as its tree in a line."""
-    names = read_path(reader)
-    kind = reader.take(1)[0]
-    name = {1: "setToServerValue", 2: "increment", 3: "maximum", 4: "minimum", 5: "appendMissingElements", 6: "removeAllFromArray"}.get(kind)
-    if name is None or kind > 4 and len(names) > DEEPEST:
-        raise NoCommit
-    if kind == 1:
-        operand = "REQUEST_TIME"
-    elif kind < 5:
-        operand = {"integerValue": str(struct.unpack(">q", reader.take(8))[0])}
-    else:
-        operand = {"values": read_list(reader, lambda: read_value(reader, DEEPEST - len(names)))}
-    return {"fieldPath": printed_path(names), name: operand}
-
-
-def read_write(reader):
-    """A write, as its tree in a line; its name is the path of its key."""
-    kind = reader.take(1)[0]
-    if kind not in (1, 2):
-        raise NoCommit
-    name = b"/".join(read_key(reader)).decode()
-    if kind == 2:
-        return {"delete": name, "currentDocument": read_condition(reader)}
-    write = {"update": {"name": name, "fields": read_fields(reader, DEEPEST)}}
-    if read_boolean(reader):
-        write["updateMask"] = {"fieldPaths": list(map(printed_path, read_list(reader, lambda: read_path(reader))))}
-    write["updateTransforms"] = read_list(reader, lambda: read_transform(reader))
-    write["currentDocument"] = read_condition(reader)
-    return write
-
-
-def read_enqueue(payload):
-    """The batch's number, its time and its writes of an Enqueue commit."""
-    reader = Reader(payload)
-    reader.byte(1)
-    reader.byte(1)
-    batch, at = reader.number(), read_time(reader)
-    writes = read_list(reader, lambda: read_write(reader))
-    if reader.at != len(payload):
-        raise NoCommit
-    return batch, at, writes
-
-
 def read_store(contents):
-    """The documents of the store that the two files are, by the path of their key; None where they are none."""
+    """The store that the two files are; None where they are none."""
     found = read_pair(contents)
     if found[0] == "foreign":
         return None
-    documents = Documents()
+    store = Store()
     if found[0] == "counts":
         _, _, generation, payloads, _ = found
         if generation != 1:
             return None
-        for number, payload in enumerate(payloads, 1):
+        for payload in payloads:
             try:
-                batch, at, writes = read_enqueue(payload)
-            except NoCommit:
+                store.commit(*read_commit(payload))
+            except (NoCommit, Unfit):
                 return None
-            if batch != number or not 1 <= len(writes) <= MOST_WRITES:
-                return None
-            documents.take(at, writes)
-    return documents
+    return store
 
 
 # ---- random damage ------------------------------------------------------------------------------------------------
@@ -401,12 +163,121 @@ def random_write(chance):
     return spell_update(key, fields, mask, [random_transform(chance) for _ in range(chance.choice([0, 0, 0, 1, 2]))], condition)
 
 
+TIMES = [(0, 0), (1714521600, 0), (FIRST_SECOND, 0), (LAST_SECOND, 999_999_999)]
+
+
+def some(chance, items, sound):
+    """Some of the items, ascending; unless they are to be sound, sometimes with one twice or in another order."""
+    found = sorted(chance.sample(items, chance.randint(0, len(items))))
+    if not sound and found and chance.random() < 0.1:
+        found.insert(chance.randint(0, len(found)), chance.choice(found))
+    return found
+
+
+def random_path(chance):
+    return chance.choice(PATHS + [DOCUMENT_NAME])
+
+
+def random_filter(chance, deepest):
+    kind = chance.choice([1, 2, 2, 3] if deepest > 1 else [2, 2, 3])
+    if kind == 1:
+        return 1, chance.randint(1, 2), [random_filter(chance, deepest - 1) for _ in range(chance.choice([1, 1, 2, 3, 0]))]
+    if kind == 3:
+        return 3, chance.randint(1, 2), random_path(chance)
+    op = chance.randint(1, 10)
+    if op in (7, 8, 10) and chance.random() < 0.9:
+        return 2, random_path(chance), op, (8, [(2, n) for n in range(chance.choice([1, 2, 10, 11, 30, 31, 0]))])
+    return 2, random_path(chance), op, random_value(chance, 1)
+
+
+def paths_compared(found):
+    """The paths that a filter makes orders of."""
+    if found is None:
+        return []
+    if found[0] == 1:
+        return [path for each in found[2] for path in paths_compared(each)]
+    return [found[1]] if found[0] == 2 and found[2] in (2, 3, 4, 5, 6, 8) else [found[2]] if found[0] == 3 and found[1] == 2 else []
+
+
+def random_query(chance, sound):
+    """A query with its whole list of orders, mostly; one that is to be sound has no filter that may break a rule."""
+    where = chance.choice([None, (2, [b"n"], chance.randint(1, 6), (2, 1)), (3, 2, [b"m", b"a"])] if sound else [None, random_filter(chance, 3)])
+    explicit = [(path, chance.randint(1, 2)) for path in chance.sample(PATHS + [DOCUMENT_NAME], chance.choice([0, 0, 1, 2]))]
+    named = [path for path, _ in explicit]
+    compared = {tuple(path) for path in paths_compared(where) if path not in named and path != DOCUMENT_NAME}
+    behind = sorted(compared) + [tuple(DOCUMENT_NAME)] * (DOCUMENT_NAME not in named)
+    orders = explicit + [(list(path), explicit[-1][1] if explicit else 1) for path in behind]
+    if not sound and chance.random() < 0.1:
+        orders.pop(chance.randrange(len(orders)))
+    cursors = [chance.choice([None, None, ([random_value(chance, 1) for _ in range(chance.randint(1, len(orders) if sound else 3))], chance.randrange(2))]) for _ in range(2)]
+    limit = chance.choice([None, 1, 10, 2**31 - 1] + [0, 2**31] * (not sound))
+    return spell_query(chance.choice([[b"rooms"], [b"rooms", b"a", b"s"]] + [[], [b"r", b"a"]] * (not sound)), where, orders, *cursors, limit)
+
+
+def random_members(chance, kind, sound):
+    ids, keys, at = [1, 2, 3, 2**32 - 1], [[b"rooms", name] for name in NAMES], struct.pack(">qI", *chance.choice(TIMES))
+    batch = chance.choice([1, 2, 2**64 - 1]).to_bytes(8, "big")
+    if kind == "Enqueue":
+        return batch + at + spell_list([random_write(chance) for _ in range(chance.randint(0, 2))])
+    if kind == "Acknowledge":
+        results = [spell_result(chance.choice([None] + TIMES), [random_value(chance, 2) for _ in range(chance.randint(0, 2))]) for _ in range(chance.randint(0, 3))]
+        return batch + at + spell_list(results)
+    if kind == "Reject":
+        return batch
+    if kind == "Allocate":
+        target = b"\1" + spell_path(chance.choice(keys)) if chance.random() < 0.2 else random_query(chance, sound)
+        return chance.choice(ids).to_bytes(4, "big") + target
+    if kind == "Point":
+        fields = [None, [], [(b"m", random_value(chance, 2)), (b"n", (2, 1))]]
+        return (at + spell_list([spell_entry(key, chance.choice(fields), chance.choice(TIMES)) for key in some(chance, keys, sound)])
+                + spell_list([spell_row(number, chance.choice([b"", b"\xff\0"]), some(chance, keys, sound)) for number in some(chance, ids, sound)]))
+    return (b"" if kind == "Reset" else spell_keys(some(chance, keys, sound))) + spell_ids(some(chance, ids, sound))
+
+
+def random_commit(chance, sound=False):
+    """The bytes of a commit of any kind. Unless they are to be sound they are sometimes none's, though every length in them is right."""
+    number = chance.randint(1, len(KINDS))
+    return bytes([1, number]) + random_members(chance, KINDS[number - 1], sound)
+
+
+def fitting_result(chance, write):
+    """A result of the write, mostly: the value of a transform that isn't one of an array is a scalar."""
+    values = [random_value(chance, 1 if any(change.get(name) is not None for name in ARRAYS) or chance.random() < 0.02 else 0) for change in transforms_of(write)]
+    return spell_result(chance.choice([None] + TIMES), values)
+
+
+def fitting_members(chance, kind, store):
+    """The members of a commit that mostly fits the store."""
+    keys, at = [[b"rooms", name] for name in NAMES], struct.pack(">qI", *chance.choice(TIMES))
+    first = store.pending[0][0] if store.pending else 1
+    ids = [2 * place + 2 for place in range(len(store.rows))]
+    if kind == "Enqueue":
+        return store.next_batch.to_bytes(8, "big") + at + spell_list([random_write(chance) for _ in range(chance.choice([1, 1, 1, 2, 3]))])
+    if kind == "Acknowledge":
+        return first.to_bytes(8, "big") + at + spell_list([fitting_result(chance, write) for write in (store.pending[0][2] if store.pending else [])])
+    if kind == "Reject":
+        return first.to_bytes(8, "big")
+    if kind == "Allocate":
+        return (len(ids) * 2 + 2).to_bytes(4, "big") + (b"\1" + spell_path(chance.choice(keys)) if chance.random() < 0.5 else random_query(chance, True))
+    if kind == "Point":
+        fields = [None, [], [(b"m", random_value(chance, 2)), (b"n", (2, 1))]]
+        return (at + spell_list([spell_entry(key, chance.choice(fields), chance.choice(TIMES)) for key in some(chance, keys, True)])
+                + spell_list([spell_row(number, b"\xff\0", some(chance, keys, True)) for number in some(chance, ids, True)]))
+    return (b"" if kind == "Reset" else spell_keys(some(chance, keys, True))) + spell_ids(some(chance, ids, True))
+
+
 def random_store(chance):
-    """The first file of a store of a few batches."""
-    content = formatted(b"")
-    for batch in range(1, chance.choice([0, 0, 1, 1, 2, 3, 5]) + 1):
-        writes = [random_write(chance) for _ in range(chance.choice([1, 1, 1, 2, 3]))]
-        content = appended(content, spell_enqueue(batch, 1714521600 + batch, 0, writes))
+    """The first file of a store of a few commits; seldom one that doesn't fit is among them."""
+    content, store = formatted(b""), Store()
+    for _ in range(chance.choice([0, 0, 1, 1, 2, 3, 5, 9])):
+        kind = chance.choice(["Enqueue"] * 5 + KINDS)
+        payload = bytes([1, KINDS.index(kind) + 1]) + fitting_members(chance, kind, store)
+        try:
+            store.commit(*read_commit(payload))
+        except Unfit:
+            if chance.random() < 0.95:
+                continue
+        content = appended(content, payload)
     return content
 
 
@@ -495,11 +366,19 @@ def add_payload(chance, content):
         return content
 
 
+def add_commit(chance, content):
+    """A record of a commit of any kind, or nearly one. Few of them fit."""
+    try:
+        return appended(content, random_commit(chance))
+    except (Foreign, TypeError):
+        return content
+
+
 def closed_header(chance, content):
     return bytes([chance.choice([0, 2, 255])]) + content[1:]
 
 
-DAMAGES = [cut, change_byte, change_range, grow, change_generation, change_length, add_payload, closed_header,
+DAMAGES = [cut, change_byte, change_range, grow, change_generation, change_length, add_payload, add_commit, closed_header,
            torn_append, torn_append]
 
 
@@ -584,6 +463,26 @@ def compare(program, pairs, seed):
     return 0
 
 
+def list_commits(count, seed):
+    """Random commits, one a line: the bytes in hex, and the commit that they spell, or null. Another decoder can be tried on these."""
+    chance = random.Random(seed)
+    for _ in range(count):
+        sound = chance.random() < 0.5
+        payload = random_commit(chance, sound)
+        damages = 0 if sound else chance.choice([0, 1, 1])
+        for _ in range(damages):
+            payload = chance.choice([change_byte, change_byte, cut, grow])(chance, payload)
+        try:
+            commit = read_commit(payload)
+        except NoCommit:
+            commit = None
+        if sound and commit is None:
+            print("a sound commit isn't read:", payload.hex(), file=sys.stderr)
+            return 1
+        print(payload.hex() or "-", json.dumps(commit))
+    return 0
+
+
 def show(paths):
     contents = [open(path, "rb").read() if os.path.exists(path) else b"" for path in paths]
     found = read_pair(contents)
@@ -594,8 +493,8 @@ def show(paths):
     print("file %d counts, generation %d, %d payloads, first closed gate at byte %d" % (counting, generation, len(payloads), end))
     for payload in payloads:
         try:
-            batch, at, writes = read_enqueue(payload)
-            print(batch, at, json.dumps(writes, ensure_ascii=False))
+            kind, members = read_commit(payload)
+            print(kind, json.dumps(members, ensure_ascii=False))
         except NoCommit:
             print("no commit:", payload.hex())
     return 0
@@ -606,6 +505,9 @@ def main():
     verbs = parser.add_subparsers(dest="verb", required=True)
     reading = verbs.add_parser("read")
     reading.add_argument("files", nargs=2)
+    listing = verbs.add_parser("commits")
+    listing.add_argument("--commits", type=int, default=20)
+    listing.add_argument("--seed", type=int, default=1)
     comparing = verbs.add_parser("compare")
     comparing.add_argument("--program")
     comparing.add_argument("--pairs", type=int, default=10000)
@@ -613,6 +515,8 @@ def main():
     words = parser.parse_args()
     if words.verb == "read":
         return show(words.files)
+    if words.verb == "commits":
+        return list_commits(words.commits, words.seed)
     return compare(find_program(words.program), words.pairs, words.seed)
 
 

@@ -5,8 +5,9 @@ import os
 import subprocess
 
 from client import NAME_FRONT, get_line, run_lines
+from readers.commits import read_enqueue
 from readers.effects import Documents
-from readers.journal_reader import get_files, read_enqueue, read_pair
+from readers.journal_reader import get_files, read_pair
 
 DOCUMENTS = 40
 
