@@ -421,11 +421,3 @@ def read_commit(payload):
     if reader.at != len(payload):
         raise NoCommit
     return kind, members
-
-
-def read_enqueue(payload):
-    """The batch's number, its time and its writes of an Enqueue commit. No other kind fits a store so far."""
-    kind, members = read_commit(payload)
-    if kind != "Enqueue":
-        raise NoCommit
-    return members

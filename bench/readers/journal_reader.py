@@ -7,8 +7,10 @@
     journal_reader.py compare [--program P] [--pairs N] [--seed S]
                                                   N random pairs of damaged files: does the program say the same?
 
-It shares nothing with the program: it is another reader of the same description, so that a mistake in one of them shows. How
-commits are spelled is commits.py's, what they make of a store is store.py's, and what writes make of documents effects.py's.
+It shares nothing with the program: it is another reader of the same description, so that a mistake in one of them shows. Where the
+files are a store, the program must show its documents, and begin a listener on each of its targets, which shows what is due. How
+commits are spelled is commits.py's, what they make of a store is store.py's, what writes make of documents effects.py's, and what
+a target answers queries.py's.
 """
 import argparse
 import json
@@ -23,6 +25,7 @@ sys.path.insert(0, os.path.dirname(os.path.dirname(os.path.abspath(__file__))))
 from client import NAME_FRONT, find_program, get_line, memory_folder, run_lines  # noqa: E402
 from readers.commits import (DOCUMENT_NAME, FIRST_SECOND, KINDS, LAST_SECOND, NoCommit, read_commit, spell_delete,  # noqa: E402
                              spell_enqueue, spell_entry, spell_ids, spell_keys, spell_list, spell_path, spell_query, spell_result, spell_row, spell_update)
+from readers.queries import changes_between, read_target  # noqa: E402
 from readers.store import ARRAYS, Store, Unfit, transforms_of  # noqa: E402
 
 MAGIC = b"FSJRNL1"
@@ -201,7 +204,7 @@ def paths_compared(found):
 
 def random_query(chance, sound):
     """A query with its whole list of orders, mostly; one that is to be sound has no filter that may break a rule."""
-    where = chance.choice([None, (2, [b"n"], chance.randint(1, 6), (2, 1)), (3, 2, [b"m", b"a"])] if sound else [None, random_filter(chance, 3)])
+    where = chance.choice([None, None, (2, [b"n"], chance.randint(1, 6), (2, 1)), (3, 2, [b"m", b"a"])] if sound else [None, random_filter(chance, 3)])
     explicit = [(path, chance.randint(1, 2)) for path in chance.sample(PATHS + [DOCUMENT_NAME], chance.choice([0, 0, 1, 2]))]
     named = [path for path, _ in explicit]
     compared = {tuple(path) for path in paths_compared(where) if path not in named and path != DOCUMENT_NAME}
@@ -209,9 +212,9 @@ def random_query(chance, sound):
     orders = explicit + [(list(path), explicit[-1][1] if explicit else 1) for path in behind]
     if not sound and chance.random() < 0.1:
         orders.pop(chance.randrange(len(orders)))
-    cursors = [chance.choice([None, None, ([random_value(chance, 1) for _ in range(chance.randint(1, len(orders) if sound else 3))], chance.randrange(2))]) for _ in range(2)]
+    cursors = [chance.choice([None, None, None, ([random_value(chance, 1) for _ in range(chance.randint(1, len(orders) if sound else 3))], chance.randrange(2))]) for _ in range(2)]
     limit = chance.choice([None, 1, 10, 2**31 - 1] + [0, 2**31] * (not sound))
-    return spell_query(chance.choice([[b"rooms"], [b"rooms", b"a", b"s"]] + [[], [b"r", b"a"]] * (not sound)), where, orders, *cursors, limit)
+    return spell_query(chance.choice([[b"rooms"]] * 3 + [[b"rooms", b"a", b"s"]] + [[], [b"r", b"a"]] * (not sound)), where, orders, *cursors, limit)
 
 
 def random_members(chance, kind, sound):
@@ -270,7 +273,7 @@ def random_store(chance):
     """The first file of a store of a few commits; seldom one that doesn't fit is among them."""
     content, store = formatted(b""), Store()
     for _ in range(chance.choice([0, 0, 1, 1, 2, 3, 5, 9])):
-        kind = chance.choice(["Enqueue"] * 5 + KINDS)
+        kind = chance.choice(["Enqueue"] * 5 + ["Allocate", "Point"] + KINDS)
         payload = bytes([1, KINDS.index(kind) + 1]) + fitting_members(chance, kind, store)
         try:
             store.commit(*read_commit(payload))
@@ -402,8 +405,47 @@ def random_pair(chance):
 
 # ---- the comparison -----------------------------------------------------------------------------------------------
 
-def wanted_answers(documents):
-    return [{"document": {**documents.shown("rooms/" + name.decode()), "name": NAME_FRONT + "rooms/" + name.decode()}} for name in NAMES]
+def printed(store, path):
+    return {**store.shown(path), "name": NAME_FRONT + path}
+
+
+def wanted_answers(store):
+    return [{"document": printed(store, "rooms/" + name.decode())} for name in NAMES]
+
+
+def filter_tree(found):
+    """A filter as it stands in a line."""
+    if "filters" in found:
+        return {"compositeFilter": {"op": found["op"], "filters": list(map(filter_tree, found["filters"]))}}
+    return {"fieldFilter" if "value" in found else "unaryFilter": {**found, "field": {"fieldPath": found["field"]}}}
+
+
+def target_tree(target):
+    """A target as it stands in a line."""
+    if "document" in target:
+        return {"documents": {"documents": [NAME_FRONT + target["document"]]}}
+    parent, _, collection = ("/" + target["from"]).rpartition("/")
+    orders = [{**order, "field": {"fieldPath": order["field"]}} for order in target["orderBy"]]
+    query = {**target, "from": [{"collectionId": collection}], "where": target["where"] and filter_tree(target["where"]), "orderBy": orders}
+    return {"query": {"parent": NAME_FRONT[:-1] + parent, "structuredQuery": query}}
+
+
+def listen_lines(store):
+    """A line for each target of the store."""
+    return [json.dumps({"listen": {"id": place, "target": target_tree(target)}}).encode() + b"\n" for place, (target, _) in enumerate(store.rows)]
+
+
+def wanted_lines(store, number):
+    """What these print, by what each target answers; a listener whose row isn't blank shows even nothing."""
+    found = {NAME_FRONT + name: store.found(name)[0] for name in store.names()}
+    documents = {name: document and document[0] for name, document in found.items()}
+    time = {} if store.last_read is None else {"readTime": store.last_read}
+    for place, (target, row) in enumerate(store.rows):
+        yield {"ok": {"commit": number, "id": place, "targetId": 2 * place + 2}}
+        names = read_target(target_tree(target), NAME_FRONT).answer(documents)
+        shown = [{member: inner for member, inner in printed(store, name[len(NAME_FRONT):]).items() if member != "exists"} for name in names]
+        if shown or row is not None:
+            yield {"snapshot": {"changes": changes_between([], shown), "commit": number, "documents": shown, "fromCache": True, "id": place, **time}}
 
 
 def put_files(folder, contents):
@@ -427,18 +469,20 @@ def get_files(folder):
 def disagreement(program, folder, contents):
     """Runs the program over the pair; says where it and this reader differ, or None."""
     put_files(folder, contents)
-    status, output = run_lines(program, folder, [get_line("rooms/" + name.decode()) for name in NAMES])
-    documents = read_store(contents)
+    found, store = read_pair(contents), read_store(contents)
+    gets = [get_line("rooms/" + name.decode()) for name in NAMES]
+    status, output = run_lines(program, folder, gets + (listen_lines(store) if store else []))
     left = get_files(folder)
-    if documents is None:
+    if store is None:
         if status != 7 or output:
             return "no store, but the status is %d with %d bytes of output" % (status, len(output))
         return None if left == contents else "no store, and its files were changed"
     if status != 0:
         return "a store, but the status is %d" % status
-    if [json.loads(line) for line in output.splitlines()] != wanted_answers(documents):
-        return "a store, but the answers are %s" % output.decode("utf-8", "replace")
-    kept = (formatted(contents[0]), contents[1]) if read_pair(contents)[0] == "blank" else contents
+    wanted = wanted_answers(store) + list(wanted_lines(store, len(found[3]) if found[0] == "counts" else 0))
+    if [json.loads(line) for line in output.splitlines()] != wanted:
+        return "a store, but the answers are %s, and %s are due" % (output.decode("utf-8", "replace"), json.dumps(wanted))
+    kept = (formatted(contents[0]), contents[1]) if found[0] == "blank" else contents
     return None if left == kept else "a store, but its files became %s" % [content.hex() for content in left]
 
 

@@ -4,11 +4,12 @@
     bench/readers/line_reader.py compare [--program P] [--runs N] [--lines N] [--minutes M] [--seed S]
     bench/readers/line_reader.py answer [DATABASE] < LINES
 
-`compare` feeds the program the damaged lines of fuzz_lines.py, and lines that are built with several faults at once, and each
-answer must be, byte for byte, the one that this reader gives: the numbers of an `ok`, the printed document with the pending
-writes laid over it, or the number, the member and the name of a refusal. What writes make of a document is worked out here by
-what stands at each path, and not by setting one path after another. `answer` prints what this reader answers to lines over an
-empty store. The JSON itself is read by Python's json.
+`compare` feeds the program the damaged lines of fuzz_lines.py, and lines that are built with several faults at once (built_lines.py),
+and what it prints must be, byte for byte, what this reader prints: the numbers of an `ok`, the printed document with the pending writes
+laid over it, the number, the member and the name of a refusal, and the snapshots that a line raises. A store has two runs, one behind the
+other; then its journal must have the targets of all listeners, with their whole lists of orders. What writes make of a document is worked out here by what stands
+at each path, and not by setting one path after another; what a query answers, by who comes before each document. `answer` prints what
+this reader prints for lines over an empty store. The JSON itself is read by Python's json.
 """
 import argparse
 import json
@@ -24,26 +25,29 @@ import time
 sys.dont_write_bytecode = True
 sys.path.insert(0, os.path.dirname(os.path.dirname(os.path.abspath(__file__))))
 from client import find_program, memory_folder, run_lines  # noqa: E402
-from readers.effects import Documents, given, path_names, read_bytes, read_time, read_whole  # noqa: E402
+from readers.commits import read_commit  # noqa: E402
+from readers.effects import Documents, given, read_time, read_whole  # noqa: E402
+from readers.faults import (DEEP, DEEPEST_VALUE, NAME, ORDER, SHAPE, UNSUPPORTED, bad_member, condition_faults, fields_faults, in_order, mask_faults,  # noqa: E402
+                            name_faults, object_faults, transforms_faults)
+from readers.journal_reader import get_files, read_pair  # noqa: E402
+from readers.queries import changes_between, read_target, target_faults, whole_faults  # noqa: E402
+from trials.built_lines import DATABASE, built_line  # noqa: E402
 from trials.fuzz_lines import items_of, keep, random_line, sample_lines  # noqa: E402
 
 sys.set_int_max_str_digits(0)
 
 LONGEST = 4194304
 DEEPEST_TEXT = 127
-DEEPEST_VALUE = 20
-DATABASE = "projects/demo/databases/(default)"
+LAST_LISTENER = 2**32 - 1
 
-SHAPE, DEEP, UNSUPPORTED, NAME, COUNT, LENGTH = 1, 4, 3, 2, 5, 11
-CAUSES = {SHAPE: "BadLine", DEEP: "TooDeep", UNSUPPORTED: "Unsupported", NAME: "BadName", COUNT: "BadWrites", LENGTH: "LineTooLong"}
-ORDER = [SHAPE, DEEP, UNSUPPORTED, NAME]
+COUNT, QUERY, TAKEN, NO_LISTENER, LENGTH = 5, 6, 7, 8, 11
+CAUSES = {SHAPE: "BadLine", DEEP: "TooDeep", UNSUPPORTED: "Unsupported", NAME: "BadName", COUNT: "BadWrites", QUERY: "BadQuery", TAKEN: "ListenerTaken",
+          NO_LISTENER: "NoListener", LENGTH: "LineTooLong"}
+BESIDES = {SHAPE: ["member"], UNSUPPORTED: ["member"], NAME: ["fault", "name"], COUNT: ["count"], QUERY: ["fault"], TAKEN: ["id"], NO_LISTENER: ["id"]}
 
-UNBUILT_LINES = {"listen", "unlisten", "open", "close", "watch", "written", "timer"}
+UNBUILT_LINES = {"open", "close", "watch", "written", "timer"}
 ALTERNATIVES = ("delete", "transform", "update")
-ARITHMETIC = ("increment", "maximum", "minimum")
-OF_ARRAYS = ("appendMissingElements", "removeAllFromArray")
 MOST_WRITES = 500
-MOST_NAMES = 21
 
 
 class NoJson(Exception):
@@ -108,243 +112,21 @@ def read_json(line):
     return merged(tree)
 
 
-# ---- names --------------------------------------------------------------------------------------------------------
-
-def is_reserved(text):
-    return len(text.encode()) >= 4 and text.startswith("__") and text.endswith("__")
+class Refused(Exception):
+    """The line is refused: its number, and what is printed besides."""
 
 
-def is_segment(text):
-    return 1 <= len(text.encode()) <= 1500 and text not in (".", "..") and "/" not in text and not is_reserved(text)
+class Listener:
+    def __init__(self, target):
+        self.target, self.raised = target, None
 
-
-def path_fault(text, front):
-    """The fault of a text as the name of a document under a front, or None."""
-    if not text.startswith(front):
-        return "WrongRoot"
-    parts = text[len(front):].split("/")
-    if not all(map(is_segment, parts)):
-        return "BadSegment"
-    return "OddLength" if len(parts) % 2 else None
-
-
-def reference_fault(text):
-    parts = text.split("/")
-    if len(parts) < 6 or (parts[0], parts[2], parts[4]) != ("projects", "databases", "documents") \
-            or not is_segment(parts[1]) or not is_segment(parts[3]):
-        return "WrongRoot"
-    return path_fault(text, "/".join(parts[:5]) + "/")
-
-
-def field_name_fault(name):
-    if not 1 <= len(name.encode()) <= 1500:
-        return "BadPath"
-    return "ReservedField" if is_reserved(name) else None
-
-
-def path_faults(name, tree):
-    """The faults of what is to be the path of a field in a write, under that name."""
-    names = path_names(tree) if isinstance(tree, str) else None
-    if not isinstance(tree, str):
-        yield (SHAPE, name)
-    elif names is None:
-        yield (NAME, "BadPath", tree)
-    elif len(names) > MOST_NAMES:
-        yield (DEEP,)
-    elif any(field_name_fault(name) == "BadPath" for name in names):
-        yield (NAME, "BadPath", tree)
-    elif any(map(is_reserved, names)):
-        yield (NAME, "ReservedField", tree)
-
-
-# ---- the walk: each yields its faults in order, as (number, member) or (NAME, fault, text) --------------------------
-
-def in_order(members, readers, required, unknown):
-    """The faults of an object's members: those of known ones by their readers, a required one at its own place."""
-    there = dict(given(members))
-    for name in sorted(set(there) | set(required), key=str.encode):
-        if name not in there:
-            yield (SHAPE, name)
-        elif name in readers:
-            yield from readers[name](there[name])
-        else:
-            yield from unknown(name)
-
-
-def bad_member(name):
-    yield (SHAPE, name)
-
-
-def scalar_faults(name, tree):
-    if name == "nullValue":
-        right = tree is None or tree == "NULL_VALUE"
-    elif name == "booleanValue":
-        right = isinstance(tree, bool)
-    elif name == "integerValue":
-        right = read_whole(tree) is not None
-    elif not isinstance(tree, str):
-        right = False
-    elif name == "timestampValue":
-        right = read_time(tree) is not None
-    elif name == "bytesValue":
-        right = read_bytes(tree) is not None
-    else:
-        right = True
-        if name == "referenceValue" and reference_fault(tree):
-            yield (NAME, reference_fault(tree), tree)
-    if not right:
-        yield (SHAPE, name)
-
-
-def array_faults(tree, limit):
-    if not isinstance(tree, dict):
-        yield (SHAPE, "arrayValue")
-        return
-    if limit == 0:
-        yield (DEEP,)
-
-    def values(items):
-        if not isinstance(items, list):
-            yield (SHAPE, "values")
-            return
-        for item in items:
-            yield from value_faults(item, "values", max(limit - 1, 0))
-    yield from in_order(tree, {"values": values}, (), bad_member)
-
-
-def map_faults(tree, limit):
-    if not isinstance(tree, dict):
-        yield (SHAPE, "mapValue")
-        return
-    inner = tree.get("fields")
-    if isinstance(inner, dict) and inner.get("__type__") is not None:
-        yield (UNSUPPORTED, "vectorValue")
-        return
-    if limit == 0:
-        yield (DEEP,)
-    yield from in_order(tree, {"fields": lambda fields: fields_faults(fields, max(limit - 1, 0))}, (), bad_member)
-
-
-SCALARS = ("nullValue", "booleanValue", "integerValue", "timestampValue", "stringValue", "bytesValue", "referenceValue")
-NEVER = ("doubleValue", "geoPointValue")
-
-
-def value_faults(tree, name, limit):
-    if not isinstance(tree, dict):
-        yield (SHAPE, name)
-        return
-    kinds = [kind for kind in tree if kind in SCALARS + NEVER + ("arrayValue", "mapValue")
-             and (kind == "nullValue" or tree[kind] is not None)]
-    if len(kinds) != 1:
-        yield (SHAPE, name)
-        return
-    for member in sorted(tree, key=str.encode):
-        inner = tree[member]
-        if member in NEVER and inner is not None:
-            yield (UNSUPPORTED, member)
-        elif member == "arrayValue" and inner is not None:
-            yield from array_faults(inner, limit)
-        elif member == "mapValue" and inner is not None:
-            yield from map_faults(inner, limit)
-        elif member == "nullValue" or member in SCALARS and inner is not None:
-            yield from scalar_faults(member, inner)
-        elif inner is not None:
-            yield (SHAPE, member)
-
-
-def values_faults(tree, limit):
-    if not isinstance(tree, list):
-        yield (SHAPE, "values")
-        return
-    for item in tree:
-        yield from value_faults(item, "values", limit)
-
-
-def object_faults(tree, name, readers, required=()):
-    if not isinstance(tree, dict):
-        yield (SHAPE, name)
-        return
-    yield from in_order(tree, readers, required, bad_member)
-
-
-def mask_faults(tree):
-    def paths(items):
-        if not isinstance(items, list):
-            yield (SHAPE, "fieldPaths")
-            return
-        for item in items:
-            yield from path_faults("fieldPaths", item)
-    yield from object_faults(tree, "updateMask", {"fieldPaths": paths})
-
-
-def condition_faults(tree):
-    if isinstance(tree, dict) and sum(tree.get(name) is not None for name in ("exists", "updateTime")) != 1:
-        yield (SHAPE, "currentDocument")
-        return
-
-    def exists(inner):
-        if not isinstance(inner, bool):
-            yield (SHAPE, "exists")
-
-    def update_time(inner):
-        if not isinstance(inner, str) or read_time(inner) is None:
-            yield (SHAPE, "updateTime")
-    yield from object_faults(tree, "currentDocument", {"exists": exists, "updateTime": update_time})
-
-
-def operand_faults(name, tree):
-    """A value that is a whole number. One of another kind, or of two, is a fault under the transform's own name."""
-    if isinstance(tree, dict):
-        kinds = [kind for kind in tree if kind in SCALARS + NEVER + ("arrayValue", "mapValue") and tree[kind] is not None]
-        if kinds not in (["integerValue"], ["doubleValue"]):
-            yield (SHAPE, name)
-            return
-
-    def unsupported(inner):
-        yield (UNSUPPORTED, "doubleValue")
-    yield from object_faults(tree, name, {"integerValue": lambda inner: scalar_faults("integerValue", inner), "doubleValue": unsupported})
-
-
-def transform_faults(tree):
-    chosen = [name for name in ARITHMETIC + OF_ARRAYS + ("setToServerValue",) if isinstance(tree, dict) and tree.get(name) is not None]
-    if len(chosen) != 1:
-        yield (SHAPE, "updateTransforms")
-        return
-    path = tree.get("fieldPath")
-    names = path_names(path) if isinstance(path, str) else None
-    limit = DEEPEST_VALUE
-    if chosen[0] in OF_ARRAYS and names is not None:
-        limit -= len(names)
-        if limit < 0:
-            yield (DEEP,)
-
-    def server_time(inner):
-        if inner != "REQUEST_TIME":
-            yield (SHAPE, "setToServerValue")
-    readers = {"fieldPath": lambda inner: path_faults("fieldPath", inner), "setToServerValue": server_time}
-    for name in ARITHMETIC:
-        readers[name] = lambda inner, name=name: operand_faults(name, inner)
-    for name in OF_ARRAYS:
-        readers[name] = lambda inner, name=name: object_faults(inner, name, {"values": lambda items: values_faults(items, max(limit, 0))})
-    yield from in_order(tree, readers, ("fieldPath",), bad_member)
-
-
-def transforms_faults(tree):
-    if not isinstance(tree, list):
-        yield (SHAPE, "updateTransforms")
-        return
-    for item in tree:
-        yield from transform_faults(item)
-
-
-def fields_faults(tree, limit):
-    if not isinstance(tree, dict):
-        yield (SHAPE, "fields")
-        return
-    for name, inner in given(tree):
-        if field_name_fault(name):
-            yield (NAME, field_name_fault(name), name)
-        yield from value_faults(inner, name, limit)
+    def snapshot(self, documents):
+        """The documents that it shows and what has changed in them, where it raises a snapshot now, else None."""
+        shown = [printed(documents.shown(name)) for name in self.target.answer(documents.found)]
+        if shown == (self.raised or []):
+            return None
+        changes, self.raised = changes_between(self.raised or [], shown), shown
+        return {"changes": changes, "documents": shown}
 
 
 class Reader:
@@ -352,16 +134,10 @@ class Reader:
 
     def __init__(self, database=DATABASE):
         self.front = database + "/documents/"
-        self.documents, self.batches = Documents(), 0
-
-    def name_faults(self, tree, name="name"):
-        if not isinstance(tree, str):
-            yield (SHAPE, name)
-        elif path_fault(tree, self.front):
-            yield (NAME, path_fault(tree, self.front), tree)
+        self.documents, self.batches, self.targets, self.listeners = Documents(), 0, [], {}
 
     def update_faults(self, tree):
-        readers = {"fields": lambda fields: fields_faults(fields, DEEPEST_VALUE), "name": self.name_faults}
+        readers = {"fields": lambda fields: fields_faults(fields, DEEPEST_VALUE), "name": lambda inner: name_faults(inner, "name", self.front)}
         yield from object_faults(tree, "update", readers, ("name",))
 
     def write_faults(self, tree):
@@ -372,7 +148,7 @@ class Reader:
 
         def unsupported(inner):
             yield (UNSUPPORTED, "transform")
-        readers = {"currentDocument": condition_faults, "delete": lambda inner: self.name_faults(inner, "delete")}
+        readers = {"currentDocument": condition_faults, "delete": lambda inner: name_faults(inner, "delete", self.front)}
         if chosen != ["delete"]:
             readers.update({"update": self.update_faults, "updateMask": mask_faults, "updateTransforms": transforms_faults, "transform": unsupported})
         yield from in_order(tree, readers, (), bad_member)
@@ -391,7 +167,14 @@ class Reader:
         yield from object_faults(tree, "write", {"at": at, "writes": self.writes_faults}, ("at",))
 
     def get_line_faults(self, tree):
-        yield from object_faults(tree, "get", {"name": self.name_faults}, ("name",))
+        yield from object_faults(tree, "get", {"name": lambda inner: name_faults(inner, "name", self.front)}, ("name",))
+
+    def listen_line_faults(self, tree):
+        readers = {"id": id_faults, "target": lambda inner: target_faults(inner, self.front)}
+        yield from object_faults(tree, "listen", readers, ("target",))
+
+    def unlisten_line_faults(self, tree):
+        yield from object_faults(tree, "unlisten", {"id": id_faults})
 
     def line_faults(self, tree):
         members = given(tree) if isinstance(tree, dict) else []
@@ -399,32 +182,78 @@ class Reader:
             yield (SHAPE, "")
             return
         name, inner = members[0]
-        if name == "write":
-            yield from self.write_line_faults(inner)
-        elif name == "get":
-            yield from self.get_line_faults(inner)
+        built = {"write": self.write_line_faults, "get": self.get_line_faults, "listen": self.listen_line_faults, "unlisten": self.unlisten_line_faults}
+        if name in built:
+            yield from built[name](inner)
         else:
             yield (UNSUPPORTED, name) if name in UNBUILT_LINES else (SHAPE, "")
 
-    def answer(self, number, line):
-        """The answer to a line of that number, without its newline."""
+    def number(self):
+        """The number of commits so far."""
+        return self.batches + len(self.targets)
+
+    def write(self, line):
+        writes = line.get("writes") or []
+        if not 1 <= len(writes) <= MOST_WRITES:
+            raise Refused(COUNT, len(writes))
+        self.documents.take(read_time(line["at"]), writes)
+        self.batches += 1
+        return {"ok": {"batch": self.batches, "commit": self.number()}}
+
+    def get(self, line):
+        return {"document": self.documents.shown(line["name"])}
+
+    def listen(self, line):
+        number, target = id_of(line), read_target(line["target"], self.front)
+        if target.broken_rule():
+            raise Refused(QUERY, target.broken_rule())
+        if number in self.listeners:
+            raise Refused(TAKEN, number)
+        if target.spelled() not in self.targets:
+            self.targets.append(target.spelled())
+        self.listeners[number] = Listener(target)
+        return {"ok": {"commit": self.number(), "id": number, "targetId": 2 * self.targets.index(target.spelled()) + 2}}
+
+    def unlisten(self, line):
+        if self.listeners.pop(id_of(line), None) is None:
+            raise Refused(NO_LISTENER, id_of(line))
+        return {"ok": {"commit": self.number(), "id": id_of(line)}}
+
+    def answer(self, line):
+        """The answer to a line; it is taken, or raises Refused."""
         if len(line) > LONGEST:
-            return refused(number, (LENGTH,))
+            raise Refused(LENGTH)
         try:
             tree = read_json(line)
         except NoJson:
-            return refused(number, (SHAPE, ""))
+            raise Refused(SHAPE, "") from None
         faults = list(self.line_faults(tree))
         if faults:
-            return refused(number, min(faults, key=lambda fault: ORDER.index(fault[0])))
-        if tree.get("write") is not None:
-            writes = tree["write"].get("writes") or []
-            if not 1 <= len(writes) <= MOST_WRITES:
-                return refused(number, (COUNT, len(writes)))
-            self.documents.take(read_time(tree["write"]["at"]), writes)
-            self.batches += 1
-            return spelled({"ok": {"batch": self.batches, "commit": self.batches}})
-        return spelled({"document": self.documents.shown(tree["get"]["name"])})
+            raise Refused(*min(faults, key=lambda fault: ORDER.index(fault[0])))
+        (name, inner), = given(tree)
+        return {"write": self.write, "get": self.get, "listen": self.listen, "unlisten": self.unlisten}[name](inner)
+
+    def snapshots(self):
+        """The snapshots that are raised now."""
+        for number in sorted(self.listeners):
+            found = self.listeners[number].snapshot(self.documents)
+            if found is not None:
+                yield {"snapshot": {**found, "commit": self.number(), "fromCache": True, "id": number}}
+
+    def lines(self, number, line):
+        """What is printed for a line of that number, each without its newline."""
+        try:
+            return [spelled(self.answer(line))] + list(map(spelled, self.snapshots()))
+        except Refused as refusal:
+            return [refused(number, *refusal.args)]
+
+
+def id_faults(tree):
+    yield from whole_faults(tree, "id", 0, LAST_LISTENER)
+
+
+def id_of(line):
+    return 0 if line.get("id") is None else read_whole(line["id"])
 
 
 # ---- what is printed ----------------------------------------------------------------------------------------------
@@ -433,179 +262,63 @@ def spelled(tree):
     return json.dumps(tree, ensure_ascii=False, separators=(",", ":"), sort_keys=True).encode()
 
 
-def refused(number, fault):
-    body = {"cause": CAUSES[fault[0]], "line": number, "number": fault[0]}
-    if fault[0] in (SHAPE, UNSUPPORTED):
-        body["member"] = fault[1]
-    if fault[0] == NAME:
-        body["fault"], body["name"] = fault[1:]
-    if fault[0] == COUNT:
-        body["count"] = fault[1]
+def printed(document):
+    """A document of a snapshot: as a get prints it, but that it is there goes without saying."""
+    return {name: inner for name, inner in document.items() if name != "exists"}
+
+
+def refused(number, cause, *besides):
+    body = {"cause": CAUSES[cause], "line": number, "number": cause, **dict(zip(BESIDES.get(cause, []), besides))}
     return spelled({"refused": body})
-
-
-# ---- lines with several faults ------------------------------------------------------------------------------------
-
-RIGHT = [("nullValue", None), ("nullValue", "NULL_VALUE"), ("booleanValue", True), ("booleanValue", False), ("integerValue", 7),
-         ("integerValue", "-9223372036854775808"), ("integerValue", 9223372036854775807), ("integerValue", "-0"), ("stringValue", ""),
-         ("stringValue", "r\u00f6\u00f6m\u0001\U0001f600\"\\/\x7f"), ("timestampValue", "2024-02-29T23:59:59.120Z"),
-         ("timestampValue", "0001-01-01T00:00:00.000000001Z"), ("bytesValue", ""), ("bytesValue", "-w"), ("bytesValue", "+w=="),
-         ("bytesValue", "AAECAw"), ("referenceValue", "projects/p/databases/d/documents/a/b/c/d")]
-WRONG = [("nullValue", 0), ("nullValue", "null"), ("booleanValue", 0), ("integerValue", 1.0), ("integerValue", True), ("integerValue", "01"),
-         ("integerValue", "-"), ("integerValue", 9223372036854775808), ("integerValue", "9223372036854775808"), ("integerValue", -0.0),
-         ("stringValue", 1), ("timestampValue", "2024-02-30T00:00:00Z"), ("timestampValue", "2024-05-01T00:00:00.Z"), ("timestampValue", 5),
-         ("bytesValue", "+x"), ("bytesValue", "-w+w"), ("bytesValue", "+w="), ("bytesValue", "A"), ("bytesValue", []),
-         ("referenceValue", "projects/p/databases/d/documents/a"), ("referenceValue", "projects/p/databases//documents/a/b"),
-         ("referenceValue", "projects/p/databases/d/documents/a/.."), ("referenceValue", "projects/p/databases/d/documents"),
-         ("doubleValue", 1.5), ("geoPointValue", {}), ("doubleValue", None), ("vectorValue", []), ("arrayValue", []), ("mapValue", []),
-         ("mapValue", {"fields": {"__type__": {"stringValue": "__vector__"}}}), ("arrayValue", {"values": {}}), ("mapValue", {"field": {}})]
-FIELD_NAMES = ["a", "b", "c", "A", "_", "1a", "\u00e9", "\ufffd", "\U0001f600", "a b", "__type_", "__", "____", "__a__", "", "x" * 1500, "x" * 1501]
-DOCUMENT_NAMES = ["rooms/a", "rooms/b", "rooms/a/chairs/\u00e9", "rooms", "", "rooms//a", "rooms/..", "rooms/__a__", "rooms/" + "x" * 1501]
-
-
-def built_value(chance, wrong, depth):
-    """A value in which each leaf is wrong with this chance."""
-    if depth and chance.random() < 0.4:
-        if chance.random() < 0.5:
-            inner = {"values": [built_value(chance, wrong, depth - 1) for _ in range(chance.randint(0, 3))]}
-            name = "arrayValue"
-        else:
-            inner, name = {"fields": built_fields(chance, wrong, depth - 1)}, "mapValue"
-        if chance.random() < wrong / 3:
-            inner[chance.choice(["a", "x", "values", "fields"])] = chance.choice([None, 1, [], {}])
-        tree = {name: inner}
-    else:
-        tree = dict([chance.choice(WRONG if chance.random() < wrong else RIGHT)])
-    if chance.random() < wrong / 3:
-        tree[chance.choice(["a", "x", "stringValue", "nullValue", "doubleValue"])] = chance.choice([None, 1, "x"])
-    return {} if chance.random() < wrong / 20 else tree
-
-
-def built_fields(chance, wrong, depth):
-    names = FIELD_NAMES if chance.random() < wrong else FIELD_NAMES[:12]
-    return {name: built_value(chance, wrong, depth) for name in chance.sample(names, chance.randint(0, 4))}
-
-
-def nested_value(chance, tree):
-    """The value inside about as many arrays and maps as may nest."""
-    for _ in range(chance.choice([17, 18, 19, 20, 21, 22])):
-        tree = {"arrayValue": {"values": [tree]}} if chance.random() < 0.5 else {"mapValue": {"fields": {chance.choice(FIELD_NAMES[:12]): tree}}}
-    return tree
-
-
-PATHS = ["a", "b", "c", "a.b", "a.b.c", "a.a", "b.a", "c.a.b", "`a`", "`a`.`b`", "`1a`.a", "`\u00e9`.a", "a b".join("``"), "`\\``.a", "_"]
-WRONG_PATHS = ["", ".", "a.", ".a", "a..b", "`a", "a`", "``", "`a`b", "`\\a`", "1a", "a b", "\u00e9", "__a__", "a.__b__", "`__a__`", "__name__",
-               "__name__.a", "__", "x" * 1500, "x" * 1501, ".".join(["a"] * 20), ".".join(["a"] * 21), ".".join(["a"] * 22), ".".join(["__a__"] * 22)]
-INTEGERS = ["0", "1", "-1", "5", "9223372036854775807", "-9223372036854775808", "9223372036854775806", 3]
-
-
-def plain_value(chance, depth):
-    """A value that masks and transforms find something in."""
-    kind = chance.randrange(5)
-    if depth and kind == 0:
-        return {"mapValue": {"fields": plain_fields(chance, depth - 1)}}
-    if depth and kind == 1:
-        return {"arrayValue": {"values": [plain_value(chance, depth - 1) for _ in range(chance.randint(0, 3))]}}
-    return {"integerValue": chance.choice(INTEGERS)} if kind < 4 else dict([chance.choice(RIGHT)])
-
-
-def plain_fields(chance, depth):
-    return {name: plain_value(chance, depth) for name in chance.sample(["a", "b", "c"], chance.randint(0, 3))}
-
-
-def built_path(chance, wrong):
-    return chance.choice(WRONG_PATHS + [5, None] if chance.random() < wrong / 3 else PATHS)
-
-
-def built_elements(chance, wrong):
-    values = [plain_value(chance, 1) if chance.random() < 0.7 else built_value(chance, wrong, 2) for _ in range(chance.randint(0, 3))]
-    if values and chance.random() < 0.1:
-        values[0] = nested_value(chance, values[0])
-    return spoil(chance, wrong / 3, {"values": values})
-
-
-def built_transform(chance, wrong):
-    name = chance.choice(("setToServerValue",) + ARITHMETIC + OF_ARRAYS)
-    if name == "setToServerValue":
-        operand = "REQUEST_TIME" if chance.random() > wrong / 3 else chance.choice(["REQUEST", 1, {}])
-    elif name in OF_ARRAYS:
-        operand = built_elements(chance, wrong)
-    else:
-        operand = {"integerValue": chance.choice(INTEGERS)} if chance.random() > wrong / 3 else dict([chance.choice(WRONG + RIGHT)])
-        operand = spoil(chance, wrong / 3, operand)
-    return spoil(chance, wrong / 3, {"fieldPath": built_path(chance, wrong), name: operand})
-
-
-def built_condition(chance, wrong):
-    right = [{"exists": True}, {"exists": False}, {"updateTime": "2024-05-01T00:00:01Z"}]
-    return spoil(chance, wrong / 3, dict(chance.choice(right if chance.random() > wrong / 3 else [{"exists": 1}, {"updateTime": "x"}, {}, {"exists": True, "updateTime": "2024-05-01T00:00:01Z"}])))
-
-
-def spoil(chance, wrong, tree):
-    """The object with a member more, fewer or left out by a null, with this chance each."""
-    if chance.random() < wrong:
-        tree[chance.choice(["a", "b", "m", "x", "zz", "updateMask", "currentDocument", "updateTransforms"])] = chance.choice([1, None, {}, "x"])
-    if tree and chance.random() < wrong / 3:
-        name = chance.choice(sorted(tree))
-        tree[name] = chance.choice([None, 1, [], "x", {}])
-    if tree and chance.random() < wrong / 3:
-        del tree[chance.choice(sorted(tree))]
-    return tree
-
-
-def built_name(chance, wrong):
-    return DATABASE + "/documents/" + chance.choice(DOCUMENT_NAMES if chance.random() < wrong else DOCUMENT_NAMES[:3])
-
-
-def built_write(chance, wrong):
-    if chance.random() < 0.1:
-        write = {"delete": built_name(chance, wrong)}
-    else:
-        fields = plain_fields(chance, 3) if chance.random() < 0.6 else built_fields(chance, wrong, 3)
-        if fields and chance.random() < 0.05:
-            deep = chance.choice(sorted(fields))
-            fields[deep] = nested_value(chance, fields[deep])
-        write = {chance.choice(["update"] * 19 + ["transform"]): spoil(chance, wrong, {"fields": fields, "name": built_name(chance, wrong)})}
-    if chance.random() < (0.5 if "delete" not in write else wrong / 3):
-        write["updateMask"] = spoil(chance, wrong / 3, {"fieldPaths": [built_path(chance, wrong) for _ in range(chance.randint(0, 4))]})
-    if chance.random() < (0.4 if "delete" not in write else wrong / 3):
-        write["updateTransforms"] = [built_transform(chance, wrong) for _ in range(chance.randint(0, 3))]
-    if chance.random() < 0.2:
-        write["currentDocument"] = built_condition(chance, wrong)
-    return spoil(chance, wrong / 2, write)
-
-
-def built_line(chance):
-    wrong = chance.choice([0, 0, 0.05, 0.2, 0.5])
-    if chance.random() < 0.4:
-        return json.dumps({"get": spoil(chance, wrong, {"name": built_name(chance, wrong)})}, ensure_ascii=chance.random() < 0.5).encode()
-    count = chance.choice([1] * 15 + [2] * 4 + [3] * 2) if chance.random() > wrong / 10 else chance.choice([0, 500, 501])
-    writes = [built_write(chance, wrong) for _ in range(min(count, 3))]
-    writes += writes[:1] * (count - len(writes))
-    line = spoil(chance, wrong, {"at": chance.choice(["2024-05-01T00:00:01Z", "2024-05-01T00:00:02.5Z"] * 9 + ["2024-05-01"]), "writes": writes})
-    return json.dumps({"write": line}, ensure_ascii=chance.random() < 0.5).encode()
 
 
 # ---- against the program ------------------------------------------------------------------------------------------
 
-def try_lines(program, store, text, counts):
-    """Feeds one run; says what is wrong, or None."""
+def kind_of(answer):
+    """What is counted of a printed line."""
+    (name, body), = json.loads(answer).items()
+    if name == "ok":
+        return "ok of a write" if "batch" in body else "ok of a listen" if "targetId" in body else "ok of an unlisten"
+    if name == "snapshot":
+        return "snapshot of %s" % (", ".join(sorted({change["kind"] for change in body["changes"]})) or "another order")
+    return name if name != "refused" else "refused as " + body["cause"] + (" %d" % body["fault"] if "fault" in body and "name" not in body else "")
+
+
+def shortened(lines):
+    return [line[:600] for line in lines]
+
+
+def targets_in(store):
+    """The targets that the journal has, in their order."""
+    found = read_pair(get_files(store))
+    commits = list(map(read_commit, found[3])) if found[0] == "counts" else []
+    return [members[1] for kind, members in commits if kind == "Allocate"]
+
+
+def try_lines(program, store, reader, text, counts):
+    """Feeds one run, of a store as the reader has it; says what is wrong, or None."""
     try:
         status, output = run_lines(program, store, [text], seconds=120)
     except subprocess.TimeoutExpired:
         return "no end within 120 seconds"
-    reader, given_lines, answers = Reader(), items_of(text), items_of(output)
-    for number, (line, answer) in enumerate(zip(given_lines, answers), 1):
-        wanted = reader.answer(number, line)
-        if wanted != answer:
-            return "line %d, %r: the answer is %r, and %r is due" % (number, line[:600], answer[:600], wanted[:600])
-        kind = json.loads(answer)
-        name = next(iter(kind))
-        what = name if name != "refused" else "refused as " + kind[name]["cause"]
-        counts[what] = counts.get(what, 0) + 1
-    if status != 0 or len(answers) != len(given_lines):
-        return "status %d, and %d answers to %d lines" % (status, len(answers), len(given_lines))
-    return None
+    reader.listeners, came, at = {}, items_of(output), 0
+    for number, line in enumerate(items_of(text), 1):
+        wanted = reader.lines(number, line)
+        found = came[at:at + len(wanted)]
+        if found != wanted:
+            return "line %d, %r: %s is printed, and %s is due" % (number, line[:600], shortened(found), shortened(wanted))
+        at += len(wanted)
+        for what in map(kind_of, found):
+            counts[what] = counts.get(what, 0) + 1
+    if status != 0 or at != len(came):
+        return "status %d, and %d lines are printed where %d are due" % (status, len(came), at)
+    return None if targets_in(store) == reader.targets else "the journal has other targets than were asked for"
+
+
+def built_text(chance, trees, count):
+    """The input of a run."""
+    lines = [built_line(chance) if chance.random() < 0.6 else random_line(chance, trees) for _ in range(count)]
+    return b"\n".join(lines) + chance.choice([b"", b"\n"])
 
 
 def compare(words):
@@ -616,16 +329,16 @@ def compare(words):
             number += 1
             store = os.path.join(folder, "store")
             shutil.rmtree(store, ignore_errors=True)
-            lines = [built_line(chance) if chance.random() < 0.6 else random_line(chance, trees) for _ in range(words.lines)]
-            text = b"\n".join(lines) + chance.choice([b"", b"\n"])
-            wrong = try_lines(program, store, text, counts)
+            reader, texts = Reader(), [built_text(chance, trees, count) for count in (words.lines * 3 // 4, words.lines // 4)]
+            wrong = try_lines(program, store, reader, texts[0], counts) or try_lines(program, store, reader, texts[1], counts)
             if wrong:
-                wrong = "run %d of seed %d: %s; the input is kept as %s" % (number, words.seed, wrong, keep("lines", text))
+                kept = [keep("lines", text) for text in texts]
+                wrong = "store %d of seed %d: %s; the input of its two runs is kept as %s" % (number, words.seed, wrong, " and ".join(kept))
     if wrong:
         print(wrong)
     for what in sorted(counts):
         print("%9d  %s" % (counts[what], what))
-    print("%d lines compared in %d runs, seed %d: %s" % (sum(counts.values()), number, words.seed, "they differ" if wrong else "they agree on all"))
+    print("%d printed lines compared over %d stores, seed %d: %s" % (sum(counts.values()), number, words.seed, "they differ" if wrong else "they agree on all"))
     return 1 if wrong else 0
 
 
@@ -646,7 +359,7 @@ def main():
         return compare(words)
     reader = Reader(words.database)
     for number, line in enumerate(items_of(sys.stdin.buffer.read()), 1):
-        sys.stdout.buffer.write(reader.answer(number, line) + b"\n")
+        sys.stdout.buffer.write(b"".join(printed_line + b"\n" for printed_line in reader.lines(number, line)))
     return 0
 
 

@@ -160,14 +160,23 @@ class Store:
         for place in places:
             self.rows[place] = self.rows[place][0], None
 
-    def shown(self, name):
-        """What the line of a document says of it."""
-        entry, seal = self.entries.get(name, ((None, None, False), None))
-        document, is_pending = entry[0], False
+    def names(self):
+        """The names of the entries, and of pending writes."""
+        return set(self.entries) | {name_of(write) for _, _, writes in self.pending for write in writes}
+
+    def found(self, name):
+        """The document of that name with the pending writes laid over it, or None; and whether one of these names it."""
+        document, is_pending = self.entries.get(name, ((None,),))[0][0], False
         for _, at, writes in self.pending:
             for write in writes:
                 if name_of(write) == name:
                     document, is_pending = after_pending(document, write, at), True
+        return document, is_pending
+
+    def shown(self, name):
+        """What the line of a document says of it."""
+        entry, seal = self.entries.get(name, ((None, None, False), None))
+        document, is_pending = self.found(name)
         state = "pending" if is_pending else "unknown" if not entry[2] else "synced" if seal is None else "committed"
         body = {"exists": document is not None, "name": name, "state": state}
         if document and document[0]:

@@ -4,10 +4,11 @@
     bench/trials/fuzz_lines.py [--program P] [--runs N] [--lines N] [--journals N] [--minutes M] [--seed S]
 
 Lines are built from those of the examples: members left out, doubled, renamed or of another type, values nested deeper,
-bytes broken, lines too long, random bytes. Each run of N lines must end with status 0 and have one line of JSON for each
-input line: `ok` with the next numbers, `document`, or a refusal of a known number with the line's own number. The journal
-must then have one record for each `ok`. Behind each run come N pairs of damaged journal files, at which the status must be
-0, 4 or 7. With --minutes the runs go on for that long.
+bytes broken, lines too long, random bytes. Each run of N lines must end with status 0 and have one answer of JSON for each
+input line: `ok` with the numbers that are due, `document`, or a refusal of a known number with the line's own number; and behind an
+`ok` the snapshots of listeners that are there, ascending, each with something new and the changes that lead to it. The journal must
+then have one record for each batch and each target. Behind each run come N pairs of damaged journal files, at which the status must
+be 0, 4 or 7. With --minutes the runs go on for that long.
 """
 import argparse
 import json
@@ -23,11 +24,14 @@ sys.dont_write_bytecode = True
 sys.path.insert(0, os.path.dirname(os.path.dirname(os.path.abspath(__file__))))
 from client import ROOT, find_program, get_line, memory_folder, run_lines  # noqa: E402
 from readers.journal_reader import get_files, put_files, random_pair, read_pair  # noqa: E402
+from readers.queries import changes_between  # noqa: E402
 
 LONGEST = 4194304
-CAUSES = {1: ("BadLine", {"member"}), 2: ("BadName", {"fault", "name"}), 3: ("Unsupported", {"member"}), 4: ("TooDeep", set()), 5: ("BadWrites", {"count"}),
-          11: ("LineTooLong", set())}
-NAMING_FAULTS = {"WrongRoot", "BadSegment", "OddLength", "BadPath", "ReservedField"}
+LAST_LISTENER = 2**32 - 1
+CAUSES = {1: ("BadLine", {"member": str}), 2: ("BadName", {"fault": str, "name": str}), 3: ("Unsupported", {"member": str}), 4: ("TooDeep", {}),
+          5: ("BadWrites", {"count": int}), 6: ("BadQuery", {"fault": int}), 7: ("ListenerTaken", {"id": int}), 8: ("NoListener", {"id": int}),
+          11: ("LineTooLong", {})}
+FAULTS = {"WrongRoot", "BadSegment", "OddLength", "BadPath", "ReservedField", 1, 2, 3, 4, 5, 6}
 
 
 class Members(list):
@@ -84,6 +88,8 @@ def odd_value(chance):
     names = [front + "/rooms/a", front + "/rooms", front + "/rooms/", front + "//a", front + "/rooms/a/b/c", front,
              front + "/rooms/__a__", front + "/rooms/..", front + "/rooms/" + "x" * 20, front + "/rooms/" + "x" * 21,
              front + "/rooms/\u00e9", front.replace("demo", "other") + "/rooms/a", front + "/r%20/a"]
+    words = ["AND", "OR", "EQUAL", "NOT_EQUAL", "LESS_THAN", "GREATER_THAN_OR_EQUAL", "IN", "NOT_IN", "ARRAY_CONTAINS", "ARRAY_CONTAINS_ANY", "IS_NULL",
+             "IS_NOT_NULL", "IS_NAN", "DESCENDING", "DIRECTION_UNSPECIFIED", "__name__", 2, 3, 2**31 - 1, 2**31, 2**32 - 1, 2**32]
     leaf = Members([(chance.choice(["integerValue", "doubleValue", "bytesValue", "referenceValue", "timestampValue"]),
                      chance.choice(numbers + times + names + ["+w==", "-w", "+x", "AA=", "A"]))])
     for _ in range(chance.choice([0, 1, 2, 19, 20, 21])):
@@ -92,12 +98,14 @@ def odd_value(chance):
     other = [leaf, Members([("arrayValue", Members())]), Members([("mapValue", Members())]), "NULL_VALUE", None, True, False, 0, 1, -1, 1.5, 1e308, 10**30, [], Members(), [[]], Members([("integerValue", "1")]),
              Members([("integerValue", 1)]), Members([("stringValue", "x")]), Members([("nullValue", None)]),
              "\u0000", "\ud7ff", "\U0001f600", "x" * 2000]
-    return chance.choice(chance.choice([numbers, times, names, other]))
+    return chance.choice(chance.choice([numbers, times, names, words, other]))
 
 
 def odd_name(chance):
-    return chance.choice(["", "a", "n", "name", "fields", "write", "writes", "get", "at", "update", "delete", "listen",
-                          "updateMask", "fieldPaths", "updateTransforms", "fieldPath", "increment", "maximum", "appendMissingElements", "removeAllFromArray",
+    return chance.choice(["", "a", "n", "name", "fields", "write", "writes", "get", "at", "update", "delete", "listen", "unlisten", "id", "target",
+                          "documents", "query", "parent", "structuredQuery", "from", "collectionId", "allDescendants", "where", "compositeFilter",
+                          "fieldFilter", "unaryFilter", "filters", "op", "field", "value", "orderBy", "direction", "startAt", "endAt", "before", "limit",
+                          "select", "offset", "findNearest", "updateMask", "fieldPaths", "updateTransforms", "fieldPath", "increment", "maximum", "appendMissingElements", "removeAllFromArray",
                           "setToServerValue", "currentDocument", "exists", "updateTime", "transform", "integerValue", "stringValue", "bytesValue", "arrayValue", "mapValue",
                           "values", "__type__", "doubleValue", "nullValue", "null", "__a__", "\u00e9", "x" * 20, "x" * 21, "1a", "a b", "\u0000"])
 
@@ -197,27 +205,83 @@ def items_of(text):
     return lines[:-1] if lines[-1] == b"" else lines
 
 
-def fault_of(number, line, answer, batches):
-    """What is wrong with the answer of a line, or None; `batches` is how many were made before it."""
-    try:
-        tree = json.loads(answer)
-    except ValueError:
-        return "it is no JSON"
-    if not isinstance(tree, dict) or len(tree) != 1:
-        return "it isn't one member"
-    kind, body = next(iter(tree.items()))
+def groups_of(output):
+    """The printed lines, those of one input line together: its answer, and the snapshots behind it."""
+    groups = []
+    for line in items_of(output):
+        if line.startswith(b'{"snapshot"') and groups:
+            groups[-1].append(line)
+        else:
+            groups.append([line])
+    return groups
+
+
+class Told:
+    """What the printed lines of a run have told so far: batches, targets, and the documents that each listener shows."""
+
+    def __init__(self):
+        self.batches, self.targets, self.listeners = 0, 0, {}
+
+    def number(self):
+        return self.batches + self.targets
+
+    def is_due(self, body):
+        """Whether an `ok` is one that may come; it is counted."""
+        if "batch" in body:
+            self.batches += 1
+            return body == {"batch": self.batches, "commit": self.number()}
+        listener = body.get("id")
+        if "targetId" not in body:
+            return self.listeners.pop(listener, None) is not None and body == {"commit": self.number(), "id": listener}
+        self.targets += body["targetId"] == 2 * self.targets + 2
+        is_free = listener not in self.listeners and 0 <= listener <= LAST_LISTENER
+        self.listeners[listener] = []
+        return is_free and body["targetId"] in range(2, 2 * self.targets + 1, 2) and set(body) == {"commit", "id", "targetId"} and body["commit"] == self.number()
+
+    def snapshot_fault(self, body):
+        """What is wrong with a snapshot, or None; what it shows is kept."""
+        if set(body) != {"changes", "commit", "documents", "fromCache", "id"} or body["fromCache"] is not True or body["commit"] != self.number():
+            return "other members are due"
+        old, new = self.listeners.get(body["id"]), body["documents"]
+        self.listeners[body["id"]] = new
+        if old is None or old == new:
+            return "there is no such listener, or it has shown this"
+        return None if body["changes"] == changes_between(old, new) else "other changes are due"
+
+
+def refusal_fault(number, body):
+    cause, besides = CAUSES.get(body.get("number"), (None, {}))
+    if cause is None or cause != body.get("cause") or body.get("line") != number:
+        return "a refusal with a known number and the line's number is due"
+    if set(body) != {"cause", "line", "number"} | set(besides) or not all(isinstance(body[name], kind) for name, kind in besides.items()):
+        return "the refusal has other members"
+    return None if body.get("fault", 1) in FAULTS else "a known fault is due"
+
+
+def answer_fault(number, line, answer, told):
+    """What is wrong with the answer of a line, or None."""
+    (kind, body), = answer.items()
     if (len(line) > LONGEST) != (kind == "refused" and body.get("number") == 11):
         return "the line has %d bytes" % len(line)
     if kind == "ok":
-        return None if body == {"batch": batches + 1, "commit": batches + 1} else "the batch due is %d" % (batches + 1)
+        return None if told.is_due(body) else "other numbers are due"
     if kind == "document":
         return None if {"exists", "name", "state"} <= set(body) <= {"exists", "fields", "name", "state"} else "other members are due"
-    cause, besides = CAUSES.get(body.get("number"), (None, set()))
-    if kind != "refused" or cause is None or cause != body.get("cause") or body.get("line") != number:
-        return "a refusal with a known number and the line's number is due"
-    if set(body) != {"cause", "line", "number"} | besides or not all(isinstance(body[name], int if name == "count" else str) for name in besides):
-        return "the refusal has other members"
-    return None if body.get("fault", "BadSegment") in NAMING_FAULTS else "a known fault of a name is due"
+    return refusal_fault(number, body) if kind == "refused" else "an answer is due"
+
+
+def fault_of(number, line, group, told):
+    """What is wrong with what is printed for a line, or None."""
+    try:
+        answer, *snapshots = map(json.loads, group)
+        wrong = answer_fault(number, line, answer, told)
+        bodies = [snapshot["snapshot"] for snapshot in snapshots]
+        ids = [body["id"] for body in bodies]
+    except (ValueError, KeyError, TypeError, AttributeError):
+        return "it isn't of a known form"
+    if wrong or ids != sorted(set(ids)) or ids and "ok" not in answer:
+        return wrong or "other snapshots are due"
+    return next(filter(None, map(told.snapshot_fault, bodies)), None)
 
 
 def try_lines(program, store, text, counts):
@@ -226,20 +290,20 @@ def try_lines(program, store, text, counts):
         status, output = run_lines(program, store, [text], seconds=120)
     except subprocess.TimeoutExpired:
         return "no end within 120 seconds"
-    given, answers, batches = items_of(text), items_of(output), 0
-    for number, (line, answer) in enumerate(zip(given, answers), 1):
-        wrong = fault_of(number, line, answer, batches)
+    given, groups, told = items_of(text), groups_of(output), Told()
+    for number, (line, group) in enumerate(zip(given, groups), 1):
+        wrong = fault_of(number, line, group, told)
         if wrong:
-            return "line %d, %r: the answer %r: %s" % (number, line[:300], answer[:300], wrong)
-        kind = next(iter(json.loads(answer)))
-        batches += kind == "ok"
-        counts[kind] = counts.get(kind, 0) + 1
-    if status != 0 or len(answers) != len(given):
-        where = given[len(answers)][:300] if len(answers) < len(given) else b""
-        return "status %d, and %d answers to %d lines; the next line is %r" % (status, len(answers), len(given), where)
+            return "line %d, %r: the answer %r: %s" % (number, line[:300], [printed[:300] for printed in group], wrong)
+        for printed in group:
+            kind = next(iter(json.loads(printed)))
+            counts[kind] = counts.get(kind, 0) + 1
+    if status != 0 or len(groups) != len(given):
+        where = given[len(groups)][:300] if len(groups) < len(given) else b""
+        return "status %d, and %d answers to %d lines; the next line is %r" % (status, len(groups), len(given), where)
     found = read_pair(get_files(store))
-    if found[0] != "counts" or len(found[3]) != batches:
-        return "%d batches were answered, and the journal is %s" % (batches, found[:3])
+    if found[0] != "counts" or len(found[3]) != told.number():
+        return "%d commits were answered, and the journal is %s" % (told.number(), found[:3])
     return None
 
 

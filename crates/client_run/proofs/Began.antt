@@ -5,16 +5,15 @@ use Rattle.host_api.proofs.Spans.{spans_then, spans_weaker}
 use Rattle.disk_journal.specs.Steps.{GiveSame, IsOrGivesSame, Opens, Settled}
 use Rattle.disk_journal.proofs.Pairs.{gives_once}
 use Rattle.document_keys.specs.Names.{Root}
+use Rattle.sync_engine.specs.Standing.{Kept, StandsFor}
 use Rattle.client_run.specs.Causes.{Causes, NoFaults}
 use Rattle.client_run.specs.Crash.{Keeps, Survives, FindsHandled, FindsAtEnd, Crashes}
-use Rattle.client_run.specs.Output.{Call, called, TookNothing}
+use Rattle.client_run.specs.Output.{Call, IsRun, called, TookNothing}
 use Rattle.client_run.specs.Run.{Ran}
 use Rattle.local_store.specs.Files.{FindsState}
 use Rattle.local_store.specs.State.{State, LeadsTo}
 use Rattle.local_store.specs.Files.{IsNoStore}
-use Rattle.client_run.specs.Turned.{StandsFor}
-use Rattle.local_store.specs.Store.{Store}
-use Rattle.client_run.specs.declared.reading.Reading.{Reading}
+use Rattle.client_run.specs.History.{History}
 use Rattle.client_run.specs.declared.status.Status.{Status}
 use Rattle.client_run.specs.declared.status.Status.TheVariants.{Done, Usage, SourceFault, DiskFault, SinkFault, NoMemory, NotAStore, Budget}
 use Rattle.local_store.proofs.Replayed.{find_once}
@@ -49,6 +48,9 @@ settled_crashes : {H : Type 0} (view : H → View) → ((h : H) → OnlyNow (vie
 settled_crashes view only_now how call left {old} {new} out finds leaves settled =
     inl (synced_from how call [] (only_now settled.host) out settled.out settled.stays (settled_finds view finds settled) (settled_spans view call out finds settled) (λ c left. leaves c (same_finds finds (settled.crash c left))))
 
+nothing_ran : {call : Call} → IsRun call []
+nothing_ran = record { turns = tt; read = tt }
+
 -- the disk failed before the first line
 pub disk_first : {H : Type 0} (view : H → View) → ((h : H) → OnlyNow (view h)) → (root : Root) (left : List ℕ) (s : State) (budget : ℕ) (tells_out : Bool) (old new : View) → 1 ≤ budget → new.out ≡ old.out → FindsState old.bytes s → Stays old new ⊎ Settled view old new
     → Ran (called root left s budget tells_out old.out) DiskFault left old new
@@ -56,8 +58,8 @@ disk_first view only_now root left s budget tells_out old new some same finds ho
     let call = called root left s budget tells_out old.out in
     let nothing : TookNothing call [] left = record { none = refl; others = refl } in
     record {
-      readings = [];
-      read = tt;
+      history = [];
+      run = nothing_ran;
       within = omega arith;
       ends = record { handled = omega (arith, some); taken = inr nothing; written = λ told. same ∙ sym (append-nil old.out) };
       crash = λ out. ⊎_elim (λ stays. inr (record { stopped = inl refl; nothing = nothing; before = stays })) (settled_crashes view only_now DiskFault call left refl finds (λ c h. inl h)) how;
@@ -69,8 +71,8 @@ pub memory_first : {H : Type 0} (view : H → View) → ((h : H) → OnlyNow (vi
 memory_first view only_now root left s budget tells_out old new some same finds how =
     let call = called root left s budget tells_out old.out in
     record {
-      readings = [];
-      read = tt;
+      history = [];
+      run = nothing_ran;
       within = omega arith;
       ends = record { handled = omega (arith, some); taken = inl (record { rest = left; others = refl; suffix = ([], refl) }); written = λ told. same ∙ sym (append-nil old.out) };
       crash = λ out. ⊎_elim (λ stays. inr (record { stopped = inr refl; nothing = record { none = refl; others = refl }; before = stays })) (settled_crashes view only_now NoMemory call left refl finds (λ c h. inl h)) how;
@@ -78,17 +80,17 @@ memory_first view only_now root left s budget tells_out old new some same finds 
 
 -- ---- an opening, and then a run
 
-none_leaves : (how : Status) (call : Call) (readings : List Reading) (c : Files) → (how ≡ DiskFault) ⊎ (how ≡ NoMemory) → readings ≡ [] → FindsState c call.first → FindsAtEnd how call readings c
-none_leaves how call readings c stopped none finds =
-    let handled : FindsHandled call readings c = subst (λ (rs : List Reading). FindsHandled call rs c) (sym none) finds in
+none_leaves : (how : Status) (call : Call) (history : History) (c : Files) → (how ≡ DiskFault) ⊎ (how ≡ NoMemory) → history ≡ [] → FindsState c call.first → FindsAtEnd how call history c
+none_leaves how call history c stopped none finds =
+    let handled : FindsHandled call history c = subst (λ (h : History). FindsHandled call h c) (sym none) finds in
     ⊎_elim
-    (λ is. subst (λ (h : Status). FindsAtEnd h call readings c) (sym is) (inl handled))
-    (λ is. subst (λ (h : Status). FindsAtEnd h call readings c) (sym is) (inl handled))
+    (λ is. subst (λ (h : Status). FindsAtEnd h call history c) (sym is) (inl handled))
+    (λ is. subst (λ (h : Status). FindsAtEnd h call history c) (sym is) (inl handled))
     stopped
 
-crashes_from : {H : Type 0} (view : H → View) → ((h : H) → OnlyNow (view h)) → (how : Status) (call : Call) (readings : List Reading) (left : List ℕ) {old mid new : View} → call.out ≡ old.out → mid.out ≡ old.out → FindsState old.bytes call.first → Settled view old mid → Crashes how call readings left mid new → Crashes how call readings left old new
-crashes_from view only_now how call readings left {old} {mid} {new} out same finds settled crashes =
-    inl (synced_from how call readings (only_now settled.host) out settled.out settled.stays (settled_finds view finds settled) (spans_then (Survives call) (settled_spans view call out finds settled) after_it (λ o c h. h) (λ o c h. h)) (at_end crashes))
+crashes_from : {H : Type 0} (view : H → View) → ((h : H) → OnlyNow (view h)) → (how : Status) (call : Call) (history : History) (left : List ℕ) {old mid new : View} → call.out ≡ old.out → mid.out ≡ old.out → FindsState old.bytes call.first → Settled view old mid → Crashes how call history left mid new → Crashes how call history left old new
+crashes_from view only_now how call history left {old} {mid} {new} out same finds settled crashes =
+    inl (synced_from how call history (only_now settled.host) out settled.out settled.stays (settled_finds view finds settled) (spans_then (Survives call) (settled_spans view call out finds settled) after_it (λ o c h. h) (λ o c h. h)) (at_end crashes))
   where
     still : (o : List ℕ) (c : Files) → (o ≡ mid.out) × mid.may_leave c → Survives call o c
     still o c h = survives_first call o c (h.0 ∙ same ∙ sym out) (same_finds finds (settled.crash c h.1))
@@ -99,23 +101,23 @@ crashes_from view only_now how call readings left {old} {mid} {new} out same fin
         (λ unsynced. spans_weaker (Survives call) unsynced.before.time still)
         crashes
 
-    at_end : Crashes how call readings left mid new → (c : Files) → new.may_leave c → FindsAtEnd how call readings c
+    at_end : Crashes how call history left mid new → (c : Files) → new.may_leave c → FindsAtEnd how call history c
     at_end (inl synced) c now = synced.at_end c now
-    at_end (inr unsynced) c now = none_leaves how call readings c unsynced.stopped unsynced.nothing.none (same_finds finds (settled.crash c (unsynced.before.crash c now)))
+    at_end (inr unsynced) c now = none_leaves how call history c unsynced.stopped unsynced.nothing.none (same_finds finds (settled.crash c (unsynced.before.crash c now)))
 
 -- an opening wrote nothing
 pub ran_from : {H : Type 0} (view : H → View) → ((h : H) → OnlyNow (view h)) → (how : Status) (call : Call) (left : List ℕ) {old mid new : View} → call.out ≡ old.out → mid.out ≡ old.out → FindsState old.bytes call.first → Settled view old mid → Ran call how left mid new → Ran call how left old new
 ran_from view only_now how call left out same finds settled it = record {
-  readings = it.readings;
-  read = it.read;
+  history = it.history;
+  run = it.run;
   within = it.within;
   ends = it.ends;
-  crash = λ told. crashes_from view only_now how call it.readings left out same finds settled (it.crash told);
+  crash = λ told. crashes_from view only_now how call it.history left out same finds settled (it.crash told);
 }
 
--- a store that was opened over files that find a state stands for it
-pub opened_stands : {store : Store} {s : State} {files : Files} → FindsState files store.state → FindsState files s → StandsFor store s []
-opened_stands {store} {s} {files} first second = record { state = find_once files store.state s first second }
+-- a client that was opened over files that find a state stands for it
+pub opened_stands : {client : Kept} {s : State} {files : Files} → StandsFor client client.store.state [] → FindsState files client.store.state → FindsState files s → StandsFor client s []
+opened_stands {client} {s} {files} stands first second = subst (λ (t : State). StandsFor client t []) (find_once files client.store.state s first second) stands
 
 -- ---- the files of a store
 

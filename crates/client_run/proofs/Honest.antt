@@ -1,162 +1,219 @@
--- All that a run asks of the turn of a line: it writes whole lines, which report no number above that after its commit, and
--- its commit fits and has a spelling.
-use Rattle.std.proofs.Common.{◌≡◌, ℕ, ◌+◌, ◌<◌, ◌≤◌, ◌^◌, List, [], ◌∷◌, ◌++◌, codes, Bool, true, false, nat_lt, if◌then◌else◌, Option, Some, None, IfSome, refl, sym, ap, subst, ◌∙◌, arith}
-use Rattle.std.specs.List.{All}
-use Rattle.std.proofs.lemmas.Bool.{ltb-true}
-use Rattle.std.proofs.lemmas.List.Elements.{All-nil, All-cons, All-append}
-use Rattle.json.specs.Tree.{HasNumbers, ItemsHaveNumbers, MembersHaveNumbers}
-use Rattle.json.proofs.Printed.Decimals.{IsNumber-decimal}
-use Rattle.serde_json.specs.Data as json
-use Rattle.serde_json.specs.Find.{get}
-use Rattle.serde_json.specs.Written.{outline, items_outline, members_outline, compact_text}
-use Rattle.document_keys.specs.Names.{Root, name_text}
-use Rattle.value_model.specs.Data as kind
-use Rattle.value_model.specs.Data.{Data, Items, Members, Entries, members_of}
-use Rattle.value_model.specs.declared.document.DocState.{DocState}
-use Rattle.value_model.specs.declared.document.Document.{Document}
-use Rattle.json_model.specs.Printed.{printed_value, printed_items, printed_members, values_tree, fields_tree, with_time, state_text, document_tree as body_tree}
-use Rattle.value_model.specs.declared.timestamp.Timestamp.{Timestamp}
-use Rattle.mutations.specs.declared.write.Write.{Write}
-use Rattle.record_codec.specs.declared.commit.Commit.TheVariants.{Enqueue}
-use Rattle.record_codec.specs.Spelling.{HasSpelling}
-use Rattle.client_run.specs.Trees.{one}
-use Rattle.client_run.specs.Lines.{wrote, line_of, ok_tree, refused_tree, existing, document_tree}
-use Rattle.client_run.specs.Reported.{IsReporting, Reports, ReportsWithin, ReportedWithin, lines_on, whole_lines}
+-- What the turn of a line writes: whole lines, which report no number above that of the state after its commit.
+use Rattle.std.proofs.Common.{◌≡◌, ℕ, ◌+◌, ◌<◌, ◌≤◌, ◌^◌, ℤ, pos, nat_abs, suc, zero, Bool, true, false, not, nat_eq, nat_lt, List, [], ◌∷◌, ◌++◌, map as each, length, Option, Some, None, option_map, is_none, if◌then◌else◌, refl, sym, subst, arith}
+use Rattle.std.specs.List.{All, slice_get}
+use Rattle.std.proofs.lemmas.Bool.{and_parts, eqb-true, ltb-true}
+use Rattle.std.proofs.lemmas.Option.{none-some}
+use Rattle.std.proofs.lemmas.List.Elements.{All-nil, All-cons, All-head, All-tail, All-append}
+use Rattle.document_keys.specs.Names.{Root}
+use Rattle.client_events.specs.Spelled.{IsSpelledEvent}
+use Rattle.client_events.specs.declared.event.Event.{Event}
+use Rattle.client_events.specs.declared.event.Event.TheVariants as event
+use Rattle.line_printer.specs.Lines.{line_of}
+use Rattle.line_printer.proofs.Within as within
+use Rattle.line_printer.proofs.Within.{IsWithin, within_append, within_nothing, within_one}
+use Rattle.line_reader.specs.Spelled.{IsSpelledReading}
+use Rattle.line_reader.specs.declared.reading.Reading.{Reading}
+use Rattle.line_reader.specs.declared.reading.Reading.TheVariants.{Line as an_event, Refused}
+use Rattle.line_reader.specs.declared.refusal.Refusal.{Refusal as Unread}
+use Rattle.line_reader.specs.declared.refusal.Refusal.TheVariants.{LineTooLong, BadLine, TooDeep, Unsupported, BadName, BadWrites, BadQuery}
+use Rattle.record_codec.specs.declared.commit.Commit.{Commit}
+use Rattle.record_codec.specs.declared.commit.Commit.TheVariants.{Enqueue, Allocate}
 use Rattle.local_store.specs.Documents.{document_of, standing_of}
-use Rattle.local_store.specs.State.{State, Fits, most_commits}
-use Rattle.client_run.specs.Turn.{Turn, Past, refused, commits, enqueued, turn, after, printed}
-use Rattle.client_run.specs.Reading.{HasCount, HasCounts, IsStorableReading}
-use Rattle.client_run.proofs.Storable.{batch_spelled}
-use Rattle.client_run.specs.declared.event.Event.TheVariants as event
-use Rattle.client_run.specs.declared.reading.Reading.{Reading}
-use Rattle.client_run.specs.declared.reading.Reading.TheVariants.{Line, Refused}
-use Rattle.client_run.specs.declared.refusal.Refusal.{Refusal}
-use Rattle.client_run.specs.declared.refusal.Refusal.TheVariants.{LineTooLong, BadLine, TooDeep, Unsupported, BadName, BadWrites, IdsSpent}
-use Rattle.client_run.proofs.Breaks.{open_on, lines_append, open_append, one_line, nothing_open}
-use Rattle.client_run.proofs.Parsed.{no_report, ok_within}
+use Rattle.local_store.specs.State.{State, most_commits}
+use Rattle.queries.specs.declared.raw.QueryRule.{QueryRule}
+use Rattle.queries.specs.declared.raw.QueryRule.TheVariants as rule
+use Rattle.queries.specs.declared.target.Target.{Target}
+use Rattle.target_cache.specs.Cache.{TellsId, id_at}
+use Rattle.views.specs.Viewed.{Viewed}
+use Rattle.views.specs.declared.raised.Raised.{Raised}
+use Rattle.sync_engine.specs.Answers.{Answers, Begins, after, are_left, commits, ends, enqueued, last_target, listens, refused}
+use Rattle.sync_engine.specs.Lines.{Line, Told, wrote, listening, unlistened, document}
+use Rattle.sync_engine.specs.Past.{Turn, Past, asked, listener, raised_in, told}
+use Rattle.sync_engine.specs.Settling.{Settles, ShowsAt, told_to}
+use Rattle.sync_engine.specs.Turn.{SettlesAfter, snapshot_line}
+use Rattle.sync_engine.specs.declared.refusal.Refusal.{Refusal}
+use Rattle.sync_engine.specs.declared.refusal.Refusal.TheVariants.{ListenerTaken, NoListener, IdsSpent}
+use Rattle.sync_engine.proofs.Handing.{all_told}
+use Rattle.client_run.specs.Laws.{ATurnReportsWithin, HasListenerIds, IsCounted}
+use Rattle.client_run.specs.Printed.{printed, refusal_text, rule_number, text_of, tree_of, unheard_tree, unread_tree}
+use Rattle.client_run.specs.Turn.{LineTurn, IsLineTurn, and_heard, entry_of, of_event, unheard}
 
--- whole lines that report no number above this one
-pub record IsWithin (most : ℕ) (output : List ℕ) : Type 0 where
-  pub whole : open_on [] output ≡ []
-  pub within : ReportedWithin most output
+-- ---- refusals
 
-pub record IsHonest (root : Root) (number : ℕ) (s : State) (reading : Reading) (t : Turn) : Type 0 where
-  pub output : IsWithin (after s t.commit).number (printed root number t)
-  pub commit : IsStorableReading reading → IfSome t.commit (λ c. Fits s c × HasSpelling c)
-
--- ---- lines, one after another
-
-within_nothing : (most : ℕ) → IsWithin most []
-within_nothing most = record { whole = refl; within = All-nil (ReportsWithin most) }
-
-within_append : (most : ℕ) (a b : List ℕ) → IsWithin most a → IsWithin most b → IsWithin most (a ++ b)
-within_append most a b first second = record {
-  whole = open_append [] a b ∙ ap (λ (l : List ℕ). open_on l b) first.whole ∙ second.whole;
-  within = subst (λ (ls : List (List ℕ)). All (ReportsWithin most) ls)
-      (ap (λ (l : List ℕ). whole_lines a ++ lines_on l b) (sym first.whole) ∙ sym (lines_append [] a b))
-      (All-append (ReportsWithin most) (whole_lines a) (whole_lines b) first.within second.within);
-}
-
--- one line and no more
-within_one : (most : ℕ) (a : List ℕ) → IsWithin most a → IsWithin most (a ++ [])
-within_one most a first = within_append most a [] first (within_nothing most)
-
--- ---- one line
-
-line_within : (most : ℕ) (d : json.Data) → ((n : ℕ) → Reports (compact_text d) n → n ≤ most) → IsWithin most (line_of d)
-line_within most d within = record {
-  whole = nothing_open d;
-  within = subst (λ (ls : List (List ℕ)). All (ReportsWithin most) ls) (sym (one_line d)) (All-cons (ReportsWithin most) (compact_text d) [] within (All-nil (ReportsWithin most)));
-}
-
--- an object with one member that reports nothing
-quiet_within : (most : ℕ) (name : List ℕ) (d : json.Data) → HasNumbers (outline d) → ((reporting : List ℕ) → IsReporting reporting → (e : json.Data) → get reporting (one name e) ≡ None) → IsWithin most (line_of (one name d))
-quiet_within most name d numbers other = line_within most (one name d) (λ n reports. absurd (no_report name d numbers other n reports))
-
-refused_quiet : (reporting : List ℕ) → IsReporting reporting → (e : json.Data) → get reporting (one (codes "refused") e) ≡ None
-refused_quiet reporting IsReporting.in_ok e = refl
-refused_quiet reporting IsReporting.in_result e = refl
-refused_quiet reporting IsReporting.in_rejected e = refl
-refused_quiet reporting IsReporting.in_snapshot e = refl
-
-refused_within : (most line : ℕ) (refusal : Refusal) → line < 2 ^ 64 → HasCount refusal → IsWithin most (line_of (refused_tree line refusal))
-refused_within most line LineTooLong small counts = quiet_within most (codes "refused") _ (tt, (IsNumber-decimal line small, (IsNumber-decimal 11 (omega arith), tt))) refused_quiet
-refused_within most line (BadLine name) small counts = quiet_within most (codes "refused") _ (tt, (IsNumber-decimal line small, (tt, (IsNumber-decimal 1 (omega arith), tt)))) refused_quiet
-refused_within most line TooDeep small counts = quiet_within most (codes "refused") _ (tt, (IsNumber-decimal line small, (IsNumber-decimal 4 (omega arith), tt))) refused_quiet
-refused_within most line IdsSpent small counts = quiet_within most (codes "refused") _ (tt, (IsNumber-decimal line small, (IsNumber-decimal 12 (omega arith), tt))) refused_quiet
-refused_within most line (BadWrites writes) small counts = quiet_within most (codes "refused") _ (tt, (IsNumber-decimal writes counts, (IsNumber-decimal line small, (IsNumber-decimal 5 (omega arith), tt)))) refused_quiet
-refused_within most line (Unsupported name) small counts = quiet_within most (codes "refused") _ (tt, (IsNumber-decimal line small, (tt, (IsNumber-decimal 3 (omega arith), tt)))) refused_quiet
-refused_within most line (BadName bad) small counts = quiet_within most (codes "refused") _ (tt, (tt, (IsNumber-decimal line small, (tt, (IsNumber-decimal 2 (omega arith), tt))))) refused_quiet
-
--- ---- a document
-
-values_numbers : (ds : json.Items) → ItemsHaveNumbers (items_outline ds) → HasNumbers (outline (values_tree ds))
-values_numbers json.no_items numbers = tt
-values_numbers (json.item d ds) numbers = (numbers, tt)
-
-fields_numbers : (ms : json.Members) → MembersHaveNumbers (members_outline ms) → HasNumbers (outline (fields_tree ms))
-fields_numbers json.no_members numbers = tt
-fields_numbers (json.member name d ms) numbers = (numbers, tt)
-
-mutual
-  value_numbers : (value : Data) → HasNumbers (outline (printed_value value))
-  value_numbers kind.null = (tt, tt)
-  value_numbers (kind.array ds) = (values_numbers (printed_items ds) (items_numbers ds), tt)
-  value_numbers (kind.map ms) = (fields_numbers (printed_members ms) (members_numbers ms), tt)
-  value_numbers value = (tt, tt)
-
-  items_numbers : (ds : Items) → ItemsHaveNumbers (items_outline (printed_items ds))
-  items_numbers kind.no_items = tt
-  items_numbers (kind.item d ds) = (value_numbers d, items_numbers ds)
-
-  members_numbers : (ms : Members) → MembersHaveNumbers (members_outline (printed_members ms))
-  members_numbers kind.no_members = tt
-  members_numbers (kind.member name d ms) = (value_numbers d, members_numbers ms)
-
-document_quiet : (reporting : List ℕ) → IsReporting reporting → (e : json.Data) → get reporting (one (codes "document") e) ≡ None
-document_quiet reporting IsReporting.in_ok e = refl
-document_quiet reporting IsReporting.in_result e = refl
-document_quiet reporting IsReporting.in_rejected e = refl
-document_quiet reporting IsReporting.in_snapshot e = refl
-
-time_numbers : (at : Option Timestamp) → MembersHaveNumbers (members_outline (with_time at))
-time_numbers None = tt
-time_numbers (Some time) = (tt, tt)
-
-existing_numbers : (name how : List ℕ) (fields : Entries) (at : Option Timestamp) → HasNumbers (outline (existing (body_tree name fields at how)))
-existing_numbers name how [] at = (tt, (tt, (tt, time_numbers at)))
-existing_numbers name how (field ∷ fields) at = (tt, (members_numbers (members_of (field ∷ fields)), (tt, (tt, time_numbers at))))
-
-document_within : (most : ℕ) (root : Root) (key : List (List ℕ)) (document : Option Document) (how : DocState) → IsWithin most (line_of (document_tree root key document how))
-document_within most root key None how = quiet_within most (codes "document") _ (tt, (tt, (tt, tt))) document_quiet
-document_within most root key (Some found) how = quiet_within most (codes "document") _ (existing_numbers (name_text root key) (state_text how) found.fields found.update_time) document_quiet
-
--- ---- each turn
-
-refused_honest : (root : Root) (number : ℕ) (s : State) (reading : Reading) (refusal : Refusal) → number < 2 ^ 64 → HasCount refusal → IsHonest root number s reading (refused refusal)
-refused_honest root number s reading refusal long counts = record {
-  output = within_one s.number (line_of (refused_tree number refusal)) (refused_within s.number number refusal long counts);
-  commit = λ spelled. tt;
-}
-
-enqueued_honest : (root : Root) (number : ℕ) (s : State) (at : Timestamp) (writes : List Write) → s.next_batch ≤ s.number + 1 → number < 2 ^ 64 → IsHonest root number s (Line (event.Write at writes)) (enqueued s at writes)
-enqueued_honest root number s at writes next long = by_number (nat_lt s.number most_commits) refl
+unread_within : (most number : ℕ) (refusal : Unread) → number < 2 ^ 64 → IsSpelledReading (Refused refusal) → IsWithin most (line_of (unread_tree number refusal))
+unread_within most number LineTooLong few is = within.too_long_within most number few
+unread_within most number (BadLine member) few is = within.bad_line_within most number member few
+unread_within most number TooDeep few is = within.too_deep_within most number few
+unread_within most number (Unsupported member) few is = within.unsupported_within most number member few
+unread_within most number (BadName bad) few is = within.bad_name_within most number _ bad.name few
+unread_within most number (BadWrites count) few is = within.bad_writes_within most number count few is
+unread_within most number (BadQuery broken) few is = within.bad_query_within most number (rule_number broken) few (small broken)
   where
-    by_number : (left : Bool) → nat_lt s.number most_commits ≡ left
-        → IsHonest root number s (Line (event.Write at writes)) (if left then commits (Enqueue (record { id = s.next_batch; at = at; writes = writes })) (wrote s.next_batch (s.number + 1) ∷ []) else refused IdsSpent)
-    by_number true is =
-        let few : s.number < most_commits = ltb-true s.number most_commits is in
-        record {
-          output = within_one (s.number + 1) (line_of (ok_tree s.next_batch (s.number + 1))) (line_within (s.number + 1) (ok_tree s.next_batch (s.number + 1)) (ok_within s.next_batch (s.number + 1) (omega (arith, few, next)) (omega (arith, few))));
-          commit = λ holds. ((record { id = refl; some = holds.1.some; most = holds.1.few }, few), batch_spelled s.next_batch at writes (omega (arith, few, next)) holds.0 holds.1);
-        }
-    by_number false is = refused_honest root number s (Line (event.Write at writes)) IdsSpent long tt
+    small : (r : QueryRule) → rule_number r < 2 ^ 64
+    small rule.OneCollection = omega arith
+    small rule.Negations = omega arith
+    small rule.Lists = omega arith
+    small rule.Cursors = omega arith
+    small rule.Limit = omega arith
+    small rule.ArrayFilters = omega arith
 
-pub turn_honest : (root : Root) (number : ℕ) (s : State) (past : Past) (reading : Reading) → s.next_batch ≤ s.number + 1 → number < 2 ^ 64 → HasCounts reading → IsHonest root number s reading (turn root s past reading)
-unfolding turn
-turn_honest root number s past (Refused refusal) next long counts = refused_honest root number s (Refused refusal) refusal long counts
-turn_honest root number s past (Line (event.Write at writes)) next long counts = enqueued_honest root number s at writes next long
-turn_honest root number s past (Line (event.Get key)) next long counts = record {
-  output = within_one s.number (line_of (document_tree root key (document_of s key) (standing_of s key))) (document_within s.number root key (document_of s key) (standing_of s key));
-  commit = λ spelled. tt;
-}
+-- the id of a listener that is refused fits
+abbrev IsSmallRefusal : Refusal → Type 0
+IsSmallRefusal (ListenerTaken id) = id < 2 ^ 32
+IsSmallRefusal (NoListener id) = id < 2 ^ 32
+IsSmallRefusal IdsSpent = Unit {0}
+
+unheard_within : (most number : ℕ) (refusal : Refusal) → number < 2 ^ 64 → IsSmallRefusal refusal → IsWithin most (line_of (unheard_tree number refusal))
+unheard_within most number (ListenerTaken id) few small = within.listener_taken_within most number id few (omega (arith, small))
+unheard_within most number (NoListener id) few small = within.no_listener_within most number id few (omega (arith, small))
+unheard_within most number IdsSpent few small = within.ids_spent_within most number few
+
+-- ---- lines
+
+abbrev LineWithin : Root → ℕ → Line → Type 0
+LineWithin root most line = IsWithin most (line_of (tree_of root line))
+
+lines_within : (root : Root) (most : ℕ) (lines : List Line) → All (LineWithin root most) lines → IsWithin most (text_of root lines)
+lines_within root most [] all = within_nothing most
+lines_within root most (line ∷ lines) all = within_append most (line_of (tree_of root line)) (text_of root lines) (All-head (LineWithin root most) line lines all) (lines_within root most lines (All-tail (LineWithin root most) line lines all))
+
+-- an answer that is refused has no lines, and one that isn't has lines that report within the state after it
+pub record AnswerWithin (root : Root) (number : ℕ) (s : State) (answer : Turn) : Type 0 where
+  pub refusal : IsWithin (after s answer.commit).number (refusal_text number (option_map unheard answer.refusal))
+  pub lines : All (LineWithin root (after s answer.commit).number) answer.lines
+
+refused_answer : (root : Root) (number : ℕ) (s : State) (refusal : Refusal) → number < 2 ^ 64 → IsSmallRefusal refusal → AnswerWithin root number s (refused refusal)
+refused_answer root number s refusal few small = record { refusal = unheard_within s.number number refusal few small; lines = All-nil (LineWithin root s.number) }
+
+one_answer : (root : Root) (most : ℕ) (line : Line) → LineWithin root most line → All (LineWithin root most) (line ∷ [])
+one_answer root most line is = All-cons (LineWithin root most) line [] is (All-nil (LineWithin root most))
+
+inside : {X : Type 0} (xs : List X) (i : ℕ) (x : X) → slice_get xs i ≡ Some x → i < length xs
+inside [] i x is = absurd (none-some x is)
+inside (y ∷ xs) zero x is = omega arith
+inside (y ∷ xs) (suc i) x is = let less = inside xs i x is in omega (arith, less)
+
+module _ (root : Root) (number : ℕ) (s : State) (past : Past) (counted : IsCounted s) (few : number < 2 ^ 64) where
+  write_within : (at : _) (writes : _) → AnswerWithin root number s (enqueued s at writes)
+  write_within at writes = by (nat_lt s.number most_commits) refl
+    where
+      by : (left : Bool) → nat_lt s.number most_commits ≡ left → AnswerWithin root number s (if left then commits (Enqueue (record { id = s.next_batch; at = at; writes = writes })) (wrote s.next_batch (s.number + 1) ∷ []) else refused IdsSpent)
+      by true is =
+          let less = ltb-true s.number most_commits is in
+          record { refusal = within_nothing (s.number + 1); lines = one_answer root (s.number + 1) (wrote s.next_batch (s.number + 1)) (within.ok_within s.next_batch (s.number + 1) (omega (arith, less, counted.next)) (omega (arith, less))) }
+      by false is = refused_answer root number s IdsSpent few tt
+
+  listens_within : (id : ℕ) (query : Target) (found : Option ℤ) → id < 2 ^ 32 → TellsId s.rows query found → AnswerWithin root number s (listens s id query found)
+  listens_within id query (Some at) small tells =
+      let has = (tells at).1 refl in
+      let place = inside s.rows has.of_id.place has.row has.of_id.there in
+      let bound : nat_abs at < 2 ^ 63 = subst (λ (z : ℤ). nat_abs z < 2 ^ 63) (sym has.of_id.is) (omega (arith, place, counted.rows)) in
+      record { refusal = within_nothing s.number; lines = one_answer root s.number (listening id at s.number) (within.listening_within id s.number at (omega (arith, small)) bound (omega (arith, counted.within))) }
+  listens_within id query None small tells = by (are_left s) refl
+    where
+      by : (left : Bool) → are_left s ≡ left → AnswerWithin root number s (if left then commits (Allocate (id_at (length s.rows)) query) (listening id (pos (id_at (length s.rows))) (s.number + 1) ∷ []) else refused IdsSpent)
+      by true is =
+          let parts = and_parts (nat_lt s.number most_commits) (not (nat_lt last_target (id_at (length s.rows)))) is in
+          let less = ltb-true s.number most_commits parts.0 in
+          record { refusal = within_nothing (s.number + 1); lines = one_answer root (s.number + 1) (listening id (pos (id_at (length s.rows))) (s.number + 1)) (within.listening_within id (s.number + 1) (pos (id_at (length s.rows))) (omega (arith, small)) (omega (arith, counted.rows)) (omega (arith, less))) }
+      by false is = refused_answer root number s IdsSpent few tt
+
+  begins_within : (id : ℕ) (query : Target) (view : Option Viewed) (answer : Turn) → id < 2 ^ 32 → Begins s id query view answer → AnswerWithin root number s answer
+  begins_within id query (Some view) answer small is = subst (AnswerWithin root number s) (sym is) (refused_answer root number s (ListenerTaken id) few small)
+  begins_within id query None answer small is = subst (AnswerWithin root number s) (sym is.2) (listens_within id query is.0 small is.1)
+
+  ends_within : (id : ℕ) (view : Option Viewed) → id < 2 ^ 32 → AnswerWithin root number s (ends s id view)
+  ends_within id None small = refused_answer root number s (NoListener id) few small
+  ends_within id (Some view) small = record { refusal = within_nothing s.number; lines = one_answer root s.number (unlistened id s.number) (within.unlistened_within id s.number (omega (arith, small)) (omega (arith, counted.within))) }
+
+  answer_within : (e : Event) (answer : Turn) → IsSpelledEvent e → Answers s past e answer → AnswerWithin root number s answer
+  answer_within (event.Write at writes) answer spelled is = subst (AnswerWithin root number s) (sym is) (write_within at writes)
+  answer_within (event.Get key) answer spelled is = subst (AnswerWithin root number s) (sym is)
+      (record { refusal = within_nothing s.number; lines = one_answer root s.number (document key (document_of s key) (standing_of s key)) (within.document_within s.number root key (document_of s key) (standing_of s key)) })
+  answer_within (event.Listen id query) answer spelled is = begins_within id query (listener id past) answer spelled.fits is
+  answer_within (event.Unlisten id) answer spelled is = subst (AnswerWithin root number s) (sym is) (ends_within id (listener id past) spelled)
+
+-- ---- snapshots
+
+-- who listens after an event has a small id, where those before and the event's own have one
+asked_small : (e : Event) (past : Past) → IsSpelledEvent e → HasListenerIds past → (id : ℕ) (view : Viewed) → asked id e (listener id past) ≡ Some view → id < 2 ^ 32
+asked_small (event.Write at writes) past spelled small id view is = small id view is
+asked_small (event.Get key) past spelled small id view is = small id view is
+asked_small (event.Listen other query) past spelled small id view is = by (nat_eq other id) refl is
+  where
+    by : (b : Bool) → nat_eq other id ≡ b → (if b then Some (record { target = query; raised = None }) else listener id past) ≡ Some view → id < 2 ^ 32
+    by true same is = subst (λ (n : ℕ). n < 2 ^ 32) (eqb-true other id same) spelled.fits
+    by false apart is = small id view is
+asked_small (event.Unlisten other) past spelled small id view is = by (nat_eq other id) is
+  where
+    by : (b : Bool) → (if b then None else listener id past) ≡ Some view → id < 2 ^ 32
+    by true is = absurd (none-some view is)
+    by false is = small id view is
+
+told_small : (root : Root) (s : State) (listening_of : ℕ → Option Viewed) (ts : List Told) → ((id : ℕ) (view : Viewed) → listening_of id ≡ Some view → id < 2 ^ 32) → Settles root s listening_of ts → All (λ (t : Told). t.id < 2 ^ 32) ts
+told_small root s listening_of ts small settles = go ts (all_told ts settles.ascending)
+  where
+    one : (t : Told) → told_to t.id ts ≡ Some t.raised → (v : Option Viewed) → listening_of t.id ≡ v → t.id < 2 ^ 32
+    one t is None there = absurd (none-some t.raised (sym (subst (λ (v : Option Viewed). ShowsAt root s v (Some t.raised)) there (subst (ShowsAt root s (listening_of t.id)) is (settles.each t.id)))))
+    one t is (Some view) there = small t.id view there
+
+    go : (us : List Told) → All (λ (t : Told). told_to t.id ts ≡ Some t.raised) us → All (λ (t : Told). t.id < 2 ^ 32) us
+    go [] all = All-nil (λ (t : Told). t.id < 2 ^ 32)
+    go (u ∷ us) all = All-cons (λ (t : Told). t.id < 2 ^ 32) u us (one u (All-head (λ (t : Told). told_to t.id ts ≡ Some t.raised) u us all) (listening_of u.id) refl) (go us (All-tail (λ (t : Told). told_to t.id ts ≡ Some t.raised) u us all))
+
+snapshots_within : (root : Root) (s : State) (ts : List Told) → s.number < 2 ^ 64 → All (λ (t : Told). t.id < 2 ^ 32) ts → All (LineWithin root s.number) (each (snapshot_line s) ts)
+snapshots_within root s [] few all = All-nil (LineWithin root s.number)
+snapshots_within root s (t ∷ ts) few all =
+    let small = All-head (λ (x : Told). x.id < 2 ^ 32) t ts all in
+    All-cons (LineWithin root s.number) (snapshot_line s t) (each (snapshot_line s) ts)
+    (within.snapshot_within root t.id s.number s.last_read t.raised (omega (arith, small)) few)
+    (snapshots_within root s ts few (All-tail (λ (x : Told). x.id < 2 ^ 32) t ts all))
+
+-- ---- turns
+
+after_few : (s : State) (commit : Option Commit) → s.number ≤ most_commits → (after s commit).number < 2 ^ 64
+after_few s None few = omega (arith, few)
+after_few s (Some commit) few = omega (arith, few)
+
+settled_within : (root : Root) (number : ℕ) (s : State) (past : Past) (e : Event) (answer : Turn) (refusal : Option Refusal) (t : Turn) → answer.refusal ≡ refusal → IsCounted s → IsSpelledEvent e → HasListenerIds past
+    → AnswerWithin root number s answer → SettlesAfter root s past e answer refusal t → IsWithin (after s t.commit).number (printed root number (of_event t))
+settled_within root number s past e answer (Some refusal) t same counted spelled small is settles =
+    subst (λ (x : Turn). IsWithin (after s x.commit).number (printed root number (of_event x))) (sym settles)
+    (within_append (after s answer.commit).number (refusal_text number (option_map unheard answer.refusal)) (text_of root answer.lines) is.refusal (lines_within root (after s answer.commit).number answer.lines is.lines))
+settled_within root number s past e answer None t same counted spelled small is settled =
+    let later = after s answer.commit in
+    subst (λ (x : Turn). IsWithin (after s x.commit).number (printed root number (of_event x))) (sym settled.is)
+    (lines_within root later.number (answer.lines ++ each (snapshot_line later) settled.told)
+    (All-append (LineWithin root later.number) answer.lines (each (snapshot_line later) settled.told) is.lines
+    (snapshots_within root later settled.told (after_few s answer.commit counted.within)
+    (told_small root later (λ id. asked id e (listener id past)) settled.told (asked_small e past spelled small) settled.settles))))
+
+pub turn_within : (root : Root) (s : State) (past : Past) (reading : Reading) (t : LineTurn) (number : ℕ) → IsCounted s → HasListenerIds past → number < 2 ^ 64 → IsSpelledReading reading → IsLineTurn root s past reading t → IsWithin (after s t.commit).number (printed root number t)
+turn_within root s past (Refused refusal) t number counted small few spelled is =
+    subst (λ (x : LineTurn). IsWithin (after s x.commit).number (printed root number x)) (sym is)
+    (within_one s.number (line_of (unread_tree number refusal)) (unread_within s.number number refusal few spelled))
+turn_within root s past (an_event e) t number counted small few spelled is =
+    let u = is.turn in
+    let turn = is.is_turn in
+    subst (λ (x : LineTurn). IsWithin (after s x.commit).number (printed root number x)) (sym is.is)
+    (settled_within root number s past e turn.answer turn.answer.refusal u refl counted spelled small (answer_within root number s past counted few e turn.answer spelled turn.answers) turn.settles)
+
+pub turn_reports : ATurnReportsWithin
+turn_reports root s past reading t number counted small few spelled is = (turn_within root s past reading t number counted small few spelled is).within
+
+-- ---- the ids of listeners
+
+told_there : (r : Option Raised) (v : Option Viewed) (view : Viewed) → told r v ≡ Some view → (found : Viewed) × (v ≡ Some found)
+told_there None v view is = (view, is)
+told_there (Some raised) None view is = absurd (none-some view is)
+told_there (Some raised) (Some found) view is = (found, refl)
+
+pub more_small : (s : State) (reading : Reading) (t : LineTurn) (past : Past) → IsSpelledReading reading → HasListenerIds past → HasListenerIds (and_heard s reading t past)
+more_small s (Refused refusal) t past spelled small = small
+more_small s (an_event e) t past spelled small = by (is_none t.cause)
+  where
+    by : (b : Bool) → HasListenerIds (if b then entry_of s e t ∷ past else past)
+    by true = λ id view is.
+        let there = told_there (raised_in id t.lines) (asked id e (listener id past)) view is in
+        asked_small e past spelled small id there.0 there.1
+    by false = small

@@ -1,12 +1,8 @@
 pub mod Began
-pub mod Breaks
-pub mod Committed
-pub mod Handled
+pub mod Handling
+pub mod Histories
 pub mod Honest
-pub mod OneReading
-pub mod Parsed
 pub mod Served
-pub mod Storable
 pub mod Surviving
+pub mod Texts
 pub mod Wording
-pub mod Lined

@@ -1,5 +1,5 @@
 -- The lines that were handled so far, and what they wrote and kept.
-use Rattle.std.proofs.Common.{◌≡◌, ◌⊎◌, inl, inr, ⊎_elim, ℕ, ◌+◌, ◌<◌, ◌≤◌, ◌^◌, suc, Bool, IsTrue, List, [], ◌∷◌, ◌++◌, length, take, drop, get_or, Result, Ok, Err, IfOk, refl, sym, ap, subst, ◌∙◌, arith}
+use Rattle.std.proofs.Common.{◌≡◌, ◌⊎◌, inl, inr, ⊎_elim, ℕ, ◌+◌, ◌<◌, ◌≤◌, ◌^◌, suc, IsTrue, List, [], ◌∷◌, ◌++◌, length, take, drop, get_or, Ok, Err, refl, sym, ap, subst, ◌∙◌, arith}
 use Rattle.std.specs.List.{AllZip}
 use Rattle.std.proofs.lemmas.List.{take_more, length-append, length-drop, append_assoc, append-nil}
 use Rattle.std.proofs.Math.Seq.{drop-cons}
@@ -10,62 +10,65 @@ use Rattle.host_api.specs.declared.source.Line.TheVariants.{Text, TooLong, End}
 use Rattle.host_api.specs.Host.{Files, View, IsPart, Stays, Spans}
 use Rattle.host_api.proofs.Spans.{spans_none, spans_then, spans_since}
 use Rattle.document_keys.specs.Names.{Root}
-use Rattle.client_run.specs.Causes.{Causes, IsServed}
-use Rattle.client_run.specs.Crash.{Keeps, IsAsBefore, Synced, FindsHandled, FindsNext, FindsAtEnd, Survives, Crashes}
-use Rattle.client_run.specs.Output.{Call, past_of, out_after, next_text, TookNext, EndsAs}
-use Rattle.client_run.specs.Reading.{Reads, AreRead, HasCounts, IsStorableReading}
-use Rattle.client_run.specs.Run.{Ran, LeavesAll, Kept}
+use Rattle.line_reader.specs.Reading.{Reads, AreRead}
+use Rattle.line_reader.specs.Spelled.{IsSpelledReading}
+use Rattle.line_reader.specs.declared.reading.Reading.{Reading}
 use Rattle.local_store.specs.Files.{FindsState}
 use Rattle.local_store.specs.State.{State}
-use Rattle.local_store.specs.Store.{IsSpent, IsStored}
-use Rattle.client_run.specs.Turn.{Past, run, one_more, next_turn, turn, heard, now, printed, output_of, commits_of, after_all}
-use Rattle.client_run.specs.Turned.{StandsFor, Turned, Writes, TurnCounts, state_then, heard_then, status_of}
-use Rattle.local_store.specs.Store.{Store}
-use Rattle.client_run.specs.declared.reading.Reading.{Reading}
-use Rattle.client_run.specs.declared.reading.Reading.TheVariants.{Line as an_event, Refused}
+use Rattle.local_store.specs.Store.{IsSpent as IsStoreSpent, IsStored, Store}
+use Rattle.sync_engine.specs.Answers.{after}
+use Rattle.sync_engine.specs.Past.{Past}
+use Rattle.sync_engine.specs.Standing.{Kept, StandsFor}
+use Rattle.client_run.specs.Causes.{Causes, IsServed}
+use Rattle.client_run.specs.Crash.{Keeps, IsAsBefore, Synced, FindsHandled, FindsNext, FindsAtEnd, Survives, Crashes}
+use Rattle.client_run.specs.History.{Handled, History, IsNext, now, heard, output_of, readings_of}
+use Rattle.client_run.specs.Laws.{IsCounted}
+use Rattle.client_run.specs.Output.{Call, IsRun, out_after, TookNext, EndsAs}
+use Rattle.client_run.specs.Printed.{printed}
+use Rattle.client_run.specs.Run.{Ran, LeavesAll, Kept as KeptAtEnd}
+use Rattle.client_run.specs.Turn.{LineTurn, CommitsNext}
+use Rattle.client_run.specs.Turned.{Coming, FindsCommit, IsHandled, Stopped, Turned, TurnCounts, coming, status_of}
 use Rattle.client_run.specs.declared.turn_fault.TurnFault.{TurnFault}
 use Rattle.client_run.specs.declared.turn_fault.TurnFault.TheVariants as fault
 use Rattle.client_run.specs.declared.status.Status.{Status}
 use Rattle.client_run.specs.declared.status.Status.TheVariants.{DiskFault, SinkFault, NoMemory}
-use Rattle.client_run.proofs.Committed.{stored_finds}
-use Rattle.client_run.proofs.Honest.{turn_honest}
+use Rattle.sync_engine.proofs.Committed.{stored_finds}
+use Rattle.client_run.proofs.Honest.{turn_within, more_small}
 use Rattle.client_run.proofs.Surviving.{IsFine, fine_none, fine_more, survives_at, survives_part}
 
-run_more : (root : Root) (first : State) (past : Past) (xs : List Reading) (x : Reading) → run root first past (xs ++ x ∷ []) ≡ one_more root first (run root first past xs) x
-run_more root first past [] x = refl
-run_more root first past (y ∷ ys) x = run_more root first (one_more root first past y) ys x
-
-run_length : (root : Root) (first : State) (past : Past) (xs : List Reading) → length (run root first past xs) ≡ length past + length xs
-run_length root first past [] = omega arith
-run_length root first past (y ∷ ys) = omega (arith, run_length root first (one_more root first past y) ys)
+readings_length : (history : History) → length (readings_of history) ≡ length history
+readings_length [] = refl
+readings_length (line ∷ history) = omega (arith, length-append (readings_of history) (line.reading ∷ []), readings_length history)
 
 -- a crash finds the state
 pub record Starts (s : State) (v : View) : Type 0 where
   pub finds : (c : Files) → v.may_leave c → FindsState c s
 
-stored_starts : {store : Store} {s : State} {past : Past} {v : View} → ¬ (IsSpent store) → IsStored store v → StandsFor store s past → Starts s v
+stored_starts : {client : Kept} {s : State} {past : Past} {v : View} → ¬ (IsStoreSpent client.store) → IsStored client.store v → StandsFor client s past → Starts s v
 stored_starts whole is stands = record { finds = λ c left. subst (FindsState c) stands.state (stored_finds whole is c left) }
 
-pub record Serving (call : Call) (done : ℕ) (rest : List Item) (store : Store) (old v : View) : Type 0 where
-  pub readings : List Reading
-  pub count : length readings ≡ done
-  pub read : AreRead call.root call.items readings
+pub record Serving (call : Call) (done : ℕ) (rest : List Item) (client : Kept) (old v : View) : Type 0 where
+  pub history : History
+  pub count : length history ≡ done
+  pub run : IsRun call history
   pub within : done ≤ length call.items
   pub left_over : rest ≡ drop done call.items
-  pub stands : StandsFor store (now call.first (past_of call readings)) (heard (past_of call readings))
-  pub wrote : IsTrue call.tells_out → v.out ≡ out_after call readings
-  pub fine : IsFine call.root call.first (past_of call readings)
+  pub root : client.root ≡ call.root
+  pub stands : StandsFor client (now call.first history) (heard history)
+  pub wrote : IsTrue call.tells_out → v.out ≡ out_after call history
+  pub fine : IsFine call.root call.first history
   pub starts : Starts call.first old
   pub time : IsTrue call.tells_out → Spans old v (Survives call)
 
 -- nothing was handled yet
-pub served_none : (call : Call) (store : Store) (v : View) → call.out ≡ v.out → ¬ (IsSpent store) → IsStored store v → StandsFor store call.first [] → Serving call 0 call.items store v v
-served_none call store v same whole is stands = record {
-  readings = [];
+pub served_none : (call : Call) (client : Kept) (v : View) → client.root ≡ call.root → call.out ≡ v.out → ¬ (IsStoreSpent client.store) → IsStored client.store v → StandsFor client call.first [] → Serving call 0 call.items client v v
+served_none call client v root same whole is stands = record {
+  history = [];
   count = refl;
-  read = tt;
+  run = record { turns = tt; read = tt };
   within = omega arith;
   left_over = refl;
+  root = root;
   stands = stands;
   wrote = λ told. sym same ∙ sym (append-nil call.out);
   fine = fine_none call.root call.first;
@@ -111,41 +114,44 @@ next_from root items readings reading item rest read is one =
       left_over = sym others ∙ ap (λ k. drop k items) place;
     }
 
-pub next_read : {call : Call} {done : ℕ} {rest : List Item} {store : Store} {old v : View} (it : Serving call done rest store old v)
-    (line : Line) (text shown : List ℕ) (more : List Item) (reading : Reading) → (line ≡ End → ⊥) → shown ≡ text → Next (item_of line text) rest more → Reads call.root (item_of line shown) reading → Nexts call.root call.items it.readings reading more
+pub next_read : {call : Call} {done : ℕ} {rest : List Item} {client : Kept} {old v : View} (it : Serving call done rest client old v)
+    (line : Line) (text shown : List ℕ) (more : List Item) (reading : Reading) → (line ≡ End → ⊥) → shown ≡ text → Next (item_of line text) rest more → Reads call.root (item_of line shown) reading → Nexts call.root call.items (readings_of it.history) reading more
 next_read {call} {rest = rest} it line text shown more reading open_still same next one =
-    next_from call.root call.items it.readings reading (item_of line text) more it.read (ap (λ k. drop k call.items) it.count ∙ sym it.left_over ∙ next_item line text rest more open_still next) (subst (λ (t : List ℕ). Reads call.root (item_of line t) reading) same one)
+    next_from call.root call.items (readings_of it.history) reading (item_of line text) more it.run.read (ap (λ k. drop k call.items) (readings_length it.history ∙ it.count) ∙ sym it.left_over ∙ next_item line text rest more open_still next) (subst (λ (t : List ℕ). Reads call.root (item_of line t) reading) same one)
 
-took_next : {call : Call} {readings : List Reading} {reading : Reading} {left : List ℕ} → Nexts call.root call.items readings reading (split left) → TookNext call readings left
-took_next nexts = record { below = nexts.below; others = nexts.left_over }
+took_next : {call : Call} {history : History} {reading : Reading} {left : List ℕ} → Nexts call.root call.items (readings_of history) reading (split left) → TookNext call history left
+took_next {call} {history} nexts = record {
+  below = omega (arith, nexts.below, readings_length history);
+  others = nexts.left_over ∙ ap (λ n. drop (n + 1) call.items) (readings_length history);
+}
 
 -- the source was read to its end
-pub all_done : {call : Call} {done : ℕ} {rest : List Item} {store : Store} {old v : View} → Serving call done rest store old v
+pub all_done : {call : Call} {done : ℕ} {rest : List Item} {client : Kept} {old v : View} → Serving call done rest client old v
     → (line : Line) (text : List ℕ) (more : List Item) → line ≡ End → Next (item_of line text) rest more → done ≡ length call.items
 all_done {call} {done = done} {rest = rest} it line text more is next =
     let ended = subst (λ (l : Line). Next (item_of l text) rest more) is next in
     let none : length (drop done call.items) ≡ 0 = ap length (sym it.left_over ∙ ended.0) in
     omega (arith, length-drop done call.items, none, it.within)
 
-pub none_left : {call : Call} {done : ℕ} {rest : List Item} {store : Store} {old v : View} → Serving call done rest store old v
+pub none_left : {call : Call} {done : ℕ} {rest : List Item} {client : Kept} {old v : View} → Serving call done rest client old v
     → (line : Line) (text : List ℕ) (more : List Item) → line ≡ End → Next (item_of line text) rest more → more ≡ drop done call.items
 none_left {rest = rest} it line text more is next =
     let ended = subst (λ (l : Line). Next (item_of l text) rest more) is next in
     ended.1 ∙ sym ended.0 ∙ it.left_over
 
 -- what was taken of so many items, as of those that were handled
-pub taken_as : {call : Call} {done : ℕ} {rest : List Item} {store : Store} {old v : View} (it : Serving call done rest store old v) {more : List Item} → more ≡ drop done call.items → more ≡ drop (length it.readings) call.items
+pub taken_as : {call : Call} {done : ℕ} {rest : List Item} {client : Kept} {old v : View} (it : Serving call done rest client old v) {more : List Item} → more ≡ drop done call.items → more ≡ drop (length it.history) call.items
 taken_as {call} it is = is ∙ ap (λ k. drop k call.items) (sym it.count)
 
 -- an item was taken
-pub took_one : {call : Call} {done : ℕ} {rest : List Item} {store : Store} {old v : View} (it : Serving call done rest store old v)
-    → (line : Line) (text : List ℕ) (left : List ℕ) → (line ≡ End → ⊥) → Next (item_of line text) rest (split left) → TookNext call it.readings left
+pub took_one : {call : Call} {done : ℕ} {rest : List Item} {client : Kept} {old v : View} (it : Serving call done rest client old v)
+    → (line : Line) (text : List ℕ) (left : List ℕ) → (line ≡ End → ⊥) → Next (item_of line text) rest (split left) → TookNext call it.history left
 took_one {call} {done = done} {rest = rest} it line text left open_still next =
     let front : drop done call.items ≡ item_of line text ∷ split left = sym it.left_over ∙ next_item line text rest (split left) open_still next in
     let below = below_of call.items done (item_of line text) (split left) front in
     let cut = drop-cons call.items done (item_of line text) below in
     let others : drop (suc done) call.items ≡ split left = cc in
-    let place : suc done ≡ length it.readings + 1 = omega (arith, it.count) in
+    let place : suc done ≡ length it.history + 1 = omega (arith, it.count) in
     record { below = omega (arith, below, it.count); others = sym others ∙ ap (λ k. drop k call.items) place }
 
 -- nothing was done
@@ -153,7 +159,7 @@ pub stays_none : (v : View) → Stays v v
 stays_none v = record { bytes = refl; crash = λ c left. left; time = spans_none v (λ o c. (o ≡ v.out) × v.may_leave c) }
 
 -- the files find the state after every handled item
-finds_handled : {call : Call} {done : ℕ} {rest : List Item} {store : Store} {old v : View} (it : Serving call done rest store old v) (c : Files) → FindsState c (now call.first (past_of call it.readings)) → FindsHandled call it.readings c
+finds_handled : {call : Call} {done : ℕ} {rest : List Item} {client : Kept} {old v : View} (it : Serving call done rest client old v) (c : Files) → FindsState c (now call.first it.history) → FindsHandled call it.history c
 finds_handled it c finds = subst (FindsState c) it.fine.state finds
 
 -- since now, only what may come now has come
@@ -162,12 +168,12 @@ OnlyNow v = (o : List ℕ) (c : Files) → v.left_since v.moment o c → (o ≡ 
 
 -- at a moment with nothing handled
 pub survives_first : (call : Call) (o : List ℕ) (c : Files) → o ≡ call.out → FindsState c call.first → Survives call o c
-survives_first call o c same finds = survives_at call o c [] tt (fine_none call.root call.first) (same ∙ sym (append-nil call.out)) finds
+survives_first call o c same finds = survives_at call o c [] (record { turns = tt; read = tt }) (fine_none call.root call.first) (same ∙ sym (append-nil call.out)) (inl finds)
 
 -- from the moment on at which a crash found the state, with the output as it stood at the start
-pub synced_from : (how : Status) (call : Call) (readings : List Reading) {old mid new : View} → OnlyNow mid → call.out ≡ old.out → mid.out ≡ old.out → Stays old mid → ((c : Files) → mid.may_leave c → FindsState c call.first)
-    → Spans mid new (Survives call) → ((c : Files) → new.may_leave c → FindsAtEnd how call readings c) → Synced how call readings old new
-synced_from how call readings {old} {mid} {new} only_now out same stays finds spans at_end = record {
+pub synced_from : (how : Status) (call : Call) (history : History) {old mid new : View} → OnlyNow mid → call.out ≡ old.out → mid.out ≡ old.out → Stays old mid → ((c : Files) → mid.may_leave c → FindsState c call.first)
+    → Spans mid new (Survives call) → ((c : Files) → new.may_leave c → FindsAtEnd how call history c) → Synced how call history old new
+synced_from how call history {old} {mid} {new} only_now out same stays finds spans at_end = record {
   time = mid.moment;
   from = stays.time.later;
   to = spans.later;
@@ -180,145 +186,168 @@ synced_from how call readings {old} {mid} {new} only_now out same stays finds sp
 }
 
 -- a run that stops between two items
-pub stops : {call : Call} {done : ℕ} {rest : List Item} {store : Store} {old new : View} (how : Status) (left : List ℕ) (it : Serving call done rest store old new) → OnlyNow old → call.out ≡ old.out → ¬ (IsSpent store) → IsStored store new
-    → EndsAs how call it.readings left new.out → ((c : Files) → FindsHandled call it.readings c → FindsAtEnd how call it.readings c) → Ran call how left old new
+pub stops : {call : Call} {done : ℕ} {rest : List Item} {client : Kept} {old new : View} (how : Status) (left : List ℕ) (it : Serving call done rest client old new) → OnlyNow old → call.out ≡ old.out → ¬ (IsStoreSpent client.store) → IsStored client.store new
+    → EndsAs how call it.history left new.out → ((c : Files) → FindsHandled call it.history c → FindsAtEnd how call it.history c) → Ran call how left old new
 stops {call} {old = old} how left it only_now same whole is ends leaves = record {
-  readings = it.readings;
-  read = it.read;
+  history = it.history;
+  run = it.run;
   within = omega (arith, it.within, it.count);
   ends = ends;
-  crash = λ out. inl (synced_from how call it.readings only_now same refl (stays_none old) it.starts.finds (it.time out)
+  crash = λ out. inl (synced_from how call it.history only_now same refl (stays_none old) it.starts.finds (it.time out)
       (λ c left. leaves c (finds_handled it c (subst (FindsState c) it.stands.state (stored_finds whole is c left)))));
 }
 
 -- the files read as every handled item left them
-pub leaves_all : {call : Call} {done : ℕ} {rest : List Item} {store : Store} {old v : View} (it : Serving call done rest store old v) (count : ℕ) → done ≡ count → FindsState v.bytes store.state → LeavesAll count call v.bytes
+pub leaves_all : {call : Call} {done : ℕ} {rest : List Item} {client : Kept} {old v : View} (it : Serving call done rest client old v) (count : ℕ) → done ≡ count → FindsState v.bytes client.store.state → LeavesAll count call v.bytes
 leaves_all {v = v} it count many reads = record {
-  readings = it.readings;
-  read = it.read;
+  history = it.history;
+  run = it.run;
   many = it.count ∙ many;
   finds = finds_handled it v.bytes (subst (FindsState v.bytes) it.stands.state reads);
 }
 
--- what the call that handled the next item says of it
-pub record Handles (root : Root) (number : ℕ) (reading : Reading) (store : Store) (result : Result Store TurnFault) (tells_out : Bool) (mid new : View) : Type 0 where
-  pub stands : IfOk result (λ next. (s : State) (past : Past) → StandsFor store s past → StandsFor next (state_then root s past reading) (heard_then root s past reading))
-  pub out : IsTrue tells_out → (s : State) (past : Past) → StandsFor store s past → Writes (printed root number (turn root s past reading)) result mid.out new.out
-  pub files : (s : State) (past : Past) → StandsFor store s past → Turned s (state_then root s past reading) (printed root number (turn root s past reading)) mid new
-  pub next : store.state.next_batch ≤ store.state.number + 1
-  pub counts : HasCounts reading
+-- what the call that handled the next item says of it, whatever it answered
+pub record Handles (number : ℕ) (reading : Reading) (client : Kept) (mid new : View) : Type 0 where
+  pub files : (s : State) (past : Past) → StandsFor client s past → Turned (coming client.root s past reading number) mid new
+  pub counted : IsCounted client.store.state
+  pub spelled : IsSpelledReading reading
 
-past_length : (call : Call) (readings : List Reading) (done : ℕ) → length readings ≡ done → length (past_of call readings) ≡ done
-past_length call readings done count = omega (arith, run_length call.root call.first [] readings, count)
+-- the next item, as it comes
+abbrev coming_next : (call : Call) (history : History) (reading : Reading) (number : ℕ) → Coming
+coming_next call history reading number = coming call.root (now call.first history) (heard history) reading number
 
--- the next item's turn, and what is known of it
-record NextTurn (call : Call) (readings : List Reading) (reading : Reading) (mid new : View) : Type 0 where
-  pub fine : IsFine call.root call.first (one_more call.root call.first (past_of call readings) reading)
-  pub turned : Turned (now call.first (past_of call readings)) (now call.first (one_more call.root call.first (past_of call readings) reading)) (next_text call readings reading) mid new
+-- with its turn it is one item more
+abbrev line_of : (call : Call) (history : History) (reading : Reading) (t : LineTurn) → Handled
+line_of call history reading t = record { state = now call.first history; reading = reading; turn = t }
 
-next_turned : {call : Call} {done : ℕ} {rest : List Item} {store : Store} {old mid new : View} {result : Result Store TurnFault} (reading : Reading) (it : Serving call done rest store old mid)
-    → done + 1 < 2 ^ 64 → Handles call.root (done + 1) reading store result call.tells_out mid new → NextTurn call it.readings reading mid new
-next_turned {call} {done = done} {store = store} {mid = mid} {new = new} reading it few handles =
-    let past = past_of call it.readings in
-    let long : length past + 1 ≡ done + 1 = ap (λ n. n + 1) (past_length call it.readings done it.count) in
-    let number : (now call.first past).number ≡ store.state.number = ap (λ (t : State). t.number) (sym it.stands.state) in
-    let next : (now call.first past).next_batch ≡ store.state.next_batch = ap (λ (t : State). t.next_batch) (sym it.stands.state) in
-    let honest = turn_honest call.root (length past + 1) (now call.first past) (heard past) reading (omega (arith, number, next, handles.next)) (omega (arith, long, few)) handles.counts in
-    record {
-      fine = fine_more call.root call.first past reading honest it.fine;
-      turned = subst (λ (n : ℕ). Turned (now call.first past) (now call.first (one_more call.root call.first past reading)) (printed call.root n (next_turn call.root call.first past reading)) mid new) (sym long) (handles.files (now call.first past) (heard past) it.stands);
-    }
+module _ {call : Call} {done : ℕ} {rest more : List Item} {client : Kept} {old mid new : View} (reading : Reading) (it : Serving call done rest client old mid)
+    (nexts : Nexts call.root call.items (readings_of it.history) reading more) (few : done + 1 < 2 ^ 64) (handles : Handles (done + 1) reading client mid new) where
+  abbrev history : History
+  history = it.history
 
--- a crash at any moment until the item was handled, or met a fault
-turn_spans : {call : Call} {done : ℕ} {rest more : List Item} {store : Store} {old mid new : View} (reading : Reading) (it : Serving call done rest store old mid)
-    → Nexts call.root call.items it.readings reading more → NextTurn call it.readings reading mid new → IsTrue call.tells_out → Spans old new (Survives call)
-turn_spans {call} {mid = mid} reading it nexts next out =
-    let past = past_of call it.readings in
-    spans_then (Survives call) (it.time out) next.turned.time (λ o c h. h) (λ o c h. ⊎_elim
-    (λ early. survives_at call o c it.readings it.read it.fine (early.0 ∙ it.wrote out) early.1)
-    (λ late. survives_part call o c (it.readings ++ reading ∷ []) (one_more call.root call.first past reading) (output_of call.root past) (next_text call it.readings reading) nexts.read (run_more call.root call.first [] it.readings reading) next.fine refl (subst (λ (l : List ℕ). IsPart (next_text call it.readings reading) l o) (it.wrote out) late.0) late.1)
-    h)
+  long : done + 1 ≡ length history + 1
+  long = ap (λ n. n + 1) (sym it.count)
 
--- one item more was handled
-pub served_more : {call : Call} {done : ℕ} {rest more : List Item} {store next : Store} {old mid new : View} (reading : Reading) (it : Serving call done rest store old mid)
-    → Nexts call.root call.items it.readings reading more → done + 1 < 2 ^ 64 → Handles call.root (done + 1) reading store (Ok next) call.tells_out mid new → Serving call (done + 1) more next old new
-served_more {call} {done = done} {next = next} {old = old} {mid = mid} {new = new} reading it nexts few handles =
-    let past = past_of call it.readings in
-    let grows : past_of call (it.readings ++ reading ∷ []) ≡ one_more call.root call.first past reading = run_more call.root call.first [] it.readings reading in
-    let long : length past + 1 ≡ done + 1 = ap (λ n. n + 1) (past_length call it.readings done it.count) in
-    let turned = next_turned reading it few handles in
-    let text = λ (n : ℕ). printed call.root n (next_turn call.root call.first past reading) in
-    record {
-      readings = it.readings ++ reading ∷ [];
-      count = length-append it.readings (reading ∷ []) ∙ ap (λ n. n + 1) it.count;
-      read = nexts.read;
-      within = omega (arith, nexts.below, it.count);
-      left_over = nexts.left_over ∙ ap (λ n. drop (n + 1) call.items) it.count;
-      stands = subst (λ (p : Past). StandsFor next (now call.first p) (heard p)) (sym grows) (handles.stands (now call.first past) (heard past) it.stands);
-      wrote = λ told. handles.out told (now call.first past) (heard past) it.stands ∙ ap (λ o. o ++ text (done + 1)) (it.wrote told) ∙ append_assoc call.out (output_of call.root past) (text (done + 1))
-          ∙ ap (λ (n : ℕ). call.out ++ (output_of call.root past ++ text n)) (sym long) ∙ ap (λ (p : Past). call.out ++ output_of call.root p) (sym grows);
-      fine = subst (IsFine call.root call.first) (sym grows) turned.fine;
-      starts = it.starts;
-      time = turn_spans reading it nexts turned;
-    }
+  turned : Turned (coming_next call history reading (done + 1)) mid new
+  turned = subst (λ (root : Root). Turned (coming root (now call.first history) (heard history) reading (done + 1)) mid new) it.root (handles.files (now call.first history) (heard history) it.stands)
 
--- what a crash leaves of a run that stops within an item
-crashes_within : {call : Call} {done : ℕ} {rest more : List Item} {store : Store} {old mid new : View} (how : Status) (left : List ℕ) (reading : Reading) (it : Serving call done rest store old mid) → OnlyNow old → call.out ≡ old.out
-    → Nexts call.root call.items it.readings reading more → NextTurn call it.readings reading mid new
-    → ((c : Files) → FindsHandled call it.readings c ⊎ FindsNext call it.readings c → FindsAtEnd how call it.readings c)
-    → IsTrue call.tells_out → Crashes how call it.readings left old new
-crashes_within {call} {old = old} how left reading it only_now same nexts next leaves out =
-    inl (synced_from how call it.readings only_now same refl (stays_none old) it.starts.finds (turn_spans reading it nexts next out)
-    (λ c now_left. leaves c (⊎_elim
-    (λ early. inl (finds_handled it c early))
-    (λ late. inr (record { reading = reading; read = nexts.read; finds = subst (FindsState c) (next.fine.state ∙ ap (λ (p : Past). after_all call.first (commits_of p)) (sym (run_more call.root call.first [] it.readings reading))) late }))
-    (next.turned.crash c now_left))))
+  -- what one item more makes of the run
+  run_more : (t : LineTurn) → IsNext call.root call.first history (line_of call history reading t) → IsRun call (line_of call history reading t ∷ history)
+  run_more t next = record { turns = (it.run.turns, next); read = nexts.read }
+
+  fine_next : (t : LineTurn) → IsNext call.root call.first history (line_of call history reading t) → IsFine call.root call.first (line_of call history reading t ∷ history)
+  fine_next t next =
+      fine_more call.root call.first history (line_of call history reading t) refl
+      (turn_within call.root (now call.first history) (heard history) reading t (length history + 1) (subst IsCounted it.stands.state handles.counted) it.fine.small (omega (arith, few, long)) handles.spelled next.turn)
+      (more_small (now call.first history) reading t (heard history) handles.spelled it.fine.small)
+      it.fine
+
+  found_next : (c : Files) → FindsCommit (coming_next call history reading (done + 1)) c → FindsNext call history c
+  found_next c found = record {
+    reading = reading;
+    read = nexts.read;
+    commit = found.commit;
+    commits = subst (λ (s : State). CommitsNext s (heard history) reading found.commit) it.fine.state found.commits;
+    finds = subst (λ (s : State). FindsState c (after s found.commit)) it.fine.state found.finds;
+  }
+
+  -- a crash at any moment until the item was handled, or met a fault
+  turn_spans : IsTrue call.tells_out → Spans old new (Survives call)
+  turn_spans out =
+      spans_then (Survives call) (it.time out) turned.time (λ o c h. h) (λ o c h. ⊎_elim
+      (λ early. survives_at call o c history it.run it.fine (early.0 ∙ it.wrote out) (⊎_elim inl (λ found. inr (found_next c found)) early.1))
+      (λ late.
+      let next : IsNext call.root call.first history (line_of call history reading late.turn) = record { state = refl; turn = late.is_turn } in
+      survives_part call o c (line_of call history reading late.turn ∷ history) (output_of call.root history) (printed call.root (length history + 1) late.turn)
+      (run_more late.turn next) (fine_next late.turn next) refl
+      (subst (λ (n : ℕ). IsPart (printed call.root n late.turn) (call.out ++ output_of call.root history) o) long (subst (λ (l : List ℕ). IsPart (printed call.root (done + 1) late.turn) l o) (it.wrote out) late.part))
+      late.finds)
+      h)
+
+  -- one item more was handled
+  pub served_more : {next_client : Kept} → next_client.root ≡ client.root → ((s : State) (past : Past) → StandsFor client s past → IsHandled (coming client.root s past reading (done + 1)) next_client call.tells_out mid.out new.out) → Serving call (done + 1) more next_client old new
+  served_more {next_client} root handled =
+      let is = subst (λ (r : Root). IsHandled (coming r (now call.first history) (heard history) reading (done + 1)) next_client call.tells_out mid.out new.out) it.root (handled (now call.first history) (heard history) it.stands) in
+      let next : IsNext call.root call.first history (line_of call history reading is.turn) = record { state = refl; turn = is.is_turn } in
+      record {
+        history = line_of call history reading is.turn ∷ history;
+        count = omega (arith, it.count);
+        run = run_more is.turn next;
+        within = omega (arith, nexts.below, readings_length history, it.count);
+        left_over = nexts.left_over ∙ ap (λ n. drop (n + 1) call.items) (readings_length history ∙ it.count);
+        root = root ∙ it.root;
+        stands = is.stands;
+        wrote = λ told. is.out told ∙ ap (λ o. o ++ printed call.root (done + 1) is.turn) (it.wrote told) ∙ append_assoc call.out (output_of call.root history) (printed call.root (done + 1) is.turn)
+            ∙ ap (λ (n : ℕ). call.out ++ (output_of call.root history ++ printed call.root n is.turn)) long;
+        fine = fine_next is.turn next;
+        starts = it.starts;
+        time = turn_spans;
+      }
+
+  -- what a crash leaves of a run that stops within an item
+  crashes_within : (how : Status) (left : List ℕ) → OnlyNow old → call.out ≡ old.out
+      → ((c : Files) → FindsHandled call history c ⊎ FindsNext call history c → FindsAtEnd how call history c)
+      → IsTrue call.tells_out → Crashes how call history left old new
+  crashes_within how left only_now same leaves out =
+      inl (synced_from how call history only_now same refl (stays_none old) it.starts.finds (turn_spans out)
+      (λ c now_left. leaves c (⊎_elim
+      (λ early. inl (finds_handled it c early))
+      (λ late. inr (found_next c late))
+      (turned.crash c now_left))))
+
+  stopped_as : (why : TurnFault) → (IsTrue call.tells_out → (s : State) (past : Past) → StandsFor client s past → Stopped (coming client.root s past reading (done + 1)) why mid.out new.out)
+      → IsTrue call.tells_out → Stopped (coming_next call history reading (done + 1)) why mid.out new.out
+  stopped_as why stopped told = subst (λ (r : Root). Stopped (coming r (now call.first history) (heard history) reading (done + 1)) why mid.out new.out) it.root (stopped told (now call.first history) (heard history) it.stands)
 
 -- a run that stops within an item
-pub stops_within : {call : Call} {done : ℕ} {rest : List Item} {store : Store} {old mid new : View} (why : TurnFault) (left : List ℕ) (reading : Reading) (it : Serving call done rest store old mid) → OnlyNow old → call.out ≡ old.out
-    → Nexts call.root call.items it.readings reading (split left) → done + 1 < 2 ^ 64 → Handles call.root (done + 1) reading store (Err why) call.tells_out mid new → done < call.budget → Ran call (status_of why) left old new
-stops_within {call} {done = done} {new = new} fault.DiskFault left reading it only_now same nexts few handles below = record {
-  readings = it.readings;
-  read = it.read;
+pub stops_within : {call : Call} {done : ℕ} {rest : List Item} {client : Kept} {old mid new : View} (why : TurnFault) (left : List ℕ) (reading : Reading) (it : Serving call done rest client old mid) → OnlyNow old → call.out ≡ old.out
+    → Nexts call.root call.items (readings_of it.history) reading (split left) → done + 1 < 2 ^ 64 → Handles (done + 1) reading client mid new
+    → (IsTrue call.tells_out → (s : State) (past : Past) → StandsFor client s past → Stopped (coming client.root s past reading (done + 1)) why mid.out new.out)
+    → done < call.budget → Ran call (status_of why) left old new
+stops_within {call} {done = done} {new = new} fault.DiskFault left reading it only_now same nexts few handles stopped below = record {
+  history = it.history;
+  run = it.run;
   within = omega (arith, it.within, it.count);
   ends = record {
     handled = omega (arith, below, it.count);
     taken = inl (took_next nexts);
-    written = λ told. handles.out told (now call.first (past_of call it.readings)) (heard (past_of call it.readings)) it.stands ∙ it.wrote told;
+    written = λ told. stopped_as reading it nexts few handles fault.DiskFault stopped told ∙ it.wrote told;
   };
-  crash = crashes_within DiskFault left reading it only_now same nexts (next_turned reading it few handles) (λ c h. h);
+  crash = crashes_within reading it nexts few handles DiskFault left only_now same (λ c h. h);
 }
-stops_within {call} {done = done} {new = new} fault.NoMemory left reading it only_now same nexts few handles below = record {
-  readings = it.readings;
-  read = it.read;
+stops_within {call} {done = done} {new = new} fault.NoMemory left reading it only_now same nexts few handles stopped below = record {
+  history = it.history;
+  run = it.run;
   within = omega (arith, it.within, it.count);
   ends = record {
     handled = omega (arith, below, it.count);
     taken = inr (took_next nexts);
-    written = λ told. handles.out told (now call.first (past_of call it.readings)) (heard (past_of call it.readings)) it.stands ∙ it.wrote told;
+    written = λ told. stopped_as reading it nexts few handles fault.NoMemory stopped told ∙ it.wrote told;
   };
-  crash = crashes_within NoMemory left reading it only_now same nexts (next_turned reading it few handles) (λ c h. h);
+  crash = crashes_within reading it nexts few handles NoMemory left only_now same (λ c h. h);
 }
-stops_within {call} {done = done} {new = new} fault.SinkFault left reading it only_now same nexts few handles below = record {
-  readings = it.readings;
-  read = it.read;
+stops_within {call} {done = done} {new = new} fault.SinkFault left reading it only_now same nexts few handles stopped below = record {
+  history = it.history;
+  run = it.run;
   within = omega (arith, it.within, it.count);
   ends = record {
     handled = omega (arith, below, it.count);
     taken = took_next nexts;
-    written = record {
-      reading = reading;
-      read = nexts.read;
-      part = λ told.
-          let long : length (past_of call it.readings) + 1 ≡ done + 1 = ap (λ n. n + 1) (past_length call it.readings done it.count) in
-          subst (λ (n : ℕ). IsPart (printed call.root n (next_turn call.root call.first (past_of call it.readings) reading)) (out_after call it.readings) new.out) (sym long)
-          (subst (λ (o : List ℕ). IsPart (printed call.root (done + 1) (next_turn call.root call.first (past_of call it.readings) reading)) o new.out) (it.wrote told) (handles.out told (now call.first (past_of call it.readings)) (heard (past_of call it.readings)) it.stands));
-    };
+    written = λ told.
+        let stopped_part = stopped_as reading it nexts few handles fault.SinkFault stopped told in
+        let long : done + 1 ≡ length it.history + 1 = ap (λ n. n + 1) (sym it.count) in
+        record {
+          line = line_of call it.history reading stopped_part.turn;
+          next = record { state = refl; turn = stopped_part.is_turn };
+          read = nexts.read;
+          part = subst (λ (n : ℕ). IsPart (printed call.root n stopped_part.turn) (out_after call it.history) new.out) long
+              (subst (λ (o : List ℕ). IsPart (printed call.root (done + 1) stopped_part.turn) o new.out) (it.wrote told) stopped_part.part);
+        };
   };
-  crash = crashes_within SinkFault left reading it only_now same nexts (next_turned reading it few handles) (λ c h. h);
+  crash = crashes_within reading it nexts few handles SinkFault left only_now same (λ c h. h);
 }
 
-pub nothing_kept : (why : TurnFault) (call : Call) (files : Files) → Kept (status_of why) call files
+pub nothing_kept : (why : TurnFault) (call : Call) (files : Files) → KeptAtEnd (status_of why) call files
 nothing_kept fault.DiskFault call files = tt
 nothing_kept fault.SinkFault call files = tt
 nothing_kept fault.NoMemory call files = tt
@@ -364,22 +393,18 @@ causes_within fault.NoMemory source same counts = record {
   sink = rises_as same.sink (λ is. cc) (λ is. cc) counts.sink;
 }
 
-pub same_then : {old mid new : View} {next : Store} → SameFaults old mid → TurnCounts (Ok next) mid new → SameFaults old new
+pub same_then : {old mid new : View} → SameFaults old mid → TurnCounts (Ok tt) mid new → SameFaults old new
 same_then first counts = record { disk = counts.disk.stays (λ is. cc) ∙ first.disk; sink = counts.sink.stays (λ is. cc) ∙ first.sink }
 
 -- a store that is open keeps its files
-pub keeps_stored : {store : Store} {v : View} → v.may_leave v.bytes → ¬ (IsSpent store) → IsStored store v → Keeps v
+pub keeps_stored : {store : Store} {v : View} → v.may_leave v.bytes → ¬ (IsStoreSpent store) → IsStored store v → Keeps v
 keeps_stored {store} reads whole is = record { finds = λ c left. (store.state, stored_finds whole is c left); reads = reads }
 
 -- so does a turn that met a fault
-pub keeps_within : (root : Root) (number : ℕ) (reading : Reading) (store : Store) (why : TurnFault) (tells_out : Bool) (mid new : View) → new.may_leave new.bytes → Handles root number reading store (Err why) tells_out mid new → Keeps new
-keeps_within root number reading store why tells_out mid new reads handles =
-    let turned = handles.files store.state [] (record { state = refl }) in
+pub keeps_within : (number : ℕ) (reading : Reading) (client : Kept) (s : State) (past : Past) (mid new : View) → new.may_leave new.bytes → StandsFor client s past → Handles number reading client mid new → Keeps new
+keeps_within number reading client s past mid new reads stands handles =
+    let turned = handles.files s past stands in
     record {
-      finds = λ c left. ⊎_elim (λ early. (store.state, early)) (λ late. (state_then root store.state [] reading, late)) (turned.crash c left);
+      finds = λ c left. ⊎_elim (λ early. (s, early)) (λ late. (after s late.commit, late.finds)) (turned.crash c left);
       reads = reads;
     }
-
-pub counts_of : (reading : Reading) → IsStorableReading reading → HasCounts reading
-counts_of (an_event e) is = tt
-counts_of (Refused refusal) is = is

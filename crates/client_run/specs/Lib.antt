@@ -1,13 +1,11 @@
 pub mod Causes
 pub mod Crash
-pub mod Faults
-pub mod Grammar
-pub mod Lines
+pub mod History
+pub mod Laws
 pub mod Output
-pub mod Reading
-pub mod Reported
+pub mod Printed
 pub mod Run
-pub mod Trees
+pub mod Taken
 pub mod Turn
 pub mod Turned
 pub mod Words

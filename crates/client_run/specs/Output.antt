@@ -4,10 +4,10 @@ use Rattle.std.specs.Prelude.{◌≡◌, ◌⊎◌, ℕ, ◌+◌, ◌<◌, List,
 use Rattle.host_api.specs.Host.{IsPart}
 use Rattle.host_api.specs.Items.{Item, split, IsSuffix}
 use Rattle.document_keys.specs.Names.{Root}
-use Rattle.client_run.specs.Reading.{AreRead}
+use Rattle.line_reader.specs.Reading.{AreRead}
 use Rattle.local_store.specs.State.{State}
-use Rattle.client_run.specs.Turn.{Past, run, next_turn, printed, output_of}
-use Rattle.client_run.specs.declared.reading.Reading.{Reading}
+use Rattle.client_run.specs.History.{Handled, History, AreTurns, IsNext, output_of, readings_of}
+use Rattle.client_run.specs.Printed.{printed}
 use Rattle.client_run.specs.declared.status.Status.{Status}
 use Rattle.client_run.specs.declared.status.Status.TheVariants as ended
 
@@ -32,9 +32,10 @@ called root bytes first budget tells_out out = record {
   out = out;
 }
 
--- the handled lines, where this is what they are
-abbrev pub past_of : Call → List Reading → Past
-past_of call readings = run call.root call.first [] readings
+-- these are the handled lines: the first items of the source, one after another
+pub record IsRun (call : Call) (history : History) : Type 0 where
+  pub turns : AreTurns call.root call.first history
+  pub read : AreRead call.root call.items (readings_of history)
 
 -- ---- which items were taken, where these bytes are left
 
@@ -43,67 +44,68 @@ abbrev pub Took : Call → ℕ → List ℕ → Type 0
 Took call n left = split left ≡ drop n call.items
 
 -- those that were handled
-abbrev pub TookHandled : Call → List Reading → List ℕ → Type 0
-TookHandled call readings left = Took call (length readings) left
+abbrev pub TookHandled : Call → History → List ℕ → Type 0
+TookHandled call history left = Took call (length history) left
 
 -- The same, but the source failed in the next item, and of the bytes behind a front may be gone.
-pub record TookAndFailed (call : Call) (readings : List Reading) (left : List ℕ) : Type 0 where
+pub record TookAndFailed (call : Call) (history : History) (left : List ℕ) : Type 0 where
   pub rest : List ℕ
-  pub others : TookHandled call readings rest
+  pub others : TookHandled call history rest
   pub suffix : IsSuffix rest left
 
 -- the handled ones and the next, which is there
-pub record TookNext (call : Call) (readings : List Reading) (left : List ℕ) : Type 0 where
-  pub below : length readings < length call.items
-  pub others : Took call (length readings + 1) left
+pub record TookNext (call : Call) (history : History) (left : List ℕ) : Type 0 where
+  pub below : length history < length call.items
+  pub others : Took call (length history + 1) left
 
 -- nothing was handled, and nothing taken
-pub record TookNothing (call : Call) (readings : List Reading) (left : List ℕ) : Type 0 where
-  pub none : readings ≡ []
+pub record TookNothing (call : Call) (history : History) (left : List ℕ) : Type 0 where
+  pub none : history ≡ []
   pub others : Took call 0 left
 
 -- ---- what was written, where the output is this then
 
 -- the output once the handled items' lines were written
-abbrev pub out_after : Call → List Reading → List ℕ
-out_after call readings = call.out ++ output_of call.root (past_of call readings)
+abbrev pub out_after : Call → History → List ℕ
+out_after call history = call.out ++ output_of call.root history
 
-abbrev pub WroteHandled : Call → List Reading → List ℕ → Type 0
-WroteHandled call readings out = IsTrue call.tells_out → out ≡ out_after call readings
+abbrev pub WroteHandled : Call → History → List ℕ → Type 0
+WroteHandled call history out = IsTrue call.tells_out → out ≡ out_after call history
 
 -- what the next item's turn writes
-abbrev pub next_text : Call → List Reading → Reading → List ℕ
-next_text call readings reading =
-    let past = past_of call readings in
-    printed call.root (length past + 1) (next_turn call.root call.first past reading)
+abbrev pub next_text : Call → History → Handled → List ℕ
+next_text call history line = printed call.root (length history + 1) line.turn
 
 -- a part of the next item's lines besides
-pub record WrotePart (call : Call) (readings : List Reading) (out : List ℕ) : Type 0 where
-  pub reading : Reading
-  pub read : AreRead call.root call.items (readings ++ reading ∷ [])
-  pub part : IsTrue call.tells_out
-      → IsPart (next_text call readings reading) (out_after call readings) out
+pub record HasPart (call : Call) (history : History) (out : List ℕ) : Type 0 where
+  pub line : Handled
+  pub next : IsNext call.root call.first history line
+  pub read : AreRead call.root call.items (readings_of (line ∷ history))
+  pub part : IsPart (next_text call history line) (out_after call history) out
+
+abbrev pub WrotePart : Call → History → List ℕ → Type 0
+WrotePart call history out = IsTrue call.tells_out → HasPart call history out
 
 -- ---- how a run ends
 
-pub record Ends (Handled Taken Written : Type 0) : Type 0 where
-  pub handled : Handled
+pub record Ends (Count Taken Written : Type 0) : Type 0 where
+  pub handled : Count
   pub taken : Taken
   pub written : Written
 
 -- all items were handled, before the budget was spent
-pub record HandledAll (call : Call) (readings : List Reading) : Type 0 where
-  pub all : length readings ≡ length call.items
-  pub below : length readings < call.budget
+pub record HandledAll (call : Call) (history : History) : Type 0 where
+  pub all : length history ≡ length call.items
+  pub below : length history < call.budget
 
-abbrev pub SpentBudget : Call → List Reading → Type 0
-SpentBudget call readings = length readings ≡ call.budget
+abbrev pub SpentBudget : Call → History → Type 0
+SpentBudget call history = length history ≡ call.budget
 
-abbrev pub BelowBudget : Call → List Reading → Type 0
-BelowBudget call readings = length readings < call.budget
+abbrev pub BelowBudget : Call → History → Type 0
+BelowBudget call history = length history < call.budget
 
 -- how many items were handled, which were taken, and what was written
-abbrev pub EndsAs : Status → Call → List Reading → List ℕ → List ℕ → Type 0
+abbrev pub EndsAs : Status → Call → History → List ℕ → List ℕ → Type 0
 EndsAs ended.Done c rs left out =
     Ends (HandledAll c rs) (TookHandled c rs left) (WroteHandled c rs out)
 EndsAs ended.Budget c rs left out =

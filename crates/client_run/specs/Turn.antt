@@ -1,116 +1,58 @@
--- What one line of input does: why it is refused, at most one commit, and the lines that answer it;
--- and the run of a list of lines.
-use Rattle.std.specs.Prelude.{ℕ, ◌+◌, List, [], ◌∷◌, ◌++◌, length, fold, Option, Some, None, is_none, nat_lt, if◌then◌else◌}
+-- What one line of input does: why it is refused, at most one commit, and the lines that answer it.
+use Rattle.std.specs.Prelude.{◌≡◌, List, [], ◌∷◌, Option, Some, None, option_map, is_none, if◌then◌else◌}
 use Rattle.document_keys.specs.Names.{Root}
-use Rattle.value_model.specs.declared.timestamp.Timestamp.{Timestamp}
-use Rattle.mutations.specs.declared.write.Write.{Write}
 use Rattle.record_codec.specs.declared.commit.Commit.{Commit}
-use Rattle.record_codec.specs.declared.commit.Commit.TheVariants.{Enqueue}
-use Rattle.client_run.specs.declared.event.Event.TheVariants as event
-use Rattle.client_run.specs.declared.reading.Reading.{Reading}
-use Rattle.client_run.specs.declared.reading.Reading.TheVariants.{Line, Refused}
-use Rattle.client_run.specs.declared.refusal.Refusal.{Refusal}
-use Rattle.client_run.specs.declared.refusal.Refusal.TheVariants.{IdsSpent}
-use Rattle.local_store.specs.Documents.{document_of, standing_of}
-use Rattle.local_store.specs.State.{State, committed, most_commits}
-use Rattle.client_run.specs.Lines.{Out, wrote, document, text_of, refusal_text}
+use Rattle.local_store.specs.State.{State}
+use Rattle.client_events.specs.declared.event.Event.{Event}
+use Rattle.line_reader.specs.declared.reading.Reading.{Reading}
+use Rattle.line_reader.specs.declared.reading.Reading.TheVariants.{Line as an_event, Refused}
+use Rattle.line_reader.specs.declared.refusal.Refusal.{Refusal as Unread}
+use Rattle.sync_engine.specs.declared.refusal.Refusal.{Refusal}
+use Rattle.sync_engine.specs.Answers.{Answers}
+use Rattle.sync_engine.specs.Lines.{Line}
+use Rattle.sync_engine.specs.Past.{Turn, Entry, Past}
+use Rattle.sync_engine.specs.Turn.{IsTurn}
 
-pub record Turn : Type 0 where
-  pub refusal : Option Refusal
+-- why a line is refused: it is no event, or the client refuses its event
+pub data Cause : Type 0 where
+  unread : Unread → Cause
+  unheard : Refusal → Cause
+
+pub record LineTurn : Type 0 where
+  pub cause : Option Cause
   pub commit : Option Commit
-  pub lines : List Out
+  pub lines : List Line
 
--- a line of a run: the state before it, what it is, and its turn
-pub record Entry : Type 0 where
-  pub state : State
-  pub reading : Reading
+-- a line that is no event does nothing
+abbrev pub unread_turn : Unread → LineTurn
+unread_turn refusal = record { cause = Some (unread refusal); commit = None; lines = [] }
+
+-- the turn of an event, as that of its line
+abbrev pub of_event : Turn → LineTurn
+of_event t = record { cause = option_map unheard t.refusal; commit = t.commit; lines = t.lines }
+
+-- the line's event has the turn
+pub record IsEventTurn (root : Root) (s : State) (past : Past) (e : Event) (t : LineTurn) : Type 0 where
   pub turn : Turn
+  pub is_turn : IsTurn root s past e turn
+  pub is : t ≡ of_event turn
 
--- lines of a run, the newest first
-abbrev pub Past : Type 0
-Past = List Entry
+-- the turn of a line, from the state before it and what the client has heard
+abbrev pub IsLineTurn : Root → State → Past → Reading → LineTurn → Type 0
+IsLineTurn root s past (Refused refusal) t = t ≡ unread_turn refusal
+IsLineTurn root s past (an_event e) t = IsEventTurn root s past e t
 
--- a refused line does nothing
-abbrev pub refused : Refusal → Turn
-refused refusal = record { refusal = Some refusal; commit = None; lines = [] }
+-- the commit of a line's turn, if it makes one, which its snapshots say nothing of
+abbrev pub CommitsNext : State → Past → Reading → Option Commit → Type 0
+CommitsNext s past (Refused refusal) commit = commit ≡ None
+CommitsNext s past (an_event e) commit = (answer : Turn) × Answers s past e answer × (commit ≡ answer.commit)
 
-abbrev pub answered : List Out → Turn
-answered lines = record { refusal = None; commit = None; lines = lines }
+-- an event that was heard
+abbrev pub entry_of : State → Event → LineTurn → Entry
+entry_of s e t =
+    record { state = s; event = e; turn = record { refusal = None; commit = t.commit; lines = t.lines } }
 
--- the line makes this commit
-abbrev pub commits : Commit → List Out → Turn
-commits commit lines = record { refusal = None; commit = Some commit; lines = lines }
-
--- the writes are the next batch, where a number is left for its commit
-abbrev pub enqueued : State → Timestamp → List Write → Turn
-enqueued s at writes =
-    if nat_lt s.number most_commits
-    then commits (Enqueue (record { id = s.next_batch; at = at; writes = writes }))
-    (wrote s.next_batch (s.number + 1) ∷ [])
-    else refused IdsSpent
-
--- The turn of one line, from the state before it and the lines that the client has heard.
-unfoldable pub turn : Root → State → Past → Reading → Turn
-turn root s past (Refused refusal) = refused refusal
-turn root s past (Line (event.Write at writes)) = enqueued s at writes
-turn root s past (Line (event.Get key)) =
-    answered (document key (document_of s key) (standing_of s key) ∷ [])
-
--- what a turn writes, where this is the line's number
-abbrev pub printed : Root → ℕ → Turn → List ℕ
-printed root number t = refusal_text number t.refusal ++ text_of root t.lines
-
--- the state after a turn
-abbrev pub after : State → Option Commit → State
-after s None = s
-after s (Some commit) = committed s commit
-
--- the state after the lines so far
-abbrev pub now : State → Past → State
-now first [] = first
-now first (entry ∷ past) = after entry.state entry.turn.commit
-
--- a line more, unless it was refused
-abbrev pub and_heard : Entry → Past → Past
-and_heard entry past = if is_none entry.turn.refusal then entry ∷ past else past
-
--- the lines that a client stands for: it doesn't hear of those that were refused
-abbrev pub heard : Past → Past
-heard [] = []
-heard (entry ∷ past) = and_heard entry (heard past)
-
--- the turn of the next line of a run
-abbrev pub next_turn : Root → State → Past → Reading → Turn
-next_turn root first past reading = turn root (now first past) (heard past) reading
-
-abbrev pub one_more : Root → State → Past → Reading → Past
-one_more root first past reading = record {
-  state = now first past;
-  reading = reading;
-  turn = next_turn root first past reading;
-} ∷ past
-
--- the lines one after another
-abbrev pub run : Root → State → Past → List Reading → Past
-run root first past [] = past
-run root first past (reading ∷ readings) =
-    run root first (one_more root first past reading) readings
-
--- what is written, in order; lines are numbered from 1
-abbrev pub output_of : Root → Past → List ℕ
-output_of root [] = []
-output_of root (entry ∷ past) = output_of root past ++ printed root (length past + 1) entry.turn
-
--- the commit of a turn, if it makes one
-abbrev pub made : Option Commit → List Commit
-made None = []
-made (Some commit) = commit ∷ []
-
--- the commits of the lines so far, in order
-abbrev pub commits_of : Past → List Commit
-commits_of [] = []
-commits_of (entry ∷ past) = commits_of past ++ made entry.turn.commit
-
--- the state after these commits
-abbrev pub after_all : State → List Commit → State
-after_all s commits = fold committed s commits
+-- what was heard, with this line, unless it was refused
+abbrev pub and_heard : State → Reading → LineTurn → Past → Past
+and_heard s (Refused refusal) t past = past
+and_heard s (an_event e) t past = if is_none t.cause then entry_of s e t ∷ past else past

@@ -1,27 +1,22 @@
 //! The run of a client: lines in, answers out, a journal between.
 //!
-//! `run_client` takes the words of a call, and `run_within` is the run itself: it opens the `LocalStore`, and then each line
-//! is read as a `Reading` (an `Event`, or the `Refusal` of a line that is none), its turn is taken (`taken`: the commit is
-//! made, and an `Outcome` of lines is handed out), and the lines are printed (`lines`) and go out together. A `Status` says how
-//! a run ends. What is promised of all this is in `specs/`: `Output`, `Crash` and `Causes`, one file for each clause.
+//! `run_client` takes the words of a call, and `run_within` is the run itself: it opens the `Client`, and then each line is read
+//! as a `Reading` (an event, or why it is none), the client takes its turn, in which its commit is made, and the lines that answer
+//! it are printed and go out together (`handled.rt`). A `Status` says how a run ends. What one line does, `specs/Turn.antt` says;
+//! what is promised of all of them, `Output`, `Crash` and `Causes`, one file for each clause.
 #![tactic(auto)]
 
 mod client;
-mod event;
+mod handled;
 mod laws;
-mod line;
-mod lines;
-mod out;
-mod reading;
-mod refusal;
+mod printing;
 mod run;
 mod status;
 mod taken;
-mod tree;
 mod turn_fault;
 mod words;
 
 pub use client::run_client;
-pub use laws::{a_line_reports_once, a_turn_reports_within, one_reading};
+pub use laws::{a_history_is_one, a_turn_reports_within};
 pub use run::run_within;
 pub use status::Status;

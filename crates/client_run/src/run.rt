@@ -4,44 +4,45 @@ ghost use Rattle.client_run.specs.Causes.{Causes, Completes, IsForeign, LeavesFo
 ghost use Rattle.client_run.specs.Crash.{Keeps};
 ghost use Rattle.client_run.specs.Output.{called};
 ghost use Rattle.client_run.specs.Run.{Ran, Kept};
+ghost use Rattle.client_run.specs.Taken.{IsStanding};
 ghost use Rattle.local_store.specs.Files.{FindsState};
 ghost use Rattle.local_store.specs.State.{State};
 ghost use Rattle.local_store.specs.Files.{IsNoStore};
-ghost use Rattle.local_store.specs.Store.{IsSpent, IsStored};
-ghost use Rattle.client_run.specs.Turned.{StandsFor};
+ghost use Rattle.local_store.specs.Store.{IsStored};
+ghost use Rattle.sync_engine.specs.Standing.{IsLive, StandsFor};
 
-use crate::line::read_item;
+use crate::handled::handle;
 use crate::status::Status;
-use crate::taken::handle;
 use disk_journal::OpenFault;
 use document_keys::Database;
 use host_api::{Host, Line, Source, SourceFault};
-use local_store::LocalStore;
+use line_reader::read_item;
 use std::alloc::Global;
+use sync_engine::Client;
 
 /// Reads and handles the lines of the source, one after another, at most as many as the budget.
 fn serve<S: Source, H: Host>(
     alloc: Global,
-    root: &Database,
     source: &mut S,
     host: &mut H,
-    store: LocalStore,
+    client: Client,
     budget: u64,
 ) -> Status
-    requires stored { IsTrue H.tells_files → IsStored store (H.view host.old) }
-    requires whole { ¬ (IsSpent store) }
-    ensures run { IsTrue S.tells → IsTrue H.tells_files → (s : State) → StandsFor store s []
-        → Ran (called root.now (S.left source.old) s budget H.tells_out (H.view host.old).out)
+    requires stored { IsTrue H.tells_files → IsStored client.store (H.view host.old) }
+    requires live { IsLive client }
+    requires standing { IsStanding client }
+    ensures run { IsTrue S.tells → IsTrue H.tells_files → (s : State) → StandsFor client s []
+        → Ran (called client.root (S.left source.old) s budget H.tells_out (H.view host.old).out)
         result (S.left source.new) (H.view host.old) (H.view host.new) }
-    ensures kept { IsTrue S.tells → IsTrue H.tells_files → (s : State) → StandsFor store s []
-        → Kept result (called root.now (S.left source.old) s budget H.tells_out (H.view host.old).out)
+    ensures kept { IsTrue S.tells → IsTrue H.tells_files → (s : State) → StandsFor client s []
+        → Kept result (called client.root (S.left source.old) s budget H.tells_out (H.view host.old).out)
         (H.view host.new).bytes }
     ensures keeps { IsTrue H.tells_files → Keeps (H.view host.new) }
     ensures serving { IsServed result }
     ensures cause { Causes result (S.faults source.old) (S.faults source.new)
         (H.view host.old) (H.view host.new) }
 {
-    let mut store = store;
+    let mut client = client;
     let mut text = Vec::new(alloc);
     for handled in 0..budget {
         let line = match source.line(alloc, &mut text) {
@@ -52,18 +53,18 @@ fn serve<S: Source, H: Host>(
         if let Line::End = line {
             return Status::Done;
         }
-        let Ok(reading) = read_item(alloc, root, line, text.as_slice()) else {
+        let Ok(reading) = read_item(alloc, client.root(), line, text.as_slice()) else {
             return Status::NoMemory;
         };
-        store = match handle(alloc, root, host, store, handled + 1, reading) {
-            Ok(next) => next,
+        match handle(alloc, host, &mut client, handled + 1, reading) {
+            Ok(()) => {}
             Err(fault) => return fault.status(),
-        };
+        }
     }
     Status::Budget
 }
 
-/// A run of at most `budget` lines over the database `root`: the store is opened, and then each line is read, and what it
+/// A run of at most `budget` lines over the database `root`: the client is opened, and then each line is read, and what it
 /// commits is on the disk before its answer goes out. So wherever a crash comes, the files find the state after the first
 /// commits of the run, among which is every one that a whole `ok` line names; and files of a store stay such.
 ///
@@ -101,11 +102,11 @@ pub fn run_within<S: Source, H: Host>(
     ensures cause { Causes result (S.faults source.old) (S.faults source.new)
         (H.view host.old) (H.view host.new) }
 {
-    let store = match LocalStore::open(alloc, host) {
-        Ok(store) => store,
+    let client = match Client::open(alloc, host, root) {
+        Ok(client) => client,
         Err(OpenFault::DiskFault) => return Status::DiskFault,
         Err(OpenFault::NotAStore(_)) => return Status::NotAStore,
         Err(OpenFault::NoMemory) => return Status::NoMemory,
     };
-    serve(alloc, &root, source, host, store, budget)
+    serve(alloc, source, host, client, budget)
 }

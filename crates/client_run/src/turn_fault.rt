@@ -1,10 +1,9 @@
 ghost use Rattle.std.specs.Prelude.{◌≡◌};
-ghost use Rattle.client_run.specs.Turned.{turn_fault_of, status_of};
+ghost use Rattle.client_run.specs.Turned.{status_of};
 
 use crate::status::Status;
 use document_keys::NoMemory;
 use host_api::Failed;
-use std::alloc::AllocFailed;
 
 /// Why a line wasn't handled to its end.
 #[derive(Clone, Copy, Debug, PartialEq, Eq)]
@@ -17,43 +16,13 @@ pub enum TurnFault {
     NoMemory,
 }
 
-/// Why a line's commit wasn't made.
-#[derive(Clone, Copy, Debug, PartialEq, Eq)]
-pub enum CommitFault {
-    /// The disk failed, and the host counted it. The commit may have been made.
-    DiskFault,
-    /// No memory was found. Nothing was written.
-    NoMemory,
-}
-
-impl From<NoMemory> for CommitFault {
-    ghost use Rattle.client_run.specs.declared.turn_fault.CommitFault.TheVariants as fault;
+impl From<NoMemory> for TurnFault {
+    ghost use Rattle.client_run.specs.declared.turn_fault.TurnFault.TheVariants as fault;
 
     ghost from_gives = { λ _ e. e ≡ fault.NoMemory };
 
-    fn from(_error: NoMemory) -> CommitFault {
-        CommitFault::NoMemory
-    }
-}
-
-impl<T: Drop> From<AllocFailed<T>> for CommitFault {
-    ghost use Rattle.client_run.specs.declared.turn_fault.CommitFault.TheVariants as fault;
-
-    ghost from_gives = { λ _ e. e ≡ fault.NoMemory };
-
-    fn from(_error: AllocFailed<T>) -> CommitFault {
-        CommitFault::NoMemory
-    }
-}
-
-impl From<CommitFault> for TurnFault {
-    ghost from_gives = { λ fault e. e ≡ turn_fault_of fault };
-
-    fn from(fault: CommitFault) -> TurnFault {
-        match fault {
-            CommitFault::DiskFault => TurnFault::DiskFault,
-            CommitFault::NoMemory => TurnFault::NoMemory,
-        }
+    fn from(_error: NoMemory) -> TurnFault {
+        TurnFault::NoMemory
     }
 }
 
@@ -65,16 +34,6 @@ impl From<Failed> for TurnFault {
 
     fn from(_failed: Failed) -> TurnFault {
         TurnFault::SinkFault
-    }
-}
-
-impl From<NoMemory> for TurnFault {
-    ghost use Rattle.client_run.specs.declared.turn_fault.TurnFault.TheVariants as fault;
-
-    ghost from_gives = { λ _ e. e ≡ fault.NoMemory };
-
-    fn from(_error: NoMemory) -> TurnFault {
-        TurnFault::NoMemory
     }
 }
 

@@ -41,6 +41,7 @@ scalar_deep leaf.Descendants d v s = absurd s
 scalar_deep leaf.TargetId d v s = absurd s
 scalar_deep leaf.Count d v s = absurd s
 scalar_deep leaf.Code d v s = absurd s
+scalar_deep leaf.ListenerId d v s = absurd s
 scalar_deep (leaf.Constant which) d v s = absurd s
 
 put_deep : (es : Entries) (name : List ℕ) (v : Data) (limit : ℕ) → entries_depth es ≤ limit → depth v ≤ limit → entries_depth (with_field es name v) ≤ limit

@@ -85,6 +85,7 @@ leaf_fits root leaf.Descendants name d h = descendants_fine name d h
 leaf_fits root leaf.TargetId name d h = fine _ _ h
 leaf_fits root leaf.Count name d h = fine _ _ h
 leaf_fits root leaf.Code name d h = fine _ _ h
+leaf_fits root leaf.ListenerId name d h = fine _ _ h
 leaf_fits root (leaf.Constant which) name d h = text_fine _ _ d name (constant_fine which name) h
 
 -- what a reader of leaves knows
@@ -134,4 +135,5 @@ fits_leaf root leaf.Descendants name d h = ap (descendants_faults name) (sym h)
 fits_leaf root leaf.TargetId name d h = inl (h, refl)
 fits_leaf root leaf.Count name d h = inl (h, refl)
 fits_leaf root leaf.Code name d h = inl (h, refl)
+fits_leaf root leaf.ListenerId name d h = inl (h, refl)
 fits_leaf root (leaf.Constant which) name d (text, (is, h)) = in_text text [] is (ap (λ b. if b then [] else if is_untaken which text then json_fault.Unsupported text ∷ [] else json_fault.BadShape name ∷ []) (sym h))

@@ -141,6 +141,7 @@ scalar_once leaf.Descendants d v w s t = absurd s
 scalar_once leaf.TargetId d v w s t = absurd s
 scalar_once leaf.Count d v w s t = absurd s
 scalar_once leaf.Code d v w s t = absurd s
+scalar_once leaf.ListenerId d v w s t = absurd s
 scalar_once (leaf.Constant which) d v w s t = absurd s
 
 -- ---- trees

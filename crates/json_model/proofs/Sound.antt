@@ -185,6 +185,7 @@ ascending (one ∷ (two ∷ others)) = is_lt (slice_cmp nat_cmp one two) && asce
 required_ascending : (kind : Object) → ascending (required kind) ≡ true
 required_ascending object.WriteLine = refl
 required_ascending object.GetLine = refl
+required_ascending object.ListenLine = refl
 required_ascending object.Update = refl
 required_ascending object.Transform = refl
 required_ascending object.ArrayTransform = refl

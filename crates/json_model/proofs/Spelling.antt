@@ -65,6 +65,7 @@ leaf_spelled o leaf.Descendants d f is = cc
 leaf_spelled o leaf.TargetId d f is = cc
 leaf_spelled o leaf.Count d f is = cc
 leaf_spelled o leaf.Code d f is = cc
+leaf_spelled o leaf.ListenerId d f is = cc
 leaf_spelled o (leaf.Constant which) d f is = cc
 
 -- a member, by its name

@@ -79,6 +79,7 @@ is_scalar leaf.Descendants = false
 is_scalar leaf.TargetId = false
 is_scalar leaf.Count = false
 is_scalar leaf.Code = false
+is_scalar leaf.ListenerId = false
 is_scalar (leaf.Constant which) = false
 is_scalar _ = true
 

@@ -17,7 +17,7 @@ use Rattle.json_model.specs.declared.fault.NamingFault.{NamingFault}
 use Rattle.json_model.specs.declared.fault.NamingFault.TheVariants.{BadSegment, BadPath, ReservedField}
 use Rattle.json_model.specs.Bytes.{SpellsBytes}
 use Rattle.json_model.specs.Constants.{is_constant, is_untaken}
-use Rattle.json_model.specs.Numbers.{SpellsWhole, SpellsShort, SpellsUpTo, max_count, max_code}
+use Rattle.json_model.specs.Numbers.{SpellsWhole, SpellsShort, SpellsUpTo, max_count, max_code, max_listener_id}
 use Rattle.json_model.specs.References.{SpellsReference, HasDocumentFault, HasReferenceFault, HasFieldFault}
 
 -- no fault where the fact holds, and this one where it doesn't
@@ -105,6 +105,7 @@ FitsLeaf root leaf.Descendants d = d ≡ boolean false
 FitsLeaf root leaf.TargetId d = (z : ℤ) × SpellsShort d z
 FitsLeaf root leaf.Count d = (n : ℕ) × SpellsUpTo max_count d n
 FitsLeaf root leaf.Code d = (n : ℕ) × SpellsUpTo max_code d n
+FitsLeaf root leaf.ListenerId d = (n : ℕ) × SpellsUpTo max_listener_id d n
 FitsLeaf root (leaf.Constant which) d = IsTextOf (λ text. is_constant which text ≡ true) d
 
 -- ---- the faults of what may not

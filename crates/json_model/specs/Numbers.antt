@@ -31,6 +31,10 @@ max_count = 2147483647
 abbrev pub max_code : ℕ
 max_code = 16
 
+-- the last id of a listener
+abbrev pub max_listener_id : ℕ
+max_listener_id = 4294967295
+
 -- one of 32 bits
 pub record SpellsShort (d : Json) (z : ℤ) : Type 0 where
   pub whole : SpellsWhole d z

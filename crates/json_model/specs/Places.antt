@@ -40,10 +40,10 @@ unfoldable pub line_rows : List Row
 line_rows =
     (codes "close", Unsupported) ∷
     (codes "get", an_object object.GetLine) ∷
-    (codes "listen", Unsupported) ∷
+    (codes "listen", an_object object.ListenLine) ∷
     (codes "open", Unsupported) ∷
     (codes "timer", Unsupported) ∷
-    (codes "unlisten", Unsupported) ∷
+    (codes "unlisten", an_object object.UnlistenLine) ∷
     (codes "watch", Unsupported) ∷
     (codes "write", an_object object.WriteLine) ∷
     (codes "written", Unsupported) ∷
@@ -60,6 +60,19 @@ write_line_rows =
 unfoldable pub get_line_rows : List Row
 get_line_rows =
     (codes "name", a_leaf leaf.Name) ∷
+    []
+
+-- what `listen` holds
+unfoldable pub listen_line_rows : List Row
+listen_line_rows =
+    (codes "id", a_leaf leaf.ListenerId) ∷
+    (codes "target", an_object object.Target) ∷
+    []
+
+-- what `unlisten` holds
+unfoldable pub unlisten_line_rows : List Row
+unlisten_line_rows =
+    (codes "id", a_leaf leaf.ListenerId) ∷
     []
 
 -- a write
@@ -283,6 +296,15 @@ write_result_rows =
 abbrev pub value_member : List ℕ → Place
 value_member name = placed value_rows name
 
+-- an object of one member, which no rows name
+abbrev pub has_one_member : Object → Bool
+has_one_member object.Array = true
+has_one_member object.Map = true
+has_one_member object.Elements = true
+has_one_member object.Documents = true
+has_one_member object.Field = true
+has_one_member _ = false
+
 -- what is to stand under a name in an object
 abbrev pub member_place : Object → List ℕ → Place
 member_place object.Value name = placed value_rows name
@@ -292,6 +314,8 @@ member_place object.Fields name = an_object object.Value
 member_place object.Line name = placed line_rows name
 member_place object.WriteLine name = placed write_line_rows name
 member_place object.GetLine name = placed get_line_rows name
+member_place object.ListenLine name = placed listen_line_rows name
+member_place object.UnlistenLine name = placed unlisten_line_rows name
 member_place object.Write name = placed write_rows name
 member_place object.DeleteWrite name = placed delete_write_rows name
 member_place object.Update name = placed update_rows name
@@ -347,6 +371,7 @@ is_unknown _ = false
 abbrev pub required : Object → List (List ℕ)
 required object.WriteLine = codes "at" ∷ []
 required object.GetLine = codes "name" ∷ []
+required object.ListenLine = codes "target" ∷ []
 required object.Update = codes "name" ∷ []
 required object.Transform = codes "fieldPath" ∷ []
 required object.ArrayTransform = codes "fieldPath" ∷ []

@@ -11,7 +11,7 @@ ghost use Rattle.json_model.specs.declared.fault.JsonFault.TheVariants as json_f
 ghost use Rattle.json_model.specs.Clean.{IsClean};
 ghost use Rattle.json_model.specs.Constants.{is_constant};
 ghost use Rattle.json_model.specs.Grammar.{SpellsTime, SpellsName, SpellsText, SpellsBytesTree, SpellsReferenceTree, SpellsPathTree, SpellsId, SpellsParent, SpellsQueryPathTree};
-ghost use Rattle.json_model.specs.Numbers.{SpellsWhole, SpellsShort, SpellsUpTo, max_count, max_code};
+ghost use Rattle.json_model.specs.Numbers.{SpellsWhole, SpellsShort, SpellsUpTo, max_count, max_code, max_listener_id};
 ghost use Rattle.json_model.specs.Storable.{IsStorablePath, IsStorableQueryPath};
 
 use crate::bytes::read_bytes;
@@ -19,7 +19,7 @@ use crate::fault::JsonFault;
 use crate::names::{
     is_documents, read_key, read_path, read_query_path, read_reference, read_segment,
 };
-use crate::numbers::{MAX_CODE, MAX_COUNT, read_short, read_up_to, read_whole};
+use crate::numbers::{MAX_CODE, MAX_COUNT, MAX_LISTENER_ID, read_short, read_up_to, read_whole};
 use crate::place::Constants;
 use crate::setting::Setting;
 use crate::texts::{show_key, show_path, show_segment};
@@ -300,6 +300,24 @@ pub fn clean_code(alloc: Global, _setting: &Setting<'_>, json: &Json) -> Result<
 {
     match read_up_to(alloc, MAX_CODE, json)? {
         Some(code) => Ok(code as u8),
+        None => unreachable!(),
+    }
+}
+
+/// The id of a listener.
+///
+/// # Errors
+/// `NoMemory`
+pub fn clean_listener_id(
+    alloc: Global,
+    _setting: &Setting<'_>,
+    json: &Json,
+) -> Result<u32, NoMemory>
+    requires { IsClean _setting.now (places.Leaf leaves.ListenerId) (view json.now) }
+    ensures { IfOk result (λ n. SpellsUpTo max_listener_id (view json.now) n) }
+{
+    match read_up_to(alloc, MAX_LISTENER_ID, json)? {
+        Some(id) => Ok(id),
         None => unreachable!(),
     }
 }

@@ -15,7 +15,7 @@ use crate::fault::{JsonFault, NamingFault};
 use crate::names::{
     bad_name, is_documents, read_key, read_path, read_query_path, read_reference, read_segment,
 };
-use crate::numbers::{MAX_CODE, MAX_COUNT, read_short, read_up_to, read_whole};
+use crate::numbers::{MAX_CODE, MAX_COUNT, MAX_LISTENER_ID, read_short, read_up_to, read_whole};
 use crate::place::{Constants, Leaf, Place};
 use crate::setting::Setting;
 use crate::side::Side;
@@ -361,6 +361,7 @@ fn find_in_leaf(
         Leaf::TargetId => find_in_limit(alloc, name, json),
         Leaf::Count => find_up_to(alloc, MAX_COUNT, name, json),
         Leaf::Code => find_up_to(alloc, MAX_CODE, name, json),
+        Leaf::ListenerId => find_up_to(alloc, MAX_LISTENER_ID, name, json),
         Leaf::Constant(which) => find_in_constant(alloc, which, name, json),
     }
 }

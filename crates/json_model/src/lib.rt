@@ -33,8 +33,8 @@ pub use bytes::{print_bytes, read_bytes};
 pub use clean::{check, clean_choice, clean_list, clean_member, clean_object};
 pub use clean_leaves::{
     clean_boolean, clean_bytes, clean_code, clean_constant, clean_count, clean_id, clean_integer,
-    clean_limit, clean_name, clean_parent, clean_path, clean_query_path, clean_reference,
-    clean_target_id, clean_text, clean_time,
+    clean_limit, clean_listener_id, clean_name, clean_parent, clean_path, clean_query_path,
+    clean_reference, clean_target_id, clean_text, clean_time,
 };
 pub use document::{print_document, state_text};
 pub use fault::{BadName, JsonFault, NamingFault, better};

@@ -50,6 +50,9 @@ pub(crate) const MAX_COUNT: u32 = 2_147_483_647;
 /// The last code of a status.
 pub(crate) const MAX_CODE: u32 = 16;
 
+/// The last id of a listener.
+pub(crate) const MAX_LISTENER_ID: u32 = 4_294_967_295;
+
 /// The whole number from 0 to the most that a tree spells.
 ///
 /// # Errors

@@ -39,6 +39,10 @@ pub enum Object {
     WriteLine,
     /// What `get` holds.
     GetLine,
+    /// What `listen` holds.
+    ListenLine,
+    /// What `unlisten` holds.
+    UnlistenLine,
     /// A write: an update, or by its members a `DeleteWrite`.
     Write,
     /// A write that deletes.
@@ -169,6 +173,8 @@ pub enum Leaf {
     Count,
     /// The code of a status, from 0 to 16.
     Code,
+    /// The id of a listener, from 0 to 4,294,967,295.
+    ListenerId,
     /// One of several texts.
     Constant(Constants),
 }

@@ -1,6 +1,6 @@
 //! The tables: what is to stand under which name of which object. A new object is a row here, and in `specs/Places.antt`.
 
-ghost use Rattle.std.specs.Prelude.{◌≡◌, map};
+ghost use Rattle.std.specs.Prelude.{◌≡◌, map, IsTrue};
 ghost use Rattle.json_model.specs.Places as table;
 
 use crate::place::{Constants, Leaf, Object, Place, Series};
@@ -34,10 +34,10 @@ fn line_member(name: &str) -> Place
     match name {
         "close" => Place::Unsupported,
         "get" => Place::Object(Object::GetLine),
-        "listen" => Place::Unsupported,
+        "listen" => Place::Object(Object::ListenLine),
         "open" => Place::Unsupported,
         "timer" => Place::Unsupported,
-        "unlisten" => Place::Unsupported,
+        "unlisten" => Place::Object(Object::UnlistenLine),
         "watch" => Place::Unsupported,
         "write" => Place::Object(Object::WriteLine),
         "written" => Place::Unsupported,
@@ -64,6 +64,29 @@ fn get_line_member(name: &str) -> Place
 {
     match name {
         "name" => Place::Leaf(Leaf::Name),
+        _ => Place::Unknown,
+    }
+}
+
+/// What `listen` holds.
+#[tactic(auto, unfolding(crate::specs::Places::listen_line_rows))]
+fn listen_line_member(name: &str) -> Place
+    ensures { result ≡ table.placed table.listen_line_rows name.now }
+{
+    match name {
+        "id" => Place::Leaf(Leaf::ListenerId),
+        "target" => Place::Object(Object::Target),
+        _ => Place::Unknown,
+    }
+}
+
+/// What `unlisten` holds.
+#[tactic(auto, unfolding(crate::specs::Places::unlisten_line_rows))]
+fn unlisten_line_member(name: &str) -> Place
+    ensures { result ≡ table.placed table.unlisten_line_rows name.now }
+{
+    match name {
+        "id" => Place::Leaf(Leaf::ListenerId),
         _ => Place::Unknown,
     }
 }
@@ -422,18 +445,35 @@ fn write_result_member(name: &str) -> Place
     }
 }
 
+/// What an object of one member holds.
+fn lone_member(object: Object, name: &str) -> Place
+    requires { IsTrue (table.has_one_member object) }
+    ensures { result ≡ table.member_place object name.now }
+{
+    match object {
+        Object::Array | Object::Elements if name == "values" => Place::Series(Series::Values),
+        Object::Map if name == "fields" => Place::Object(Object::Fields),
+        Object::Documents if name == "documents" => Place::Series(Series::Names),
+        Object::Field if name == "fieldPath" => Place::Leaf(Leaf::QueryPath),
+        _ => Place::Unknown,
+    }
+}
+
 /// The place of the member of that name.
 pub fn member_place(object: Object, name: &str) -> Place
     ensures { result ≡ table.member_place object name.now }
 {
     match object {
         Object::Value => value_member(name),
-        Object::Array | Object::Elements if name == "values" => Place::Series(Series::Values),
-        Object::Map if name == "fields" => Place::Object(Object::Fields),
+        Object::Array | Object::Elements | Object::Map | Object::Documents | Object::Field => {
+            lone_member(object, name)
+        }
         Object::Fields => Place::Object(Object::Value),
         Object::Line => line_member(name),
         Object::WriteLine => write_line_member(name),
         Object::GetLine => get_line_member(name),
+        Object::ListenLine => listen_line_member(name),
+        Object::UnlistenLine => unlisten_line_member(name),
         Object::Write => write_member(name),
         Object::DeleteWrite => delete_write_member(name),
         Object::Update => update_member(name),
@@ -441,7 +481,6 @@ pub fn member_place(object: Object, name: &str) -> Place
         Object::Condition => condition_member(name),
         Object::Transform | Object::ArrayTransform => transform_member(name),
         Object::Operand => operand_member(name),
-        Object::Documents if name == "documents" => Place::Series(Series::Names),
         Object::Target => target_member(name),
         Object::Query => query_member(name),
         Object::StructuredQuery => structured_query_member(name),
@@ -453,7 +492,6 @@ pub fn member_place(object: Object, name: &str) -> Place
         Object::FieldFilter => field_filter_member(name),
         Object::ListFilter => list_filter_member(name),
         Object::UnaryFilter => unary_filter_member(name),
-        Object::Field if name == "fieldPath" => Place::Leaf(Leaf::QueryPath),
         Object::ListenResponse => listen_response_member(name),
         Object::TargetChange => target_change_member(name),
         Object::Status => status_member(name),
@@ -463,7 +501,7 @@ pub fn member_place(object: Object, name: &str) -> Place
         Object::ExistenceFilter => existence_filter_member(name),
         Object::WriteResponse => write_response_member(name),
         Object::WriteResult => write_result_member(name),
-        _ => Place::Unknown,
+        Object::ListOperand => Place::Unknown,
     }
 }
 
@@ -492,6 +530,7 @@ pub fn required(object: Object) -> &'static [&'static str]
     match object {
         Object::WriteLine => &["at"],
         Object::GetLine => &["name"],
+        Object::ListenLine => &["target"],
         Object::Update => &["name"],
         Object::Transform => &["fieldPath"],
         Object::ArrayTransform => &["fieldPath"],

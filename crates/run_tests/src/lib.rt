@@ -8,6 +8,7 @@
 
 #[cfg(test)]
 mod fixtures;
+mod listening;
 #[cfg(test)]
 mod runs;
 #[cfg(test)]

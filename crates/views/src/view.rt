@@ -1,4 +1,4 @@
-ghost use Rattle.std.specs.Prelude.{◌≡◌, ◌≢◌, ◌↔◌, IsTrue, IfSome, IsSome, false, Some, None, [], OnOk, OnErr, IfOk};
+ghost use Rattle.std.specs.Prelude.{◌≡◌, ◌≢◌, ◌↔◌, IsTrue, IfSome, IsSome, is_some, false, Some, None, [], OnOk, OnErr, IfOk};
 ghost use Rattle.std.specs.FinMap as map;
 ghost use Rattle.std.specs.List.{All, AllPairs};
 ghost use Rattle.queries.specs.Answer.{IsAnswer};
@@ -162,6 +162,13 @@ impl View {
             unreachable!();
         };
         Snapshot::of(raised, docs)
+    }
+
+    /// Whether a snapshot was raised.
+    pub fn has_raised(&self) -> bool
+        ensures { result ≡ is_some self.now.raised }
+    {
+        self.raised.is_some()
     }
 
     /// The query.

@@ -1,4 +1,5 @@
 use Rattle.std.proofs.Common.{inr, refl, subst, List, ℕ}
+use Rattle.document_keys.specs.Names.{Root}
 use Rattle.client_run.specs.Output.{called}
 use Rattle.client_run.specs.Run.{Ran, Kept}
 use Rattle.client_run.proofs.Began.{disk_first, memory_first, ran_from, opened_stands, opens_keeps, kept_is_store, causes_from, completed}
@@ -30,14 +31,14 @@ returns-in-Err-NotAStore-clause-not_a_store g c = λ is. record {
 
 pub returns-clause-run : goal.returns-clause-run
 returns-clause-run g c = λ tells told s finds.
-    let ran = c.serve.ensures.run tells told s (opened_stands (c.in-Ok.ensures.found told) finds) in
+    let ran = c.serve.ensures.run tells told s (opened_stands c.in-Ok.ensures.stands (c.in-Ok.ensures.found told) finds) in
     ran_from g.H.Host.view (λ h o x left. g.met.H.Host.only_now h o x told left) _ _ _ refl c.in-Ok.ensures.out.out finds (c.in-Ok.ensures.settled told)
-    (subst (λ (o : List ℕ). Ran (called c.args.root (g.S.Source.left c.args.source.now) s c.args.budget g.H.Host.tells_out o) c.serve.result (g.S.Source.left c.serve.new.source) (g.H.Host.view c.open.new.host) (g.H.Host.view c.serve.new.host)) c.in-Ok.ensures.out.out ran)
+    (subst (λ (o : List ℕ). Ran (called c.args.root (g.S.Source.left c.args.source.now) s c.args.budget g.H.Host.tells_out o) c.serve.result (g.S.Source.left c.serve.new.source) (g.H.Host.view c.open.new.host) (g.H.Host.view c.serve.new.host)) c.in-Ok.ensures.out.out (subst (λ (r : Root). Ran (called r (g.S.Source.left c.args.source.now) s c.args.budget g.H.Host.tells_out (g.H.Host.view c.open.new.host).out) c.serve.result (g.S.Source.left c.serve.new.source) (g.H.Host.view c.open.new.host) (g.H.Host.view c.serve.new.host)) c.in-Ok.ensures.root ran))
 
 pub returns-clause-kept : goal.returns-clause-kept
 returns-clause-kept g c = λ tells told s finds.
     subst (λ (o : List ℕ). Kept c.serve.result (called c.args.root (g.S.Source.left c.args.source.now) s c.args.budget g.H.Host.tells_out o) (g.H.Host.view c.serve.new.host).bytes) c.in-Ok.ensures.out.out
-    (c.serve.ensures.kept tells told s (opened_stands (c.in-Ok.ensures.found told) finds))
+    (subst (λ (r : Root). Kept c.serve.result (called r (g.S.Source.left c.args.source.now) s c.args.budget g.H.Host.tells_out (g.H.Host.view c.open.new.host).out) (g.H.Host.view c.serve.new.host).bytes) c.in-Ok.ensures.root (c.serve.ensures.kept tells told s (opened_stands c.in-Ok.ensures.stands (c.in-Ok.ensures.found told) finds)))
 
 pub returns-clause-no_store : goal.returns-clause-no_store
 returns-clause-no_store g c = λ told none. absurd (none _ (c.in-Ok.ensures.found told))
@@ -76,7 +77,7 @@ returns-in-Err-NotAStore-clause-completes g c = λ tells told keeps few none.
 pub returns-clause-completes : goal.returns-clause-completes
 returns-clause-completes g c = λ tells told keeps few none.
     let causes = causes_from (c.in-Ok.ensures.counts.stays (λ is. cc)) c.in-Ok.ensures.out.faults c.serve.ensures.cause in
-    completed c.serve.result (c.serve.ensures.run tells told _ (record { state = refl })) causes few none
+    completed c.serve.result (c.serve.ensures.run tells told _ c.in-Ok.ensures.stands) causes few none
 
 pub returns-clause-cause : goal.returns-clause-cause
 returns-clause-cause g c = causes_from (c.in-Ok.ensures.counts.stays (λ is. cc)) c.in-Ok.ensures.out.faults c.serve.ensures.cause

@@ -1,44 +1,47 @@
-use Rattle.std.proofs.Common.{inl, inr, arith, refl, ◌∙◌}
+use Rattle.std.proofs.Common.{inl, inr, arith, refl, subst, ◌∙◌}
+use Rattle.document_keys.specs.Names.{Root}
+use Rattle.host_api.specs.Items.{item_of}
+use Rattle.line_reader.specs.Reading.{Reads}
 use Rattle.client_run.specs.declared.status.Status.TheVariants.{Done, SourceFault, NoMemory, Budget}
-use Rattle.client_run.proofs.Committed.{stored_reads}
-use Rattle.client_run.proofs.Served.{served_none, next_read, all_done, none_left, taken_as, took_one, keeps_stored, keeps_within, stops, served_more, stops_within, leaves_all, nothing_kept, is_served, causes_within, same_then, counts_of}
+use Rattle.sync_engine.proofs.Committed.{stored_reads}
+use Rattle.client_run.proofs.Served.{served_none, next_read, all_done, none_left, taken_as, took_one, keeps_stored, keeps_within, stops, served_more, stops_within, leaves_all, nothing_kept, is_served, causes_within, same_then}
 use Rattle.client_run.proofs.run.serve.Goals as goal
 
 pub returns-in-Err-Failed-clause-run : goal.returns-in-Err-Failed-clause-run
 returns-in-Err-Failed-clause-run g c = λ tells told s stands.
     let it = c.loop-handled.invariant.serving tells told s stands in
-    stops SourceFault _ it (λ o x left. g.met.H.Host.only_now c.args.host.now o x told left) refl c.loop-handled.invariant.whole (c.loop-handled.invariant.stored told)
+    stops SourceFault _ it (λ o x left. g.met.H.Host.only_now c.args.host.now o x told left) refl c.loop-handled.invariant.live.store (c.loop-handled.invariant.stored told)
     (record { handled = omega (arith, it.count, c.loop-handled-test.true); taken = record { rest = _; others = taken_as it it.left_over; suffix = c.in-Err-Failed.ensures.suffix tells }; written = it.wrote }) (λ files finds. finds)
 
 pub returns-in-Err-NoMemory-clause-run : goal.returns-in-Err-NoMemory-clause-run
 returns-in-Err-NoMemory-clause-run g c = λ tells told s stands.
     let it = c.loop-handled.invariant.serving tells told s stands in
-    stops NoMemory _ it (λ o x left. g.met.H.Host.only_now c.args.host.now o x told left) refl c.loop-handled.invariant.whole (c.loop-handled.invariant.stored told)
+    stops NoMemory _ it (λ o x left. g.met.H.Host.only_now c.args.host.now o x told left) refl c.loop-handled.invariant.live.store (c.loop-handled.invariant.stored told)
     (record { handled = omega (arith, it.count, c.loop-handled-test.true); taken = inl (record { rest = _; others = taken_as it it.left_over; suffix = c.in-Err-NoMemory.ensures.suffix tells }); written = it.wrote }) (λ files finds. inl finds)
 
 pub returns-in-End-clause-run : goal.returns-in-End-clause-run
 returns-in-End-clause-run g c = λ tells told s stands.
     let it = c.loop-handled.invariant.serving tells told s stands in
     let all = all_done it c.in-Ok.line _ _ c.in-End.is (c.in-Ok.ensures.takes tells) in
-    stops Done _ it (λ o x left. g.met.H.Host.only_now c.args.host.now o x told left) refl c.loop-handled.invariant.whole (c.loop-handled.invariant.stored told)
+    stops Done _ it (λ o x left. g.met.H.Host.only_now c.args.host.now o x told left) refl c.loop-handled.invariant.live.store (c.loop-handled.invariant.stored told)
     (record { handled = record { all = it.count ∙ all; below = omega (arith, it.count, c.loop-handled-test.true) }; taken = taken_as it (none_left it c.in-Ok.line _ _ c.in-End.is (c.in-Ok.ensures.takes tells)); written = it.wrote }) (λ files finds. finds)
 
 pub returns-in-End-clause-kept : goal.returns-in-End-clause-kept
 returns-in-End-clause-kept g c = λ tells told s stands.
     let it = c.loop-handled.invariant.serving tells told s stands in
-    leaves_all it _ (all_done it c.in-Ok.line _ _ c.in-End.is (c.in-Ok.ensures.takes tells)) (stored_reads c.loop-handled.invariant.whole (c.loop-handled.invariant.stored told))
+    leaves_all it _ (all_done it c.in-Ok.line _ _ c.in-End.is (c.in-Ok.ensures.takes tells)) (stored_reads c.loop-handled.invariant.live.store (c.loop-handled.invariant.stored told))
 
 pub returns-in_default-read_item-clause-run : goal.returns-in_default-read_item-clause-run
 returns-in_default-read_item-clause-run g c = λ tells told s stands.
     let it = c.loop-handled.invariant.serving tells told s stands in
-    stops NoMemory _ it (λ o x left. g.met.H.Host.only_now c.args.host.now o x told left) refl c.loop-handled.invariant.whole (c.loop-handled.invariant.stored told)
+    stops NoMemory _ it (λ o x left. g.met.H.Host.only_now c.args.host.now o x told left) refl c.loop-handled.invariant.live.store (c.loop-handled.invariant.stored told)
     (record { handled = omega (arith, it.count, c.loop-handled-test.true); taken = inr (took_one it c.in-Ok.line _ _ c.in_default.not-End (c.in-Ok.ensures.takes tells)); written = it.wrote }) (λ files finds. inl finds)
 
 pub returns-in-Err-clause-run : goal.returns-in-Err-clause-run
 returns-in-Err-clause-run g c = λ tells told s stands.
     let it = c.loop-handled.invariant.serving tells told s stands in
-    let n = next_read it c.in-Ok.line _ c.as_slice.result.now _ c.in-Ok-read_item.reading c.in_default.not-End c.as_slice.ensures.value (c.in-Ok.ensures.takes tells) c.in-Ok-read_item.ensures.is in
-    rw c.status.ensures (stops_within c.in-Err.fault _ c.in-Ok-read_item.reading it (λ o x left. g.met.H.Host.only_now c.args.host.now o x told left) refl n (omega (arith, c.loop-handled-test.true, c.ranges.budget)) (record { stands = tt; out = c.in-Err.ensures.out; files = c.in-Err.ensures.files told; next = c.handle.ensures.next; counts = counts_of _ c.in-Ok-read_item.ensures.storable }) c.loop-handled-test.true)
+    let n = next_read it c.in-Ok.line _ c.as_slice.result.now _ c.in-Ok-read_item.reading c.in_default.not-End c.as_slice.ensures.value (c.in-Ok.ensures.takes tells) (subst (λ (r : Root). Reads r (item_of c.in-Ok.line c.as_slice.result.now) c.in-Ok-read_item.reading) (c.root.ensures ∙ it.root) c.in-Ok-read_item.ensures.is) in
+    rw c.status.ensures (stops_within c.in-Err.fault _ c.in-Ok-read_item.reading it (λ o x left. g.met.H.Host.only_now c.args.host.now o x told left) refl n (omega (arith, c.loop-handled-test.true, c.ranges.budget)) (record { files = c.handle.ensures.files told; counted = c.handle.ensures.counted; spelled = c.in-Ok-read_item.ensures.spelled }) c.in-Err.ensures.stopped c.loop-handled-test.true)
 
 pub returns-in-Err-clause-kept : goal.returns-in-Err-clause-kept
 returns-in-Err-clause-kept g c = rw c.status.ensures (λ tells told s stands. nothing_kept c.in-Err.fault _ _)
@@ -51,12 +54,13 @@ returns-in-Err-clause-cause g c = rw c.status.ensures (causes_within c.in-Err.fa
 
 pub loop-handled-preserved : goal.loop-handled-preserved
 loop-handled-preserved g c = record {
-  whole = c.in-Ok-handle.ensures.whole;
-  stored = c.in-Ok-handle.ensures.stored;
+  live = c.in-Ok-handle.ensures.live;
+  standing = c.in-Ok-handle.ensures.standing;
+  stored = c.handle.ensures.stored;
   serving = λ tells told s stands.
       let it = c.loop-handled.invariant.serving tells told s stands in
-      let n = next_read it c.in-Ok.line _ c.as_slice.result.now _ c.in-Ok-read_item.reading c.in_default.not-End c.as_slice.ensures.value (c.in-Ok.ensures.takes tells) c.in-Ok-read_item.ensures.is in
-      served_more c.in-Ok-read_item.reading it n (omega (arith, c.loop-handled-test.true, c.ranges.budget)) (record { stands = c.in-Ok-handle.ensures.stands; out = c.in-Ok-handle.ensures.out; files = c.in-Ok-handle.ensures.files told; next = c.handle.ensures.next; counts = counts_of _ c.in-Ok-read_item.ensures.storable });
+      let n = next_read it c.in-Ok.line _ c.as_slice.result.now _ c.in-Ok-read_item.reading c.in_default.not-End c.as_slice.ensures.value (c.in-Ok.ensures.takes tells) (subst (λ (r : Root). Reads r (item_of c.in-Ok.line c.as_slice.result.now) c.in-Ok-read_item.reading) (c.root.ensures ∙ it.root) c.in-Ok-read_item.ensures.is) in
+      served_more c.in-Ok-read_item.reading it n (omega (arith, c.loop-handled-test.true, c.ranges.budget)) (record { files = c.handle.ensures.files told; counted = c.handle.ensures.counted; spelled = c.in-Ok-read_item.ensures.spelled }) c.handle.ensures.root c.in-Ok-handle.ensures.done;
   counts = same_then c.loop-handled.invariant.counts c.in-Ok-handle.ensures.counts;
   source = c.in-Ok.ensures.cause.stays (λ is. cc) ∙ c.loop-handled.invariant.source;
 }
@@ -64,38 +68,40 @@ loop-handled-preserved g c = record {
 pub returns-clause-run : goal.returns-clause-run
 returns-clause-run g c = λ tells told s stands.
     let it = c.loop-handled.invariant.serving tells told s stands in
-    stops Budget _ it (λ o x left. g.met.H.Host.only_now c.args.host.now o x told left) refl c.loop-handled.invariant.whole (c.loop-handled.invariant.stored told)
+    stops Budget _ it (λ o x left. g.met.H.Host.only_now c.args.host.now o x told left) refl c.loop-handled.invariant.live.store (c.loop-handled.invariant.stored told)
     (record { handled = omega (arith, it.count, c.loop-handled-test.false, c.loop-handled.auto.handled-end); taken = taken_as it it.left_over; written = it.wrote }) (λ files finds. finds)
 
 pub returns-clause-kept : goal.returns-clause-kept
 returns-clause-kept g c = λ tells told s stands.
     let it = c.loop-handled.invariant.serving tells told s stands in
-    leaves_all it _ (omega (arith, c.loop-handled-test.false, c.loop-handled.auto.handled-end)) (stored_reads c.loop-handled.invariant.whole (c.loop-handled.invariant.stored told))
+    leaves_all it _ (omega (arith, c.loop-handled-test.false, c.loop-handled.auto.handled-end)) (stored_reads c.loop-handled.invariant.live.store (c.loop-handled.invariant.stored told))
 
 pub returns-in-Err-clause-keeps : goal.returns-in-Err-clause-keeps
 returns-in-Err-clause-keeps g c = λ told.
-    keeps_within c.args.root.now _ c.in-Ok-read_item.reading c.loop-handled.store c.in-Err.fault g.H.Host.tells_out _ _ (g.met.H.Host.may_stay _ told) (record { stands = tt; out = c.in-Err.ensures.out; files = c.in-Err.ensures.files told; next = c.handle.ensures.next; counts = counts_of _ c.in-Ok-read_item.ensures.storable })
+    let standing = c.loop-handled.invariant.standing in
+    keeps_within _ c.in-Ok-read_item.reading c.loop-handled.client standing.state standing.past _ _ (g.met.H.Host.may_stay _ told) standing.stands (record { files = c.handle.ensures.files told; counted = c.handle.ensures.counted; spelled = c.in-Ok-read_item.ensures.spelled })
 
 pub returns-in-Err-Failed-clause-keeps : goal.returns-in-Err-Failed-clause-keeps
-returns-in-Err-Failed-clause-keeps g c = λ told. keeps_stored (g.met.H.Host.may_stay _ told) c.loop-handled.invariant.whole (c.loop-handled.invariant.stored told)
+returns-in-Err-Failed-clause-keeps g c = λ told. keeps_stored (g.met.H.Host.may_stay _ told) c.loop-handled.invariant.live.store (c.loop-handled.invariant.stored told)
 
 pub returns-in-Err-NoMemory-clause-keeps : goal.returns-in-Err-NoMemory-clause-keeps
-returns-in-Err-NoMemory-clause-keeps g c = λ told. keeps_stored (g.met.H.Host.may_stay _ told) c.loop-handled.invariant.whole (c.loop-handled.invariant.stored told)
+returns-in-Err-NoMemory-clause-keeps g c = λ told. keeps_stored (g.met.H.Host.may_stay _ told) c.loop-handled.invariant.live.store (c.loop-handled.invariant.stored told)
 
 pub returns-in-End-clause-keeps : goal.returns-in-End-clause-keeps
-returns-in-End-clause-keeps g c = λ told. keeps_stored (g.met.H.Host.may_stay _ told) c.loop-handled.invariant.whole (c.loop-handled.invariant.stored told)
+returns-in-End-clause-keeps g c = λ told. keeps_stored (g.met.H.Host.may_stay _ told) c.loop-handled.invariant.live.store (c.loop-handled.invariant.stored told)
 
 pub returns-in_default-read_item-clause-keeps : goal.returns-in_default-read_item-clause-keeps
-returns-in_default-read_item-clause-keeps g c = λ told. keeps_stored (g.met.H.Host.may_stay _ told) c.loop-handled.invariant.whole (c.loop-handled.invariant.stored told)
+returns-in_default-read_item-clause-keeps g c = λ told. keeps_stored (g.met.H.Host.may_stay _ told) c.loop-handled.invariant.live.store (c.loop-handled.invariant.stored told)
 
 pub returns-clause-keeps : goal.returns-clause-keeps
-returns-clause-keeps g c = λ told. keeps_stored (g.met.H.Host.may_stay _ told) c.loop-handled.invariant.whole (c.loop-handled.invariant.stored told)
+returns-clause-keeps g c = λ told. keeps_stored (g.met.H.Host.may_stay _ told) c.loop-handled.invariant.live.store (c.loop-handled.invariant.stored told)
 
 pub loop-handled-init : goal.loop-handled-init
 loop-handled-init g c = record {
-  whole = c.requires.whole;
+  live = c.requires.live;
+  standing = c.requires.standing;
   stored = c.requires.stored;
-  serving = λ tells told s stands. served_none _ c.args.store (g.H.Host.view c.args.host.now) refl c.requires.whole (c.requires.stored told) stands;
+  serving = λ tells told s stands. served_none _ c.args.client (g.H.Host.view c.args.host.now) refl refl c.requires.live.store (c.requires.stored told) stands;
   counts = record { disk = refl; sink = refl };
   source = refl;
 }

@@ -2,17 +2,19 @@ use Rattle.std.proofs.Common.{◌≡◌, [], IsTrue}
 use Rattle.host_api.specs.Items.{split}
 use Rattle.client_run.specs.Output.{called}
 use Rattle.local_store.specs.State.{State}
-use Rattle.local_store.specs.Store.{IsSpent, IsStored}
-use Rattle.client_run.specs.Turned.{StandsFor}
+use Rattle.local_store.specs.Store.{IsStored}
+use Rattle.sync_engine.specs.Standing.{IsLive, StandsFor}
+use Rattle.client_run.specs.Taken.{IsStanding}
 use Rattle.client_run.proofs.Served.{Serving, SameFaults}
 use Rattle.client_run.proofs.run.serve.Given as goal
 
 abbrev pub invariant-loop-handled : goal.invariant-loop-handled
 invariant-loop-handled g l = record {
-  whole : ¬ (IsSpent l.store);
-  stored : IsTrue g.H.Host.tells_files → IsStored l.store (g.H.Host.view l.host);
-  serving : IsTrue g.S.Source.tells → IsTrue g.H.Host.tells_files → (s : State) → StandsFor l.fn.store s []
-      → Serving (called l.fn.root (g.S.Source.left l.fn.source) s l.fn.budget g.H.Host.tells_out (g.H.Host.view l.fn.host).out) l.handled (split (g.S.Source.left l.source)) l.store (g.H.Host.view l.fn.host) (g.H.Host.view l.host);
+  live : IsLive l.client;
+  standing : IsStanding l.client;
+  stored : IsTrue g.H.Host.tells_files → IsStored l.client.store (g.H.Host.view l.host);
+  serving : IsTrue g.S.Source.tells → IsTrue g.H.Host.tells_files → (s : State) → StandsFor l.fn.client s []
+      → Serving (called l.fn.client.root (g.S.Source.left l.fn.source) s l.fn.budget g.H.Host.tells_out (g.H.Host.view l.fn.host).out) l.handled (split (g.S.Source.left l.source)) l.client (g.H.Host.view l.fn.host) (g.H.Host.view l.host);
   counts : SameFaults (g.H.Host.view l.fn.host) (g.H.Host.view l.host);
   source : g.S.Source.faults l.source ≡ g.S.Source.faults l.fn.source;
 }

@@ -1,0 +1,92 @@
+-- what is printed of the lines that were handed out
+use Rattle.std.proofs.Common.{◌≡◌, ℕ, ◌+◌, ◌<◌, suc, zero, List, [], ◌∷◌, ◌++◌, length, take, get_or, Option, option_map, append-nil, refl, sym, ap, subst, ◌∙◌, arith}
+use Rattle.std.specs.List.{AllZip}
+use Rattle.std.proofs.Math.Seq.{take-length}
+use Rattle.std.proofs.lemmas.Grind.{flat_map-append}
+use Rattle.std.proofs.lemmas.List.{take_more}
+use Rattle.document_keys.specs.Names.{Root}
+use Rattle.line_printer.specs.Lines.{document_tree, line_of}
+use Rattle.local_store.specs.Documents.{document_of, standing_of}
+use Rattle.local_store.specs.Store.{Store}
+use Rattle.sync_engine.specs.declared.out.Out.TheVariants.{Document}
+use Rattle.line_reader.specs.declared.refusal.Refusal.{Refusal as Unread}
+use Rattle.sync_engine.specs.Lines.{Line}
+use Rattle.sync_engine.specs.Standing.{Kept}
+use Rattle.sync_engine.specs.Telling.{IsShown}
+use Rattle.sync_engine.specs.declared.out.Out.{Out}
+use Rattle.sync_engine.specs.declared.out.Outcome.TheVariants.{Done, Refused}
+use Rattle.sync_engine.specs.declared.refusal.Refusal.{Refusal}
+use Rattle.std.proofs.Common.{Vec, Global}
+use Rattle.client_run.specs.Printed.{printed, refusal_text, text_of, tree_of, unheard_tree, unread_tree}
+use Rattle.client_run.specs.Taken.{AreShown, IsHeard}
+use Rattle.client_run.specs.Turn.{LineTurn, unheard, unread_turn}
+
+-- ---- one line after another
+
+-- the line of an item, where each item has one
+pub shown_at : {X Y : Type 0} (R : X → Y → Type 0) (xs : List X) (ys : List Y) (i : ℕ) (x : X) → AllZip R xs ys → i < length xs → x ≡ get_or xs i x → (y : Y) × R x y
+shown_at R [] ys i x all inside is = absurd (omega (arith, inside))
+shown_at R (a ∷ xs) [] i x all inside is = absurd all
+shown_at R (a ∷ xs) (b ∷ ys) zero x all inside is = (b, subst (λ (z : _). R z b) (sym is) all.0)
+shown_at R (a ∷ xs) (b ∷ ys) (suc i) x all inside is = shown_at R xs ys i x all.1 (omega (arith, inside)) is
+
+-- the lines of some items and of one more
+pub record Splits {X Y : Type 0} (R : X → Y → Type 0) (xs : List X) (x : X) (lines : List Y) : Type 0 where
+  pub front : List Y
+  pub last : Y
+  pub whole : lines ≡ front ++ last ∷ []
+  pub first : AllZip R xs front
+  pub one : R x last
+
+splits : {X Y : Type 0} (R : X → Y → Type 0) (xs : List X) (x : X) (lines : List Y) → AllZip R (xs ++ x ∷ []) lines → Splits R xs x lines
+splits R [] x [] all = absurd all
+splits R [] x (l ∷ []) all = record { front = []; last = l; whole = refl; first = tt; one = all.0 }
+splits R [] x (l ∷ (m ∷ lines)) all = absurd all.1
+splits R (a ∷ xs) x [] all = absurd all
+splits R (a ∷ xs) x (l ∷ lines) all =
+    let rest = splits R xs x lines all.1 in
+    record { front = l ∷ rest.front; last = rest.last; whole = ap (λ (ls : List _). l ∷ ls) rest.whole; first = (all.0, rest.first); one = rest.one }
+
+line_text : Root → Line → List ℕ
+line_text root line = line_of (tree_of root line)
+
+pub no_text : (client : Kept) (text : List ℕ) (lines : List Line) → text ≡ [] → AreShown client [] lines → text ≡ text_of client.root lines
+no_text client text [] none all = none
+no_text client text (l ∷ lines) none all = absurd all
+
+pub more_text : (client : Kept) (outs : List Out) (i : ℕ) (out : Out) (old new line : List ℕ) → i < length outs → out ≡ get_or outs i out → new ≡ old ++ line
+    → ((lines : List Line) → AreShown client (take i outs) lines → old ≡ text_of client.root lines) → ((l : Line) → IsShown client out l → line ≡ line_of (tree_of client.root l))
+    → (lines : List Line) → AreShown client (take (i + 1) outs) lines → new ≡ text_of client.root lines
+more_text client outs i out old new line inside is grown before one lines all =
+    let taken : take (i + 1) outs ≡ take i outs ++ out ∷ [] = take_more outs i out inside ∙ ap (λ (o : Out). take i outs ++ o ∷ []) (sym is) in
+    let parts = splits (IsShown client) (take i outs) out lines (subst (λ (os : List Out). AreShown client os lines) taken all) in
+    grown ∙ ap (λ (t : List ℕ). t ++ line) (before parts.front parts.first) ∙ ap (λ (t : List ℕ). text_of client.root parts.front ++ t) (one parts.last parts.one ∙ sym (append-nil (line_of (tree_of client.root parts.last))))
+    ∙ sym (flat_map-append (λ l. line_of (tree_of client.root l)) parts.front (parts.last ∷ [])) ∙ ap (text_of client.root) (sym parts.whole)
+
+pub all_text : (client : Kept) (outs : List Out) (i : ℕ) (text : List ℕ) → i ≡ length outs → ((lines : List Line) → AreShown client (take i outs) lines → text ≡ text_of client.root lines) → (lines : List Line) → AreShown client outs lines → text ≡ text_of client.root lines
+all_text client outs i text whole are lines all =
+    are lines (subst (λ (os : List Out). AreShown client os lines) (sym (ap (λ n. take n outs) whole ∙ take-length outs)) all)
+
+-- the document of a key
+pub document_printed : (client : Kept) (root : Root) (store : Store) (key : List (List ℕ)) (text : List ℕ) → root ≡ client.root → store ≡ client.store → text ≡ line_of (document_tree root key (document_of store.state key) (standing_of store.state key))
+    → (line : Line) → IsShown client (Document key) line → text ≡ line_of (tree_of client.root line)
+document_printed client root store key text roots stores is line shown =
+    is ∙ ap (λ (r : Root). line_of (document_tree r key (document_of store.state key) (standing_of store.state key))) roots
+    ∙ ap (λ (s : Store). line_of (document_tree client.root key (document_of s.state key) (standing_of s.state key))) stores
+    ∙ ap (λ (l : Line). line_of (tree_of client.root l)) (sym shown)
+
+-- ---- turns
+
+pub done_printed : {client : Kept} {vec : Vec Out Global} {t : LineTurn} (root : Root) (number : ℕ) (text : List ℕ) → (is : IsHeard (Done vec) client t) → text ≡ text_of root is.turn.lines → text ≡ printed root number t
+done_printed root number text is same =
+    same ∙ ap (λ (r : Option Refusal). refusal_text number (option_map unheard r) ++ text_of root is.turn.lines) (sym is.outcome.0) ∙ ap (printed root number) (sym is.is)
+
+pub unheard_printed : {client : Kept} {refusal : Refusal} {t : LineTurn} (root : Root) (number : ℕ) (text : List ℕ) → (is : IsHeard (Refused refusal) client t) → text ≡ line_of (unheard_tree number refusal) → text ≡ printed root number t
+unheard_printed {client} {refusal} {t} root number text is same =
+    same ∙ sym (append-nil (line_of (unheard_tree number refusal)))
+    ∙ ap (λ (r : Option Refusal). refusal_text number (option_map unheard r) ++ text_of root []) (sym is.outcome.0)
+    ∙ ap (λ (ls : List Line). refusal_text number (option_map unheard is.turn.refusal) ++ text_of root ls) (sym is.outcome.1)
+    ∙ ap (printed root number) (sym is.is)
+
+pub unread_printed : {refusal : Unread} {t : LineTurn} (root : Root) (number : ℕ) (text : List ℕ) → t ≡ unread_turn refusal → text ≡ line_of (unread_tree number refusal) → text ≡ printed root number t
+unread_printed {refusal} root number text is same = same ∙ sym (append-nil (line_of (unread_tree number refusal))) ∙ ap (printed root number) (sym is)

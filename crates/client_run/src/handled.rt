@@ -1,0 +1,57 @@
+//! One line, from its reading to its answer.
+
+ghost use Rattle.std.specs.Prelude.{◌≡◌, IsTrue, IfErr, OnOk};
+ghost use Rattle.line_reader.specs.Spelled.{IsSpelledReading};
+ghost use Rattle.local_store.specs.State.{State};
+ghost use Rattle.local_store.specs.Store.{IsStored};
+ghost use Rattle.sync_engine.specs.Past.{Past};
+ghost use Rattle.sync_engine.specs.Standing.{IsLive, StandsFor};
+ghost use Rattle.client_run.specs.Laws.{IsCounted};
+ghost use Rattle.client_run.specs.Taken.{IsStanding};
+ghost use Rattle.client_run.specs.Turned.{IsHandled, Stopped, Turned, TurnCounts, coming};
+
+use crate::printing::print_taken;
+use crate::taken::take;
+use crate::turn_fault::TurnFault;
+use host_api::Host;
+use line_reader::Reading;
+use std::alloc::Global;
+use sync_engine::Client;
+
+/// Handles one line: what it commits is on the disk before its lines go out, in one call of `emit`. `number` is that of the
+/// line in the run, from 1.
+pub fn handle<H: Host>(
+    alloc: Global,
+    host: &mut H,
+    client: &mut Client,
+    number: u64,
+    reading: Reading,
+) -> Result<(), TurnFault>
+    requires stored { IsTrue H.tells_files → IsStored client.old.store (H.view host.old) }
+    requires live { IsLive client.old }
+    requires standing { IsStanding client.old }
+    requires spelled { IsSpelledReading reading }
+    ensures done { OnOk result ((s : State) (past : Past) → StandsFor client.old s past
+        → IsHandled (coming client.old.root s past reading number) client.new
+        H.tells_out (H.view host.old).out (H.view host.new).out) }
+    ensures stopped { IfErr result (λ fault. IsTrue H.tells_out
+        → (s : State) (past : Past) → StandsFor client.old s past
+        → Stopped (coming client.old.root s past reading number) fault
+        (H.view host.old).out (H.view host.new).out) }
+    ensures live { OnOk result (IsLive client.new) }
+    ensures standing { OnOk result (IsStanding client.new) }
+    ensures counted { IsCounted client.old.store.state }
+    ensures root { client.new.root ≡ client.old.root }
+    ensures stored { IsTrue H.tells_files → IsStored client.new.store (H.view host.new) }
+    ensures files { IsTrue H.tells_files → (s : State) (past : Past) → StandsFor client.old s past
+        → Turned (coming client.old.root s past reading number)
+        (H.view host.old) (H.view host.new) }
+    ensures counts { TurnCounts result (H.view host.old) (H.view host.new) }
+{
+    let _number = client.store().number();
+    let _next = client.store().targets().next_id();
+    let taken = take(alloc, host, client, reading)?;
+    let text = print_taken(alloc, client, number, &taken)?;
+    host.emit(text.as_str().as_bytes())?;
+    Ok(())
+}

@@ -1,0 +1,174 @@
+//! What a line came to, as text.
+
+ghost use Rattle.std.specs.Prelude.{◌≡◌, List, IfOk};
+ghost use Rattle.std.specs.String.{string_bytes};
+ghost use Rattle.line_printer.specs.Lines.{document_tree, line_of};
+ghost use Rattle.local_store.specs.Documents.{document_of, standing_of};
+ghost use Rattle.sync_engine.specs.Lines.{Line};
+ghost use Rattle.sync_engine.specs.Telling.{IsRaised, IsShown};
+ghost use Rattle.client_run.specs.Printed.{printed, rule_number as rule_number_of, text_of, tree_of, unheard_tree, unread_tree};
+ghost use Rattle.client_run.specs.Taken.{AreShown, IsHeard, IsStanding, Tells};
+ghost use Rattle.client_run.specs.Turn.{LineTurn};
+
+use crate::taken::Taken;
+use document_keys::{Database, DocumentKey, NoMemory};
+use line_printer::{
+    print_bad_line, print_bad_name, print_bad_query, print_bad_writes, print_found,
+    print_ids_spent, print_listener_taken, print_listening, print_missing, print_no_listener,
+    print_snapshot, print_too_deep, print_too_long, print_unlistened, print_unsupported,
+    print_wrote,
+};
+use line_reader::Refusal as Unread;
+use local_store::{LocalStore, documents_are_local};
+use queries::QueryRule;
+use std::alloc::Global;
+use sync_engine::{Client, Out, Outcome, Refusal};
+use value_model::Documents;
+
+/// The number of a rule of queries.
+fn rule_number(rule: QueryRule) -> u64
+    ensures { result ≡ rule_number_of rule }
+{
+    match rule {
+        QueryRule::OneCollection => 1,
+        QueryRule::Negations => 2,
+        QueryRule::Lists => 3,
+        QueryRule::Cursors => 4,
+        QueryRule::Limit => 5,
+        QueryRule::ArrayFilters => 6,
+    }
+}
+
+/// The answer of a line that is no event; it is this line of the run, from 1.
+fn print_unread(alloc: Global, line: u64, refusal: &Unread) -> Result<String, NoMemory>
+    ensures { IfOk result (λ text. string_bytes text ≡ line_of (unread_tree line refusal.now)) }
+{
+    match refusal {
+        Unread::LineTooLong => print_too_long(alloc, line),
+        Unread::BadLine(member) => print_bad_line(alloc, line, member.as_str()),
+        Unread::TooDeep => print_too_deep(alloc, line),
+        Unread::Unsupported(member) => print_unsupported(alloc, line, member.as_str()),
+        Unread::BadName(bad) => print_bad_name(alloc, line, bad.fault, bad.name.as_str()),
+        Unread::BadWrites { count } => print_bad_writes(alloc, line, *count),
+        Unread::BadQuery(rule) => print_bad_query(alloc, line, rule_number(*rule)),
+    }
+}
+
+/// The answer of a line whose event the client refuses.
+fn print_unheard(alloc: Global, line: u64, refusal: Refusal) -> Result<String, NoMemory>
+    ensures { IfOk result (λ text. string_bytes text ≡ line_of (unheard_tree line refusal)) }
+{
+    match refusal {
+        Refusal::ListenerTaken(id) => print_listener_taken(alloc, line, id),
+        Refusal::NoListener(id) => print_no_listener(alloc, line, id),
+        Refusal::IdsSpent => print_ids_spent(alloc, line),
+    }
+}
+
+/// The document of the key, as the store has it.
+fn print_document(
+    alloc: Global,
+    root: &Database,
+    store: &LocalStore,
+    key: &DocumentKey,
+) -> Result<String, NoMemory>
+    ensures { IfOk result (λ line. string_bytes line ≡ line_of (document_tree root.now key.now
+        (document_of store.now.state key.now) (standing_of store.now.state key.now))) }
+{
+    documents_are_local();
+    match store.document(key) {
+        Some(doc) => print_found(alloc, root, doc),
+        None => print_missing(alloc, root, key, store.state_of(key)),
+    }
+}
+
+/// The last snapshot of the listener of the id.
+fn print_raised(alloc: Global, client: &Client, id: u32) -> Result<String, NoMemory>
+    requires standing { IsStanding client.now }
+    requires raised { (line : Line) × IsRaised client.now id line }
+    ensures { IfOk result (λ text. (line : Line) → IsRaised client.now id line
+        → string_bytes text ≡ line_of (tree_of client.now.root line)) }
+{
+    let Some(snapshot) = client.snapshot(id) else {
+        unreachable!();
+    };
+    let store = client.store();
+    print_snapshot(
+        alloc,
+        client.root(),
+        id,
+        store.number(),
+        store.last_read(),
+        &snapshot,
+    )
+}
+
+/// A line that was handed out.
+fn print_out(alloc: Global, client: &Client, out: &Out) -> Result<String, NoMemory>
+    requires standing { IsStanding client.now }
+    requires shown { (line : Line) × IsShown client.now out.now line }
+    ensures { IfOk result (λ text. (line : Line) → IsShown client.now out.now line
+        → string_bytes text ≡ line_of (tree_of client.now.root line)) }
+{
+    match out {
+        Out::Wrote { batch, commit } => print_wrote(alloc, *batch, *commit),
+        Out::Listening { id, target, commit } => print_listening(alloc, *id, *target, *commit),
+        Out::Unlistened { id, commit } => print_unlistened(alloc, *id, *commit),
+        Out::Document(key) => {
+            let line = print_document(alloc, client.root(), client.store(), key)?;
+            Ok(line)
+        }
+        Out::Raised(id) => print_raised(alloc, client, *id),
+    }
+}
+
+/// Lines that were handed out, one after another.
+fn print_outs(alloc: Global, client: &Client, outs: &[Out]) -> Result<String, NoMemory>
+    requires standing { IsStanding client.now }
+    requires shown { (lines : List Line) × AreShown client.now outs.now lines }
+    ensures { IfOk result (λ text. (lines : List Line) → AreShown client.now outs.now lines
+        → string_bytes text ≡ text_of client.now.root lines) }
+{
+    let mut text = String::new(alloc);
+    for out in outs {
+        let line = print_out(alloc, client, out)?;
+        text.push_str(line.as_str())?;
+    }
+    Ok(text)
+}
+
+/// What an event came to.
+fn print_outcome(
+    alloc: Global,
+    client: &Client,
+    number: u64,
+    outcome: &Outcome,
+) -> Result<String, NoMemory>
+    requires standing { IsStanding client.now }
+    requires told { (t : LineTurn) × IsHeard outcome.now client.now t }
+    ensures { IfOk result (λ text. (t : LineTurn) → IsHeard outcome.now client.now t
+        → string_bytes text ≡ printed client.now.root number t) }
+{
+    match outcome {
+        Outcome::Done(outs) => print_outs(alloc, client, outs.as_slice()),
+        Outcome::Refused(refusal) => print_unheard(alloc, number, *refusal),
+    }
+}
+
+/// What the line of this number, from 1, came to.
+pub fn print_taken(
+    alloc: Global,
+    client: &Client,
+    number: u64,
+    taken: &Taken,
+) -> Result<String, NoMemory>
+    requires standing { IsStanding client.now }
+    requires told { (t : LineTurn) × Tells taken.now client.now t }
+    ensures { IfOk result (λ text. (t : LineTurn) → Tells taken.now client.now t
+        → string_bytes text ≡ printed client.now.root number t) }
+{
+    match taken {
+        Taken::Unread(refusal) => print_unread(alloc, number, refusal),
+        Taken::Heard(outcome) => print_outcome(alloc, client, number, outcome),
+    }
+}

@@ -1,0 +1,4 @@
+pub mod Checked
+pub mod Lined
+pub mod OneReading
+pub mod Targets

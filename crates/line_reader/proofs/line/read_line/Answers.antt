@@ -1,0 +1,10 @@
+use Rattle.std.proofs.Common.{ℕ, List, sym, subst}
+use Rattle.host_api.specs.Items.{Bytes}
+use Rattle.line_reader.specs.Reading.{Reads, no_json}
+use Rattle.line_reader.specs.declared.refusal.Refusal.TheVariants.{BadLine}
+use Rattle.line_reader.specs.declared.reading.Reading.TheVariants.{Refused}
+use Rattle.line_reader.proofs.line.read_line.Goals as goal
+
+pub returns-in-Err-clause-is : goal.returns-in-Err-clause-is
+returns-in-Err-clause-is c = subst (λ (n : List ℕ). Reads c.args.root.now (Bytes c.args.text.now) (Refused (BadLine n))) (sym c.in_ok-from_str-in-Err.ensures)
+    (no_json _ (λ d json. let none = c.in-Err.ensures.err (λ memory. let yes = c.is_memory.ensures.1 memory in cc) json.utf8 in cc (none, json.is)))

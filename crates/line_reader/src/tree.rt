@@ -1,0 +1,223 @@
+//! What the tree of a line spells, or its first fault.
+
+ghost use Rattle.std.specs.Prelude.{◌≡◌, [], true, IfOk, IfErr, IfSome, codes, option_map};
+ghost use Rattle.std.specs.List.{All};
+ghost use Rattle.serde_json.specs.View.{view, members_view};
+ghost use Rattle.value_model.specs.Time.{IsMoment};
+ghost use Rattle.json_model.specs.declared.place.Leaf.TheVariants as leaves;
+ghost use Rattle.json_model.specs.declared.place.Object.TheVariants as objects;
+ghost use Rattle.json_model.specs.declared.place.Place.TheVariants as places;
+ghost use Rattle.json_model.specs.Clean.{IsClean, AreClean};
+ghost use Rattle.json_model.specs.Faults.{IsFault};
+ghost use Rattle.json_model.specs.Forms.{IsGiven, SpellsEach};
+ghost use Rattle.json_model.specs.Grammar.{SpellsTime};
+ghost use Rattle.json_model.specs.Members.{given};
+ghost use Rattle.json_queries.specs.Grammar.{SpellsQuery};
+ghost use Rattle.json_queries.specs.Storable.{IsStorableRawQuery};
+ghost use Rattle.json_rpc.specs.Grammar.{SpellsWrite};
+ghost use Rattle.json_rpc.specs.Storable.{IsStorableWrite};
+ghost use Rattle.line_reader.specs.Faults.{LineFaults};
+ghost use Rattle.line_reader.specs.Grammar.{SpellsListenerId, SpellsNamed, Spells, is_line};
+ghost use Rattle.line_reader.specs.Spelled.{HoldsStorable};
+
+use crate::raw_event::RawEvent;
+use document_keys::{Database, NoMemory};
+use json_model::{
+    JsonFault, MAX_NESTING, Object, Place, Setting, Side, check, clean_choice, clean_listener_id,
+    clean_member, clean_name, clean_object, clean_time, member_place,
+};
+use json_queries::clean_query;
+use json_rpc::clean_writes;
+use mutations::Writes;
+use queries::RawQuery;
+use serde_json::{Map, Value as Json};
+use std::alloc::Global;
+use value_model::Timestamp;
+
+/// The writes under `writes`, none where it is left out.
+#[tactic(auto, unfolding(json_model::specs::Places::write_line_rows))]
+fn build_writes(
+    alloc: Global,
+    setting: &Setting<'_>,
+    members: &Map<String, Json>,
+) -> Result<Writes, NoMemory>
+    requires { AreClean setting.now objects.WriteLine (members_view members.now.entries) }
+    ensures writes { IfOk result (λ writes. SpellsEach (SpellsWrite setting.now.root)
+        (given (codes "writes") (members_view members.now.entries)) writes) }
+    ensures storable { IfOk result (λ writes. All IsStorableWrite writes) }
+{
+    let Some(list) = clean_member(setting, Object::WriteLine, members, "writes") else {
+        return Ok(Writes::from_vec(Vec::new(alloc)));
+    };
+    let writes = clean_writes(alloc, setting, list)?;
+    Ok(Writes::from_vec(writes))
+}
+
+/// The local write time under `at`.
+#[tactic(auto, unfolding(json_model::specs::Places::write_line_rows))]
+fn build_time(setting: &Setting<'_>, members: &Map<String, Json>) -> Timestamp
+    requires { AreClean setting.now objects.WriteLine (members_view members.now.entries) }
+    ensures time { IsGiven (given (codes "at") (members_view members.now.entries))
+        (λ d. SpellsTime d result) }
+    ensures moment { IsMoment result }
+{
+    match clean_member(setting, Object::WriteLine, members, "at") {
+        Some(json) => clean_time(setting, json),
+        None => unreachable!(),
+    }
+}
+
+/// What `write` holds.
+fn build_write_line(alloc: Global, setting: &Setting<'_>, json: &Json) -> Result<RawEvent, NoMemory>
+    requires { IsClean setting.now (places.Object objects.WriteLine) (view json.now) }
+    ensures event { IfOk result (λ event. SpellsNamed (places.Object objects.WriteLine)
+        setting.now.root (view json.now) event) }
+    ensures storable { IfOk result HoldsStorable }
+{
+    let members = clean_object(setting, Object::WriteLine, json);
+    let at = build_time(setting, members);
+    let writes = build_writes(alloc, setting, members)?;
+    Ok(RawEvent::Write { at, writes })
+}
+
+/// What `get` holds.
+#[tactic(auto, unfolding(json_model::specs::Places::get_line_rows))]
+fn build_get_line(alloc: Global, setting: &Setting<'_>, json: &Json) -> Result<RawEvent, NoMemory>
+    requires { IsClean setting.now (places.Object objects.GetLine) (view json.now) }
+    ensures event { IfOk result (λ event. SpellsNamed (places.Object objects.GetLine)
+        setting.now.root (view json.now) event) }
+    ensures storable { IfOk result HoldsStorable }
+{
+    let members = clean_object(setting, Object::GetLine, json);
+    match clean_member(setting, Object::GetLine, members, "name") {
+        Some(name) => Ok(RawEvent::Get(clean_name(alloc, setting, name)?)),
+        None => unreachable!(),
+    }
+}
+
+/// The id of a listener, 0 where it is left out.
+fn build_id(alloc: Global, setting: &Setting<'_>, found: Option<&Json>) -> Result<u32, NoMemory>
+    requires { IfSome found (λ json. IsClean setting.now (places.Leaf leaves.ListenerId)
+        (view json.now)) }
+    ensures { IfOk result (λ id. SpellsListenerId
+        (option_map (λ json. view json.now) found.entry) id) }
+{
+    match found {
+        Some(json) => clean_listener_id(alloc, setting, json),
+        None => Ok(0),
+    }
+}
+
+/// The query under `target`.
+#[tactic(auto, unfolding(json_model::specs::Places::listen_line_rows))]
+fn build_target(
+    alloc: Global,
+    setting: &Setting<'_>,
+    members: &Map<String, Json>,
+) -> Result<RawQuery, NoMemory>
+    requires { AreClean setting.now objects.ListenLine (members_view members.now.entries) }
+    ensures query { IfOk result (λ query. IsGiven
+        (given (codes "target") (members_view members.now.entries))
+        (λ d. SpellsQuery setting.now.root d query)) }
+    ensures storable { IfOk result IsStorableRawQuery }
+{
+    match clean_member(setting, Object::ListenLine, members, "target") {
+        Some(target) => clean_query(alloc, setting, target),
+        None => unreachable!(),
+    }
+}
+
+/// What `listen` holds.
+#[tactic(auto, unfolding(json_model::specs::Places::listen_line_rows))]
+fn build_listen_line(
+    alloc: Global,
+    setting: &Setting<'_>,
+    json: &Json,
+) -> Result<RawEvent, NoMemory>
+    requires { IsClean setting.now (places.Object objects.ListenLine) (view json.now) }
+    ensures event { IfOk result (λ event. SpellsNamed (places.Object objects.ListenLine)
+        setting.now.root (view json.now) event) }
+    ensures storable { IfOk result HoldsStorable }
+{
+    let members = clean_object(setting, Object::ListenLine, json);
+    let found = clean_member(setting, Object::ListenLine, members, "id");
+    let id = build_id(alloc, setting, found)?;
+    let query = build_target(alloc, setting, members)?;
+    Ok(RawEvent::Listen { id, query })
+}
+
+/// What `unlisten` holds.
+#[tactic(auto, unfolding(json_model::specs::Places::unlisten_line_rows))]
+fn build_unlisten_line(
+    alloc: Global,
+    setting: &Setting<'_>,
+    json: &Json,
+) -> Result<RawEvent, NoMemory>
+    requires { IsClean setting.now (places.Object objects.UnlistenLine) (view json.now) }
+    ensures event { IfOk result (λ event. SpellsNamed (places.Object objects.UnlistenLine)
+        setting.now.root (view json.now) event) }
+    ensures storable { IfOk result HoldsStorable }
+{
+    let members = clean_object(setting, Object::UnlistenLine, json);
+    let found = clean_member(setting, Object::UnlistenLine, members, "id");
+    Ok(RawEvent::Unlisten(build_id(alloc, setting, found)?))
+}
+
+/// What the only member of a line holds, by its place.
+fn build_line(
+    alloc: Global,
+    setting: &Setting<'_>,
+    object: Object,
+    json: &Json,
+) -> Result<RawEvent, NoMemory>
+    requires line { is_line (places.Object object) ≡ true }
+    requires clean { IsClean setting.now (places.Object object) (view json.now) }
+    ensures event { IfOk result (λ event. SpellsNamed (places.Object object) setting.now.root
+        (view json.now) event) }
+    ensures storable { IfOk result HoldsStorable }
+{
+    match object {
+        Object::WriteLine => build_write_line(alloc, setting, json),
+        Object::GetLine => build_get_line(alloc, setting, json),
+        Object::ListenLine => build_listen_line(alloc, setting, json),
+        Object::UnlistenLine => build_unlisten_line(alloc, setting, json),
+        _ => unreachable!(),
+    }
+}
+
+/// What a line without faults holds.
+fn build_event(alloc: Global, setting: &Setting<'_>, json: &Json) -> Result<RawEvent, NoMemory>
+    requires { IsClean setting.now (places.Object objects.Line) (view json.now) }
+    ensures event { IfOk result (λ event. Spells setting.now.root (view json.now) event) }
+    ensures storable { IfOk result HoldsStorable }
+{
+    let members = clean_object(setting, Object::Line, json);
+    let (name, inner) = clean_choice(setting, Object::Line, members);
+    match member_place(Object::Line, name) {
+        Place::Object(object) => build_line(alloc, setting, object, inner),
+        _ => unreachable!(),
+    }
+}
+
+/// What the tree of a line spells, with however many writes and whatever query. An unsupported member's value isn't read.
+///
+/// # Errors
+/// The first fault of the least kind, in the walk through the tree; `BadShape` of the empty name where the tree isn't an object
+/// with exactly one member that isn't null, the name of a line; or `NoMemory`.
+pub(crate) fn read_tree(alloc: Global, root: &Database, json: &Json) -> Result<RawEvent, JsonFault>
+    ensures event { IfOk result (λ event. Spells root.now (view json.now) event) }
+    ensures clean { IfOk result (λ _. LineFaults root.now (view json.now) []) }
+    ensures storable { IfOk result HoldsStorable }
+    ensures fault { IfErr result (λ fault. IsFault (LineFaults root.now (view json.now)) fault) }
+{
+    let setting = Setting {
+        side: Side::Caller,
+        root,
+    };
+    let place = Place::Object(Object::Line);
+    if let Err(fault) = check(alloc, &setting, MAX_NESTING, place, "", json) {
+        return Err(fault);
+    }
+    let event = build_event(alloc, &setting, json)?;
+    Ok(event)
+}

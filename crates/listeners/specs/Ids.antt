@@ -1,0 +1,13 @@
+-- Sets of the ids of listeners.
+use Rattle.std.specs.Prelude.{ℕ, Bool, IsTrue}
+use Rattle.std.specs.BTreeSet as set
+use Rattle.std.specs.BTreeSet.{BTreeSet}
+use Rattle.std.specs.Ordering.{nat_cmp}
+
+-- the set has the id
+abbrev pub has_id : BTreeSet ℕ → ℕ → Bool
+has_id ids id = set.contains nat_cmp ids id
+
+-- what was in the set still is
+abbrev pub KeepsMembers : BTreeSet ℕ → BTreeSet ℕ → Type 0
+KeepsMembers was now = (q : ℕ) → IsTrue (has_id was q) → IsTrue (has_id now q)

@@ -1,0 +1,20 @@
+//! The listeners of a client: what each of them shows, and which of them a change of a document
+//! concerns.
+//!
+//! `Listeners` keeps a `views::View` for the id of each listener. Contracts see the views by id
+//! (`specs/Table.antt`). Beside them it keeps an index of the ids by places (`places.rt`): a query of
+//! a document stands at its key, and one of a collection at the least key that a document of the
+//! collection can have (`specs/Places.antt`). So those that a change of a document concerns
+//! (`specs/Concerns.antt`) are found at two places, its key and the least key of its collection, in
+//! logarithmic time. `Listeners::refresh` refreshes one view in place; the laws say when a refresh
+//! has nothing to tell (`specs/Laws.antt`).
+#![tactic(auto)]
+
+mod laws;
+mod listener;
+mod listeners;
+mod place;
+mod places;
+
+pub use laws::{refresh_is_one, refresh_settles, settled_stays};
+pub use listeners::Listeners;

@@ -1,0 +1,101 @@
+ghost use Rattle.std.specs.Prelude.{◌≡◌, ◌↔◌, IsTrue, IfOk, OnErr, OnOk};
+ghost use Rattle.views.specs.Refresh.{IsOver, Refreshes};
+ghost use Rattle.listeners.specs.Concerns.{Concerns};
+ghost use Rattle.listeners.specs.Places.{place_of};
+ghost use Rattle.listeners.specs.Table.{fresh};
+
+use crate::place::place_of;
+use document_keys::{Database, DocumentKey, NoMemory};
+use queries::{Query, Target};
+use std::alloc::Global;
+use std::marker::Model;
+use value_model::Documents;
+use views::{Refresh, Standing, View};
+
+/// A listener: what it shows, and where its query stands in the index. Contracts see the view.
+#[derive(Debug, Drop)]
+pub(crate) struct Listener {
+    view: View,
+    place: DocumentKey,
+}
+
+impl Model for Listener {
+    ghost use Rattle.views.specs.Viewed.{Viewed, viewed_code};
+
+    ghost Value = { Viewed };
+
+    ghost coded = { viewed_code };
+
+    ghost use Rattle.std.specs.Prelude.{◌≡◌};
+    ghost use Rattle.listeners.specs.Places.{place_of};
+
+    ghost view = { λ listener. listener.view };
+
+    ghost invariant = { λ listener. listener.place ≡ place_of listener.view.target };
+}
+
+impl Listener {
+    /// A listener of the query, which has raised no snapshot.
+    ///
+    /// # Errors
+    /// `NoMemory`
+    pub(crate) fn new(alloc: Global, query: Query) -> Result<Listener, NoMemory>
+        ensures { IfOk result (λ listener. listener ≡ fresh query) }
+    {
+        let place = place_of(alloc, query.as_target())?;
+        let view = View::new(alloc, query);
+        Ok(Listener { view, place })
+    }
+
+    /// What it shows, lent.
+    pub(crate) fn view(&self) -> &View
+        ensures { result.now ≡ self.now }
+    {
+        &self.view
+    }
+
+    /// Where its query stands.
+    pub(crate) fn place(&self) -> &DocumentKey
+        ensures { result.now ≡ place_of self.now.target }
+    {
+        &self.place
+    }
+
+    /// Where its query stood.
+    pub(crate) fn into_place(self) -> DocumentKey
+        ensures { result ≡ place_of self.target }
+    {
+        let Listener { view: _, place } = self;
+        place
+    }
+
+    /// Whether a change of the key's document concerns it.
+    pub(crate) fn is_concerned(&self, key: &DocumentKey) -> bool
+        ensures { IsTrue result ↔ Concerns self.now.target key.now }
+    {
+        match self.view.query().as_target() {
+            Target::Document(wanted) => key.compare(wanted).is_eq(),
+            Target::Collection(target) => key.is_in(&target.collection),
+        }
+    }
+
+    /// Refreshes its view.
+    ///
+    /// # Errors
+    /// `NoMemory`: it is then as before.
+    pub(crate) fn refresh<D: Documents>(
+        &mut self,
+        alloc: Global,
+        root: &Database,
+        docs: &D,
+        standing: &Standing,
+        may_start: bool,
+    ) -> Result<Refresh, NoMemory>
+        ensures done { IfOk result (λ refresh. Refreshes root.now (D.documents docs.now)
+            (D.touched_keys docs.now) standing.now may_start self.old self.new refresh) }
+        ensures over { OnOk result (IsOver self.new (D.documents docs.now)) }
+        ensures undone { OnErr result (self.new ≡ self.old) }
+    {
+        self.view.refresh(alloc, root, docs, standing, may_start)
+    }
+}

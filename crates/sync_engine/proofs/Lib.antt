@@ -1,0 +1,9 @@
+pub mod Committed
+pub mod Gathering
+pub mod Handing
+pub mod Ones
+pub mod Quiet
+pub mod Settled
+pub mod Showing
+pub mod Targets
+pub mod Turning

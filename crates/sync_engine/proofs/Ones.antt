@@ -1,0 +1,148 @@
+-- an event has one turn
+use Rattle.std.proofs.Common.{◌≡◌, ◌↔◌, ◌⊎◌, ⊎_elim, inl, inr, ℕ, ◌<◌, ℤ, Bool, true, false, IsTrue, nat_eq, suc, List, [], ◌∷◌, ◌++◌, length, Option, Some, None, if◌then◌else◌, refl, sym, ap, subst, ◌∙◌, arith}
+use Rattle.std.specs.List.{All, AllPairs, Contains}
+use Rattle.std.specs.Prelude.{nat_lt}
+use Rattle.std.proofs.lemmas.Bool.{eqb-true, eq-eqb, eqb-false, ltb-true, ltb-false}
+use Rattle.std.proofs.lemmas.Option.{none-some}
+use Rattle.std.proofs.lemmas.List.Elements.{All-nil, All-cons, All-head, All-tail, All-weaker, All-from_get_or}
+use Rattle.document_keys.specs.Names.{Root}
+use Rattle.client_events.specs.declared.event.Event.{Event}
+use Rattle.client_events.specs.declared.event.Event.TheVariants as event
+use Rattle.listeners.proofs.Outcomes.{refresh_is_one}
+use Rattle.local_store.specs.State.{State}
+use Rattle.queries.proofs.Counting.{pairs_tail, pairs_head}
+use Rattle.queries.specs.declared.target.Target.{Target}
+use Rattle.target_cache.specs.Cache.{TellsId, HasTarget}
+use Rattle.target_cache.specs.declared.row.Row.{Row}
+use Rattle.local_store.specs.Documents.{documents_of, touched_keys_of}
+use Rattle.views.specs.Refresh.{Refreshes}
+use Rattle.views.specs.Viewed.{Viewed}
+use Rattle.views.specs.declared.raised.Raised.{Raised}
+use Rattle.views.specs.declared.view.Refresh.{Refresh}
+use Rattle.sync_engine.specs.Answers.{Answers, Begins, listens, after}
+use Rattle.sync_engine.specs.Laws.{ATurnIsOne}
+use Rattle.sync_engine.specs.Lines.{Told}
+use Rattle.sync_engine.specs.Past.{Turn, Past, listener, asked}
+use Rattle.sync_engine.specs.Settling.{MayStart, offline, Shows, ShowsAt, Settles, IsBelow, raised_by, told_to}
+use Rattle.sync_engine.specs.Turn.{IsTurn, Settled, SettlesAfter, with_snapshots}
+use Rattle.sync_engine.specs.declared.refusal.Refusal.{Refusal}
+
+-- ---- what is shown of one listener
+
+both_true : (a b : Bool) {P : Type 0} → IsTrue a ↔ P → IsTrue b ↔ P → a ≡ b
+both_true true true first second = refl
+both_true true false first second = sym (second.1 (first.0 refl))
+both_true false true first second = first.1 (second.0 refl)
+both_true false false first second = refl
+
+shows_one : (root : Root) (s : State) (view : Viewed) (a b : Option Raised) → Shows root s view a → Shows root s view b → a ≡ b
+shows_one root s view a b first second =
+    let starts : first.may_start ≡ second.may_start = both_true first.may_start second.may_start first.start second.start in
+    let one = refresh_is_one root (documents_of s) (touched_keys_of s) offline second.may_start view first.new second.new first.refresh second.refresh (subst (λ (m : Bool). Refreshes root (documents_of s) (touched_keys_of s) offline m view first.new first.refresh) starts first.refreshes) second.refreshes in
+    first.is ∙ raised_same first.refresh second.refresh first.new second.new one.raised one.view ∙ sym second.is
+  where
+    raised_same : (r q : Refresh) (v w : Viewed) → r.raised ≡ q.raised → v ≡ w → raised_by r v ≡ raised_by q w
+    raised_same r q v w told same = (λ i. if told i then (same i).raised else None)
+
+shows_at_one : (root : Root) (s : State) (view : Option Viewed) (a b : Option Raised) → ShowsAt root s view a → ShowsAt root s view b → a ≡ b
+shows_at_one root s None a b first second = first ∙ sym second
+shows_at_one root s (Some view) a b first second = shows_one root s view a b first second
+
+-- ---- lists of snapshots
+
+-- one that is below all of them isn't told
+none_below : (n : ℕ) (ts : List Told) → All (λ t. n < t.id) ts → told_to n ts ≡ None
+none_below n [] all = refl
+none_below n (t ∷ ts) all = go (none_below n ts (All-tail (λ (x : Told). n < x.id) t ts all)) (nat_eq t.id n) refl
+  where
+    go : told_to n ts ≡ None → (b : Bool) → nat_eq t.id n ≡ b → (if b then Some t.raised else told_to n ts) ≡ None
+    go rest true is = let same = eqb-true t.id n is in let less : n < t.id = All-head (λ (x : Told). n < x.id) t ts all in absurd (omega (arith, same, less))
+    go rest false is = rest
+
+pub told_first : (t : Told) (ts : List Told) → told_to t.id (t ∷ ts) ≡ Some t.raised
+told_first t ts = ap (λ b. if b then Some t.raised else told_to t.id ts) (eq-eqb t.id t.id refl)
+
+pub told_later : (n : ℕ) (t : Told) (ts : List Told) → (t.id ≡ n → ⊥) → told_to n (t ∷ ts) ≡ told_to n ts
+told_later n t ts other = go (nat_eq t.id n) refl
+  where
+    go : (b : Bool) → nat_eq t.id n ≡ b → (if b then Some t.raised else told_to n ts) ≡ told_to n ts
+    go true is = absurd (other (eqb-true t.id n is))
+    go false is = refl
+
+pub head_below : (t : Told) (ts : List Told) → AllPairs IsBelow (t ∷ ts) → All (λ (x : Told). t.id < x.id) ts
+head_below t ts pairs = All-from_get_or (λ (x : Told). t.id < x.id) ts t (λ i inside. pairs 0 (suc i) t (omega arith) (omega (arith, inside)))
+
+-- a list that begins above another one's head misses that
+misses : (t : Told) (ts : List Told) (u : Told) (us : List Told) → AllPairs IsBelow (u ∷ us) → t.id < u.id → told_to t.id (t ∷ ts) ≡ told_to t.id (u ∷ us) → ⊥
+misses t ts u us pairs less same =
+    let above : All (λ (x : Told). t.id < x.id) us = All-weaker (λ (x : Told). u.id < x.id) (λ (x : Told). t.id < x.id) (λ x more. omega (arith, less, more)) us (head_below u us pairs) in
+    none-some t.raised (sym (none_below t.id (u ∷ us) (All-cons (λ (x : Told). t.id < x.id) u us less above)) ∙ sym same ∙ told_first t ts)
+
+some_one : {A : Type 0} (x y : A) → Some x ≡ Some y → x ≡ y
+some_one x y same = cc
+
+told_same : (t u : Told) → t.id ≡ u.id → t.raised ≡ u.raised → t ≡ u
+told_same t u ids raised = λ i. record { id = ids i; raised = raised i }
+
+tolds_one : (ts us : List Told) → AllPairs IsBelow ts → AllPairs IsBelow us → ((n : ℕ) → told_to n ts ≡ told_to n us) → ts ≡ us
+tolds_one [] [] first second same = refl
+tolds_one [] (u ∷ us) first second same = absurd (none-some u.raised (same u.id ∙ told_first u us))
+tolds_one (t ∷ ts) [] first second same = absurd (none-some t.raised (sym (same t.id) ∙ told_first t ts))
+tolds_one (t ∷ ts) (u ∷ us) first second same = by_order (λ rest. tolds_one ts us (pairs_tail IsBelow t ts first) (pairs_tail IsBelow u us second) rest) (nat_lt t.id u.id) refl (nat_lt u.id t.id) refl
+  where
+    rest : t.id ≡ u.id → (n : ℕ) → (b : Bool) → nat_eq t.id n ≡ b → told_to n ts ≡ told_to n us
+    rest ids n true is =
+        let at : t.id ≡ n = eqb-true t.id n is in
+        none_below n ts (All-weaker (λ (x : Told). t.id < x.id) (λ (x : Told). n < x.id) (λ x more. omega (arith, at, more)) ts (head_below t ts first))
+        ∙ sym (none_below n us (All-weaker (λ (x : Told). u.id < x.id) (λ (x : Told). n < x.id) (λ x more. omega (arith, at, ids, more)) us (head_below u us second)))
+    rest ids n false is =
+        let not_t : t.id ≡ n → ⊥ = eqb-false t.id n is in
+        sym (told_later n t ts not_t) ∙ same n ∙ told_later n u us (λ at. not_t (ids ∙ at))
+
+    by_order : (((n : ℕ) → told_to n ts ≡ told_to n us) → ts ≡ us) → (a : Bool) → nat_lt t.id u.id ≡ a → (b : Bool) → nat_lt u.id t.id ≡ b → t ∷ ts ≡ u ∷ us
+    by_order again true less b other = absurd (misses t ts u us second (ltb-true t.id u.id less) (same t.id))
+    by_order again false not_less true more = absurd (misses u us t ts first (ltb-true u.id t.id more) (sym (same u.id)))
+    by_order again false not_less false not_more =
+        let up = ltb-false t.id u.id not_less in
+        let down = ltb-false u.id t.id not_more in
+        let ids : t.id ≡ u.id = omega (arith, up, down) in
+        let heads : Some t.raised ≡ Some u.raised = sym (told_first t ts) ∙ same t.id ∙ ap (λ n. told_to n (u ∷ us)) ids ∙ told_first u us in
+        let one : t ≡ u = told_same t u ids (some_one t.raised u.raised heads) in
+        let others : ts ≡ us = again (λ n. rest ids n (nat_eq t.id n) refl) in
+        λ i. one i ∷ others i
+
+settles_one : (root : Root) (s : State) (listening : ℕ → Option Viewed) (ts us : List Told) → Settles root s listening ts → Settles root s listening us → ts ≡ us
+settles_one root s listening ts us first second = tolds_one ts us first.ascending second.ascending (λ n. shows_at_one root s (listening n) (told_to n ts) (told_to n us) (first.each n) (second.each n))
+
+-- ---- the answer
+
+tells_one : (rows : List Row) (target : Target) (a b : Option ℤ) → TellsId rows target a → TellsId rows target b → a ≡ b
+tells_one rows target None None first second = refl
+tells_one rows target None (Some y) first second = absurd (first y ((second y).1 refl))
+tells_one rows target (Some x) None first second = absurd (second x ((first x).1 refl))
+tells_one rows target (Some x) (Some y) first second = ap Some (sym ((first y).0 ((second y).1 refl)))
+
+begins_one : (s : State) (id : ℕ) (query : Target) (view : Option Viewed) (t u : Turn) → Begins s id query view t → Begins s id query view u → t ≡ u
+begins_one s id query (Some view) t u first second = first ∙ sym second
+begins_one s id query None t u first second = first.2 ∙ ap (listens s id query) (tells_one s.rows query first.0 second.0 first.1 second.1) ∙ sym second.2
+
+pub answers_one : (s : State) (past : Past) (e : Event) (t u : Turn) → Answers s past e t → Answers s past e u → t ≡ u
+answers_one s past (event.Write at writes) t u first second = first ∙ sym second
+answers_one s past (event.Get key) t u first second = first ∙ sym second
+answers_one s past (event.Listen id query) t u first second = begins_one s id query (listener id past) t u first second
+answers_one s past (event.Unlisten id) t u first second = first ∙ sym second
+
+-- ---- the turn
+
+settled_one : (root : Root) (s : State) (past : Past) (e : Event) (answer t u : Turn) → Settled root s past e answer t → Settled root s past e answer u → t ≡ u
+settled_one root s past e answer t u first second =
+    first.is ∙ ap (with_snapshots (after s answer.commit) answer) (settles_one root (after s answer.commit) (λ id. asked id e (listener id past)) first.told second.told first.settles second.settles) ∙ sym second.is
+
+after_one : (root : Root) (s : State) (past : Past) (e : Event) (answer : Turn) (refusal : Option Refusal) (t u : Turn) → SettlesAfter root s past e answer refusal t → SettlesAfter root s past e answer refusal u → t ≡ u
+after_one root s past e answer None t u first second = settled_one root s past e answer t u first second
+after_one root s past e answer (Some refusal) t u first second = first ∙ sym second
+
+pub a_turn_is_one : ATurnIsOne
+a_turn_is_one root s past e t u first second =
+    let same = answers_one s past e first.answer second.answer first.answers second.answers in
+    after_one root s past e second.answer second.answer.refusal t u (subst (λ (a : Turn). SettlesAfter root s past e a a.refusal t) same first.settles) second.settles

@@ -1,0 +1,150 @@
+-- listeners that are quiet, and stay so
+use Rattle.std.proofs.Common.{◌≡◌, ◌↔◌, ◌⊎◌, ⊎_elim, inl, inr, ℕ, ◌+◌, ◌<◌, ℤ, pos, Bool, true, false, ◌||◌, IsTrue, List, [], ◌∷◌, ◌++◌, length, Option, Some, None, IfSome, if◌then◌else◌, refl, sym, ap, subst, ◌∙◌, arith, get_or, suc, zero}
+use Rattle.std.proofs.lemmas.List.Elements.{All-nil, All-cons, All-head, All-tail, All-weaker, All-contains, All-contains_itself}
+use Rattle.std.proofs.lemmas.Option.{none-some}
+use Rattle.std.specs.FinMap as map
+use Rattle.std.specs.List.{All, AllPairs, Contains, slice_get}
+use Rattle.std.specs.Option.{IsSome, option_map}
+use Rattle.document_keys.specs.Names.{Root}
+use Rattle.mutation_queue.specs.Queue.{keys_of, named_keys, written_key}
+use Rattle.mutations.specs.declared.batch.Batch.{Batch}
+use Rattle.mutations.specs.declared.write.Write.{Write}
+use Rattle.value_model.specs.Documents.{DocumentMap, Stored}
+use Rattle.value_model.specs.declared.document.Document.{Document}
+use Rattle.durable_state.proofs.Laid.{among-append, among_in, local_more, named_more, not_so, not_written}
+use Rattle.durable_state.proofs.Local.{documents_local}
+use Rattle.durable_state.specs.Documents.{documents_of, is_among, is_named, sealed_entry_of, standing_by, stored}
+use Rattle.value_model.specs.declared.document.DocState.TheVariants as stands
+use Rattle.local_store.specs.Documents.{document_of, entry_of, standing_of, touched_keys_of}
+use Rattle.local_store.specs.State.{State, committed}
+use Rattle.overlays.specs.LocalDocument.{base_of, local_document}
+use Rattle.record_codec.specs.declared.commit.Commit.TheVariants.{Enqueue, Allocate}
+use Rattle.queries.specs.declared.target.Target.{Target}
+use Rattle.target_cache.specs.Cache.{IsRow, blank, id_at}
+use Rattle.target_cache.specs.declared.row.Row.{Row}
+use Rattle.listeners.specs.Concerns.{Concerns}
+use Rattle.listeners.specs.Laws.{IsSettled}
+use Rattle.listeners.specs.Table.{Table, viewed}
+use Rattle.listeners.proofs.Settling.{refresh_settles, settled_stays}
+use Rattle.views.proofs.Refreshing.{is_over}
+use Rattle.views.specs.Refresh.{IsOver, Refreshes}
+use Rattle.views.specs.Viewed.{Viewed}
+use Rattle.views.specs.declared.raised.Raised.{Raised}
+use Rattle.views.specs.declared.view.Refresh.{Refresh}
+use Rattle.sync_engine.specs.Settling.{IsHeldTarget, MayStart, offline, Shows, ShowsAt, Settles, raised_by, told_to}
+use Rattle.sync_engine.specs.Past.{Past}
+use Rattle.sync_engine.specs.Standing.{IsQuiet, Kept, StandsFor}
+
+-- a quiet listener raises nothing
+pub quiet_shows : (root : Root) (s : State) (view : Viewed) → IsQuiet root s view → Shows root s view None
+quiet_shows root s view quiet = record {
+  may_start = quiet.may_start;
+  start = quiet.start;
+  new = view;
+  refresh = quiet.settled.refresh;
+  refreshes = quiet.settled.refreshes;
+  is = ap (λ b. if b then view.raised else None) (sym quiet.settled.silent);
+}
+
+pub quiet_shows_at : (root : Root) (s : State) (view : Option Viewed) → IfSome view (IsQuiet root s) → ShowsAt root s view None
+quiet_shows_at root s None quiet = refl
+quiet_shows_at root s (Some view) quiet = quiet_shows root s view quiet
+
+-- where every listener is quiet, nothing is raised
+pub settles_none : (root : Root) (s : State) (listening : ℕ → Option Viewed) → ((id : ℕ) → IfSome (listening id) (IsQuiet root s)) → Settles root s listening []
+settles_none root s listening quiet = record {
+  ascending = λ i j d less inside. absurd (omega (arith, inside));
+  each = λ id. quiet_shows_at root s (listening id) (quiet id);
+}
+
+-- a listener is quiet once it was refreshed
+pub refreshed_quiet : (root : Root) (s : State) (old new : Viewed) (may_start : Bool) (refresh : Refresh) → MayStart s old.target may_start → Refreshes root (documents_of s) (touched_keys_of s) offline may_start old new refresh → IsQuiet root s new
+refreshed_quiet root s old new may_start refresh start refreshes = record {
+  may_start = may_start;
+  start = subst (λ (t : Target). MayStart s t may_start) (sym refreshes.target) start;
+  settled = refresh_settles root (documents_of s) (touched_keys_of s) offline may_start old new refresh refreshes;
+}
+
+-- a listener stays quiet where the documents that concern it stay, and its target's row is held as before
+pub quiet_stays : (root : Root) (s t : State) (view : Viewed) → ((key : List (List ℕ)) → Concerns view.target key → map.get (documents_of t) key ≡ map.get (documents_of s) key) → IsHeldTarget t.rows view.target ↔ IsHeldTarget s.rows view.target → IsQuiet root s view → IsQuiet root t view
+quiet_stays root s t view same held quiet = record {
+  may_start = quiet.may_start;
+  start = (λ is. held.1 (quiet.start.0 is), λ is. quiet.start.1 (held.0 is));
+  settled = settled_stays root (documents_of s) (documents_of t) (touched_keys_of s) (touched_keys_of t) offline quiet.may_start view refl quiet.settled same;
+}
+
+-- ---- behind an allocation
+
+-- a row that holds something isn't the new one
+slice_get_front : {X : Type 0} (xs : List X) (x y : X) (i : ℕ) → slice_get (xs ++ x ∷ []) i ≡ Some y → (slice_get xs i ≡ Some y) ⊎ (y ≡ x)
+slice_get_front [] x y zero is = inr (cc)
+slice_get_front [] x y (suc i) is = absurd (none-some y is)
+slice_get_front (z ∷ xs) x y zero is = inl is
+slice_get_front (z ∷ xs) x y (suc i) is = slice_get_front xs x y i is
+
+slice_get_more : {X : Type 0} (xs : List X) (x y : X) (i : ℕ) → slice_get xs i ≡ Some y → slice_get (xs ++ x ∷ []) i ≡ Some y
+slice_get_more [] x y i is = absurd (none-some y is)
+slice_get_more (z ∷ xs) x y zero is = is
+slice_get_more (z ∷ xs) x y (suc i) is = slice_get_more xs x y i is
+
+held_allocated : (rows : List Row) (target wanted : Target) → IsHeldTarget (rows ++ blank target ∷ []) wanted ↔ IsHeldTarget rows wanted
+held_allocated rows target wanted = (down, up)
+  where
+    down : IsHeldTarget (rows ++ blank target ∷ []) wanted → IsHeldTarget rows wanted
+    down it = ⊎_elim
+        (λ there. record { id = it.id; row = it.row; of_id = record { place = it.of_id.place; is = it.of_id.is; there = there }; same = it.same; held = it.held })
+        (λ new. let none : IsSome (blank target).held = subst (λ (r : Row). IsSome r.held) new it.held in cc)
+        (slice_get_front rows (blank target) it.row it.of_id.place it.of_id.there)
+
+    up : IsHeldTarget rows wanted → IsHeldTarget (rows ++ blank target ∷ []) wanted
+    up it = record { id = it.id; row = it.row; of_id = record { place = it.of_id.place; is = it.of_id.is; there = slice_get_more rows (blank target) it.row it.of_id.place it.of_id.there }; same = it.same; held = it.held }
+
+documents_allocated : (s : State) (id : ℕ) (target : Target) → documents_of (committed s (Allocate id target)) ≡ documents_of s
+unfolding documents_of
+documents_allocated s id target = refl
+
+pub quiet_allocated : (root : Root) (s : State) (id : ℕ) (target : Target) (view : Viewed) → IsQuiet root s view → IsQuiet root (committed s (Allocate id target)) view
+quiet_allocated root s id target view = quiet_stays root s (committed s (Allocate id target)) view (λ key concerns. ap (λ (m : DocumentMap). map.get m key) (documents_allocated s id target)) (held_allocated s.rows target view.target)
+
+-- ---- behind a batch
+
+-- a key that the batch doesn't name has the document that it had
+unnamed_stays : (s : State) (batch : Batch) (key : List (List ℕ)) → is_among (keys_of batch.writes) key ≡ false → map.get (documents_of (committed s (Enqueue batch))) key ≡ map.get (documents_of s) key
+unnamed_stays s batch key none =
+    let t = committed s (Enqueue batch) in
+    let document : document_of t key ≡ document_of s key =
+    local_more key (base_of (entry_of s key)) s.batches batch ∙ not_written key batch.at batch.writes (document_of s key) none in
+    let named : is_named t key ≡ is_named s key =
+    ap (λ ks. is_among ks key) (named_more s.batches batch) ∙ among-append (named_keys s.batches) (keys_of batch.writes) key ∙ ap (λ b. is_named s key || b) none ∙ or_none (is_named s key) in
+    let same : (d : Document) → stored t key d ≡ stored s key d = λ d i. record { fields = d.fields; update_time = d.update_time; state = if named i then stands.Pending else standing_by (sealed_entry_of s key) } in
+    documents_local t key ∙ ap (λ (f : Document → Stored). option_map f (document_of t key)) (λ i d. same d i) ∙ ap (option_map (stored s key)) document ∙ sym (documents_local s key)
+  where
+    or_none : (b : Bool) → (b || false) ≡ b
+    or_none true = refl
+    or_none false = refl
+
+pub quiet_enqueued : (root : Root) (s : State) (batch : Batch) (view : Viewed) → ((write : Write) → Contains batch.writes write → Concerns view.target (written_key write) → ⊥) → IsQuiet root s view → IsQuiet root (committed s (Enqueue batch)) view
+quiet_enqueued root s batch view never = quiet_stays root s (committed s (Enqueue batch)) view
+    (λ key concerns. unnamed_stays s batch key (not_so (is_among (keys_of batch.writes) key) (λ among. named_write batch.writes key (among_in key (keys_of batch.writes) among) concerns never)))
+    ((λ it. it), (λ it. it))
+  where
+    Apart : List (List ℕ) → Type 0
+    Apart key = Concerns view.target key → ⊥
+
+    all_keys : (ws : List Write) → All (λ (w : Write). Apart (written_key w)) ws → All Apart (keys_of ws)
+    all_keys [] all = All-nil Apart
+    all_keys (w ∷ ws) all = All-cons Apart (written_key w) (keys_of ws) (All-head (λ (x : Write). Apart (written_key x)) w ws all) (all_keys ws (All-tail (λ (x : Write). Apart (written_key x)) w ws all))
+
+    named_write : (ws : List Write) (key : List (List ℕ)) → Contains (keys_of ws) key → Concerns view.target key → ((write : Write) → Contains ws write → Concerns view.target (written_key write) → ⊥) → ⊥
+    named_write ws key among concerns never =
+        All-contains Apart (keys_of ws) key (all_keys ws (All-weaker (Contains ws) (λ (x : Write). Apart (written_key x)) never ws (All-contains_itself ws))) among concerns
+
+-- ---- what a quiet listener has raised
+
+quiet_over : (root : Root) (s : State) (view : Viewed) → IsQuiet root s view → IsOver view (documents_of s)
+quiet_over root s view quiet = let is = quiet.settled.refreshes in is_over (documents_of s) is.answer is.from_cache view.raised is.shows
+
+pub standing_over : {client : Kept} {s : State} {past : Past} (id : ℕ) (view : Viewed) → StandsFor client s past → Some view ≡ viewed client.listeners id → IsOver view (documents_of client.store.state)
+standing_over {client} {s} {past} id view stands there =
+    let quiet : IsQuiet client.root s view = subst (λ (v : Option Viewed). IfSome v (IsQuiet client.root s)) (sym (there ∙ stands.listeners id)) (stands.quiet id) in
+    subst (λ (t : State). IsOver view (documents_of t)) (sym stands.state) (quiet_over client.root s view quiet)

@@ -1,0 +1,14 @@
+use Rattle.std.proofs.Common.{true, false, sym, subst}
+use Rattle.local_store.specs.Store.{IsStored}
+use Rattle.sync_engine.specs.Standing.{Kept, StandsFor}
+use Rattle.sync_engine.specs.Telling.{HandsOut}
+use Rattle.sync_engine.proofs.Handing.{hands_still, stands_still}
+use Rattle.sync_engine.proofs.client.Client.event.Goals as goal
+
+pub turn-requires-clause-stored : goal.turn-requires-clause-stored
+turn-requires-clause-stored g c = λ told. subst (λ (k : Kept). IsStored k.store (g.H.Host.view c.args.host.now)) (sym c.self.view_is) (c.requires.stored told)
+
+pub returns-clause-turn : goal.returns-clause-turn
+returns-clause-turn g c = λ s past stands.
+    hands_still false (subst (λ (k : Kept). HandsOut s past c.args.event c.in_ok-outcome.outcome k) (sym c.self-2.view_is)
+    (c.in_ok-outcome.ensures.turn s past (stands_still true (subst (λ (k : Kept). StandsFor k s past) (sym c.self.view_is) stands))))

@@ -1,0 +1,58 @@
+use Rattle.std.proofs.Common.{ℕ, ℤ, ◌≤◌, to_z, of_z, w32, length, List, [], ◌∷◌, ◌++◌, Some, None, refl, sym, ap, subst, ◌∙◌}
+use Rattle.client_events.specs.declared.event.Event.TheVariants as event
+use Rattle.listeners.specs.Table.{Changes, Table, fresh, viewed}
+use Rattle.local_store.specs.State.{State}
+use Rattle.queries.specs.declared.target.Target.{Target}
+use Rattle.sync_engine.specs.Answers.{refused}
+use Rattle.sync_engine.specs.Standing.{Kept}
+use Rattle.sync_engine.specs.Targets.{GivesTarget, MovesForTarget}
+use Rattle.sync_engine.specs.Telling.{HandsOut, MovesBy}
+use Rattle.sync_engine.specs.declared.out.Out.{Out}
+use Rattle.sync_engine.specs.declared.out.Out.TheVariants.{Listening}
+use Rattle.sync_engine.specs.declared.out.Outcome.TheVariants.{Done, Refused}
+use Rattle.sync_engine.specs.declared.refusal.Refusal.TheVariants.{IdsSpent, ListenerTaken}
+use Rattle.sync_engine.proofs.Committed.{nothing_moves}
+use Rattle.sync_engine.proofs.Handing.{hands_refused, none_viewed, some_viewed}
+use Rattle.target_cache.specs.Cache.{id_at}
+use Rattle.target_cache.specs.declared.row.Row.{Row}
+use Rattle.sync_engine.proofs.Showing.{given_back}
+use Rattle.sync_engine.proofs.Turning.{by_state, hands_begun, moves_begun, moves_none, spent_answers, spent_stands, taken_answers}
+use Rattle.sync_engine.proofs.client.Client.listen.Goals as goal
+
+pub returns-then-not-is_none-clause-turn : goal.returns-then-not-is_none-clause-turn
+returns-then-not-is_none-clause-turn g c = λ s past stands. let found = some_viewed _ c.view.result _ c.is_none.result c.view.ensures c.is_none.ensures c.if-not-is_none.true in by_state (λ (t : State). HandsOut t past (event.Listen c.args.id c.args.query) (Refused (ListenerTaken c.args.id)) c.args.self.now) stands (λ st. hands_refused (ListenerTaken c.args.id) st (taken_answers c.args.id c.args.query found.0 st (sym (ap (λ (k : Kept). viewed k.listeners c.args.id) c.self.view_is) ∙ found.1)))
+
+pub returns-then-not-is_none-clause-files : goal.returns-then-not-is_none-clause-files
+returns-then-not-is_none-clause-files g c = λ told s past stands. let found = some_viewed _ c.view.result _ c.is_none.result c.view.ensures c.is_none.ensures c.if-not-is_none.true in by_state (λ (t : State). MovesBy t past (event.Listen c.args.id c.args.query) (g.H.Host.view c.args.host.now) (g.H.Host.view c.args.host.now)) stands (λ st. moves_none (event.Listen c.args.id c.args.query) (refused (ListenerTaken c.args.id)) (taken_answers c.args.id c.args.query found.0 st (sym (ap (λ (k : Kept). viewed k.listeners c.args.id) c.self.view_is) ∙ found.1)) refl (nothing_moves _ c.requires.whole (c.requires.stored told)))
+
+pub returns-in_err-target-clause-files : goal.returns-in_err-target-clause-files
+returns-in_err-target-clause-files g c = λ told s past stands. by_state (λ (t : State). MovesBy t past (event.Listen c.args.id c.args.query) (g.H.Host.view c.args.host.now) (g.H.Host.view c.target_for.new.host)) stands (λ st. moves_begun c.args.id c.args.query st (sym (ap (λ (k : Kept). viewed k.listeners c.args.id) c.self.view_is) ∙ none_viewed _ c.view.result _ c.is_none.result c.view.ensures c.is_none.ensures c.if-not-is_none.false) (subst (λ (q : Target). MovesForTarget c.args.self.now.store.state q (g.H.Host.view c.args.host.now) (g.H.Host.view c.target_for.new.host)) c.as_target.ensures.same (c.target_for.ensures.files told)))
+
+pub returns-in_default-clause-files : goal.returns-in_default-clause-files
+returns-in_default-clause-files g c = λ told s past stands. by_state (λ (t : State). MovesBy t past (event.Listen c.args.id c.args.query) (g.H.Host.view c.args.host.now) (g.H.Host.view c.target_for.new.host)) stands (λ st. moves_begun c.args.id c.args.query st (sym (ap (λ (k : Kept). viewed k.listeners c.args.id) c.self.view_is) ∙ none_viewed _ c.view.result _ c.is_none.result c.view.ensures c.is_none.ensures c.if-not-is_none.false) (subst (λ (q : Target). MovesForTarget c.args.self.now.store.state q (g.H.Host.view c.args.host.now) (g.H.Host.view c.target_for.new.host)) c.as_target.ensures.same (c.target_for.ensures.files told)))
+
+pub returns-in_err-push-clause-files : goal.returns-in_err-push-clause-files
+returns-in_err-push-clause-files g c = λ told s past stands. by_state (λ (t : State). MovesBy t past (event.Listen c.args.id c.args.query) (g.H.Host.view c.args.host.now) (g.H.Host.view c.target_for.new.host)) stands (λ st. moves_begun c.args.id c.args.query st (sym (ap (λ (k : Kept). viewed k.listeners c.args.id) c.self.view_is) ∙ none_viewed _ c.view.result _ c.is_none.result c.view.ensures c.is_none.ensures c.if-not-is_none.false) (subst (λ (q : Target). MovesForTarget c.args.self.now.store.state q (g.H.Host.view c.args.host.now) (g.H.Host.view c.target_for.new.host)) c.as_target.ensures.same (c.target_for.ensures.files told)))
+
+pub returns-in_err-add-clause-files : goal.returns-in_err-add-clause-files
+returns-in_err-add-clause-files g c = λ told s past stands. by_state (λ (t : State). MovesBy t past (event.Listen c.args.id c.args.query) (g.H.Host.view c.args.host.now) (g.H.Host.view c.target_for.new.host)) stands (λ st. moves_begun c.args.id c.args.query st (sym (ap (λ (k : Kept). viewed k.listeners c.args.id) c.self.view_is) ∙ none_viewed _ c.view.result _ c.is_none.result c.view.ensures c.is_none.ensures c.if-not-is_none.false) (subst (λ (q : Target). MovesForTarget c.args.self.now.store.state q (g.H.Host.view c.args.host.now) (g.H.Host.view c.target_for.new.host)) c.as_target.ensures.same (c.target_for.ensures.files told)))
+
+pub returns-in_err-settle-clause-files : goal.returns-in_err-settle-clause-files
+returns-in_err-settle-clause-files g c = λ told s past stands. by_state (λ (t : State). MovesBy t past (event.Listen c.args.id c.args.query) (g.H.Host.view c.args.host.now) (g.H.Host.view c.target_for.new.host)) stands (λ st. moves_begun c.args.id c.args.query st (sym (ap (λ (k : Kept). viewed k.listeners c.args.id) c.self.view_is) ∙ none_viewed _ c.view.result _ c.is_none.result c.view.ensures c.is_none.ensures c.if-not-is_none.false) (subst (λ (q : Target). MovesForTarget c.args.self.now.store.state q (g.H.Host.view c.args.host.now) (g.H.Host.view c.target_for.new.host)) c.as_target.ensures.same (c.target_for.ensures.files told)))
+
+pub returns-clause-files : goal.returns-clause-files
+returns-clause-files g c = λ told s past stands. by_state (λ (t : State). MovesBy t past (event.Listen c.args.id c.args.query) (g.H.Host.view c.args.host.now) (g.H.Host.view c.target_for.new.host)) stands (λ st. moves_begun c.args.id c.args.query st (sym (ap (λ (k : Kept). viewed k.listeners c.args.id) c.self.view_is) ∙ none_viewed _ c.view.result _ c.is_none.result c.view.ensures c.is_none.ensures c.if-not-is_none.false) (subst (λ (q : Target). MovesForTarget c.args.self.now.store.state q (g.H.Host.view c.args.host.now) (g.H.Host.view c.target_for.new.host)) c.as_target.ensures.same (c.target_for.ensures.files told)))
+
+pub returns-in_default-clause-turn : goal.returns-in_default-clause-turn
+returns-in_default-clause-turn g c = λ s past stands. by_state (λ (t : State). HandsOut t past (event.Listen c.args.id c.args.query) (Refused IdsSpent) c.target_for.new.self) stands (λ st. hands_refused IdsSpent (spent_stands c.args.query c.in_ok-target.field-0 st (subst (λ (q : Target). GivesTarget c.args.self.now.store.state q c.in_ok-target.field-0 c.target_for.new.self.store.state) c.as_target.ensures.same c.in_ok-target.ensures.found) c.in_default.is c.target_for.ensures.rest) (spent_answers c.args.id c.args.query c.in_ok-target.field-0 st (sym (ap (λ (k : Kept). viewed k.listeners c.args.id) c.self.view_is) ∙ none_viewed _ c.view.result _ c.is_none.result c.view.ensures c.is_none.ensures c.if-not-is_none.false) (subst (λ (q : Target). GivesTarget c.args.self.now.store.state q c.in_ok-target.field-0 c.target_for.new.self.store.state) c.as_target.ensures.same c.in_ok-target.ensures.found) c.in_default.is))
+
+pub returns-clause-turn : goal.returns-clause-turn
+returns-clause-turn g c = λ s past stands. by_state (λ (t : State). HandsOut t past (event.Listen c.args.id c.args.query) (Done c.settle.new.outs) c.settle.new.self) stands (λ st.
+    hands_begun c.args.self.now _ c.settle.new.self past c.args.id c.args.query c.in_ok-target.field-0 c.in-Some.target st (sym (ap (λ (k : Kept). viewed k.listeners c.args.id) c.self.view_is) ∙ none_viewed _ c.view.result _ c.is_none.result c.view.ensures c.is_none.ensures c.if-not-is_none.false)
+    (subst (λ (k : Kept). GivesTarget c.args.self.now.store.state c.args.query c.in_ok-target.field-0 k.store.state) (sym c.self-2.view_is) (subst (λ (q : Target). GivesTarget c.args.self.now.store.state q c.in_ok-target.field-0 c.target_for.new.self.store.state) c.as_target.ensures.same c.in_ok-target.ensures.found))
+    c.in-Some.is (ap (λ (k : Kept). k.root) c.self-2.view_is ∙ c.target_for.ensures.rest.root)
+    (subst (λ (l : Table). Changes c.args.id (Some (fresh c.args.query)) l c.add.new.self) (ap (λ (k : Kept). k.listeners) c.self-2.view_is ∙ c.target_for.ensures.rest.listeners) c.in_ok-add.ensures.done)
+    c.settle.ensures.rest c.in_ok-settle.ensures.raises
+    (c.in_ok-push.ensures.items ∙ ap (λ (o : List Out). o ++ Listening c.args.id (to_z w32 (of_z w32 c.in-Some.target)) c.number-commit.result ∷ []) c.new-outs.ensures.items
+    ∙ ap (λ (z : ℤ). Listening c.args.id z c.number-commit.result ∷ []) (given_back c.args.self.now.store.state c.args.query c.in_ok-target.field-0 c.in-Some.target (subst (λ (l : List Row). id_at (length l) ≤ 2147483648) (c.targets.ensures ∙ ap (λ (k : Kept). k.store.state.rows) c.self.view_is) c.next_id-last.ensures.most) (subst (λ (q : Target). GivesTarget c.args.self.now.store.state q c.in_ok-target.field-0 c.target_for.new.self.store.state) c.as_target.ensures.same c.in_ok-target.ensures.found) c.in-Some.is)
+    ∙ ap (λ (n : ℕ). Listening c.args.id c.in-Some.target n ∷ []) c.number-commit.ensures.number))

@@ -1,0 +1,76 @@
+-- What an event comes to, but for the snapshots that it raises.
+use Rattle.std.specs.Prelude.{◌≡◌, ℕ, ◌+◌, Bool, ◌&&◌, not, pos, ℤ, List, [], ◌∷◌, length, nat_lt, Option, Some, None, if◌then◌else◌}
+use Rattle.value_model.specs.declared.timestamp.Timestamp.{Timestamp}
+use Rattle.mutations.specs.declared.write.Write.{Write}
+use Rattle.record_codec.specs.declared.commit.Commit.{Commit}
+use Rattle.record_codec.specs.declared.commit.Commit.TheVariants.{Enqueue, Allocate}
+use Rattle.queries.specs.declared.target.Target.{Target}
+use Rattle.target_cache.specs.Cache.{TellsId, id_at}
+use Rattle.local_store.specs.Documents.{document_of, standing_of}
+use Rattle.local_store.specs.State.{State, committed, most_commits}
+use Rattle.client_events.specs.declared.event.Event.{Event}
+use Rattle.client_events.specs.declared.event.Event.TheVariants as event
+use Rattle.views.specs.Viewed.{Viewed}
+use Rattle.sync_engine.specs.declared.refusal.Refusal.{Refusal}
+use Rattle.sync_engine.specs.declared.refusal.Refusal.TheVariants.{ListenerTaken, NoListener, IdsSpent}
+use Rattle.sync_engine.specs.Lines.{Line, wrote, listening, unlistened, document}
+use Rattle.sync_engine.specs.Past.{Turn, Past, listener}
+
+-- a refused event does nothing
+abbrev pub refused : Refusal → Turn
+refused refusal = record { refusal = Some refusal; commit = None; lines = [] }
+
+abbrev pub answered : List Line → Turn
+answered lines = record { refusal = None; commit = None; lines = lines }
+
+-- the event makes this commit
+abbrev pub commits : Commit → List Line → Turn
+commits commit lines = record { refusal = None; commit = Some commit; lines = lines }
+
+-- the writes are the next batch, where a number is left for its commit
+abbrev pub enqueued : State → Timestamp → List Write → Turn
+enqueued s at writes =
+    if nat_lt s.number most_commits
+    then commits (Enqueue (record { id = s.next_batch; at = at; writes = writes }))
+    (wrote s.next_batch (s.number + 1) ∷ [])
+    else refused IdsSpent
+
+-- the greatest id that a target may have
+abbrev pub last_target : ℕ
+last_target = 2147483646
+
+-- a number is left for a commit, and an id for a target
+abbrev pub are_left : State → Bool
+are_left s = nat_lt s.number most_commits && not (nat_lt last_target (id_at (length s.rows)))
+
+-- A listener on a target that has this id already; or else the target gets the next one, where one is left.
+abbrev pub listens : State → ℕ → Target → Option ℤ → Turn
+listens s id query (Some target) = answered (listening id target s.number ∷ [])
+listens s id query None =
+    if are_left s
+    then commits (Allocate (id_at (length s.rows)) query)
+    (listening id (pos (id_at (length s.rows))) (s.number + 1) ∷ [])
+    else refused IdsSpent
+
+-- the id is that of a listener; or it begins one, on the target's row if it has one
+abbrev pub Begins : State → ℕ → Target → Option Viewed → Turn → Type 0
+Begins s id query (Some view) t = t ≡ refused (ListenerTaken id)
+Begins s id query None t = (found : Option ℤ) × TellsId s.rows query found × (t ≡ listens s id query found)
+
+-- the listener ends, if there is one; the row of its target stays
+abbrev pub ends : State → ℕ → Option Viewed → Turn
+ends s id None = refused (NoListener id)
+ends s id (Some view) = answered (unlistened id s.number ∷ [])
+
+-- what an event comes to, from the state before it and what the client has heard
+abbrev pub Answers : State → Past → Event → Turn → Type 0
+Answers s past (event.Write at writes) t = t ≡ enqueued s at writes
+Answers s past (event.Get key) t =
+    t ≡ answered (document key (document_of s key) (standing_of s key) ∷ [])
+Answers s past (event.Listen id query) t = Begins s id query (listener id past) t
+Answers s past (event.Unlisten id) t = t ≡ ends s id (listener id past)
+
+-- the state after a turn
+abbrev pub after : State → Option Commit → State
+after s None = s
+after s (Some commit) = committed s commit

@@ -1,0 +1,10 @@
+pub mod Answers
+pub mod Concerned
+pub mod Laws
+pub mod Lines
+pub mod Past
+pub mod Settling
+pub mod Standing
+pub mod Targets
+pub mod Telling
+pub mod Turn

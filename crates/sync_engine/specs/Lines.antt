@@ -1,0 +1,20 @@
+-- The lines that answer an event, as values.
+use Rattle.std.specs.Prelude.{ℕ, ℤ, List, Option}
+use Rattle.value_model.specs.declared.document.DocState.{DocState}
+use Rattle.value_model.specs.declared.document.Document.{Document}
+use Rattle.value_model.specs.declared.timestamp.Timestamp.{Timestamp}
+use Rattle.views.specs.declared.raised.Raised.{Raised}
+
+-- a snapshot that the listener of an id raised
+pub record Told : Type 0 where
+  pub id : ℕ
+  pub raised : Raised
+
+-- The batch and the commit of a write; a listener with the id of its target, or one that ended, each with the number of commits
+-- then; the document of a key as it then stands; or a snapshot, with the number of commits and the last read time then.
+pub data Line : Type 0 where
+  wrote : ℕ → ℕ → Line
+  listening : ℕ → ℤ → ℕ → Line
+  unlistened : ℕ → ℕ → Line
+  document : List (List ℕ) → Option Document → DocState → Line
+  snapshot : ℕ → Option Timestamp → Told → Line

@@ -1,0 +1,32 @@
+-- The id of a listener's target.
+use Rattle.std.specs.Prelude.{◌≡◌, ℕ, ℤ, pos, length, Option, Some, None, if◌then◌else◌}
+use Rattle.host_api.specs.Host.{View}
+use Rattle.local_store.specs.Files.{Moves}
+use Rattle.local_store.specs.State.{State, committed}
+use Rattle.queries.specs.declared.target.Target.{Target}
+use Rattle.record_codec.specs.declared.commit.Commit.TheVariants.{Allocate}
+use Rattle.target_cache.specs.Cache.{TellsId, id_at}
+use Rattle.sync_engine.specs.Answers.{are_left}
+
+-- the id that a target has, or gets where one is left
+abbrev pub given_id : State → Option ℤ → Option ℤ
+given_id s (Some id) = Some id
+given_id s None = if are_left s then Some (pos (id_at (length s.rows))) else None
+
+-- the state then
+abbrev pub given_state : State → Target → Option ℤ → State
+given_state s target (Some id) = s
+given_state s target None = if are_left s then committed s (Allocate (id_at (length s.rows)) target) else s
+
+-- the target has a row of this id, or gets one
+pub record GivesTarget (s : State) (target : Target) (given : Option ℤ) (after_it : State) : Type 0 where
+  pub found : Option ℤ
+  pub tells : TellsId s.rows target found
+  pub id : given ≡ given_id s found
+  pub state : after_it ≡ given_state s target found
+
+-- a crash finds the state before it, or the one in which the target has a row
+pub record MovesForTarget (s : State) (target : Target) (old new : View) : Type 0 where
+  pub found : Option ℤ
+  pub tells : TellsId s.rows target found
+  pub moves : Moves s (given_state s target found) old new

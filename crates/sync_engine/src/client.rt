@@ -1,0 +1,144 @@
+ghost use Rattle.std.specs.Prelude.{◌≡◌, ◌↔◌, [], IsTrue, IsErr, IfErr, IfOk, IsErrOf, OnOk};
+ghost use Rattle.disk_journal.specs.Steps.{Opens, SettlesFirst};
+ghost use Rattle.host_api.specs.Counts.{RisesAt};
+ghost use Rattle.host_api.specs.Host.{KeepsOut};
+ghost use Rattle.client_events.specs.Spelled.{IsSpelledEvent};
+ghost use Rattle.local_store.specs.Files.{FindsState, Refuses};
+ghost use Rattle.local_store.specs.State.{State};
+ghost use Rattle.local_store.specs.Store.{IsFoundIn, IsStored};
+ghost use Rattle.sync_engine.specs.Past.{Past};
+ghost use Rattle.sync_engine.specs.Standing.{IsLive, IsSpent, StandsFor};
+ghost use Rattle.sync_engine.specs.Telling.{HandsOut, Lends, MovesBy};
+
+use crate::fault::ClientFault;
+use crate::out::Outcome;
+use client_events::Event;
+use disk_journal::OpenFault;
+use document_keys::Database;
+use host_api::Host;
+use listeners::Listeners;
+use local_store::LocalStore;
+use std::alloc::Global;
+use std::marker::Model;
+use views::Snapshot;
+
+/// A client of one database: its durable state in the files of a host, and its listeners. Contracts see what it keeps, and speak
+/// of each past that it stands for. After a fault it is spent.
+#[derive(Drop)]
+pub struct Client {
+    pub(crate) root: Database,
+    pub(crate) store: LocalStore,
+    pub(crate) listeners: Listeners,
+    spent: bool,
+}
+
+impl Model for Client {
+    ghost use Rattle.std.specs.Prelude.{◌≡◌, false};
+    ghost use Rattle.local_store.specs.Store.{IsSpent as IsStoreSpent};
+    ghost use Rattle.sync_engine.specs.Standing.{Kept, kept_code};
+
+    ghost Value = { Kept };
+
+    ghost coded = { kept_code };
+
+    ghost view = { λ c. record { root = c.root; store = c.store; listeners = c.listeners; spent = c.spent } };
+
+    ghost invariant = { λ c. c.spent ≡ false → ¬ (IsStoreSpent c.store) };
+}
+
+impl Client {
+    /// Opens the store of the host's files, with no listeners. What the store's opening promises, `LocalStore::open` says.
+    ///
+    /// # Errors
+    /// As `LocalStore::open`.
+    pub fn open<H: Host>(alloc: Global, host: &mut H, root: Database) -> Result<Client, OpenFault>
+        ensures stands { IfOk result (λ client. StandsFor client client.store.state []) }
+        ensures root { IfOk result (λ client. client.root ≡ root) }
+        ensures live { IfOk result IsLive }
+        ensures found { IfOk result (λ client. IsTrue H.tells_files
+            → FindsState (H.view host.old).bytes client.store.state) }
+        ensures stored { IfOk result (λ client. IsTrue H.tells_files
+            → IsStored client.store (H.view host.new)) }
+        ensures kept { IfOk result (λ client. IsTrue H.tells_files
+            → IsFoundIn client.store.state (H.view host.new)) }
+        ensures refused { IfErr result (λ fault. IsTrue H.tells_files
+            → Refuses fault (H.view host.old) (H.view host.new)) }
+        ensures files { IsTrue H.tells_files → Opens (H.view host.old) (H.view host.new) }
+        ensures settled { IsTrue H.tells_files
+            → SettlesFirst H.view result (H.view host.old) (H.view host.new) }
+        ensures out { KeepsOut (H.view host.old) (H.view host.new) }
+        ensures counts { RisesAt (IsErrOf result OpenFault.DiskFault)
+            (H.view host.old).disk_faults (H.view host.new).disk_faults }
+    {
+        let store = LocalStore::open(alloc, host)?;
+        Ok(Client {
+            root,
+            store,
+            listeners: Listeners::new(alloc),
+            spent: false,
+        })
+    }
+
+    /// Takes the turn of an event: what it commits is on the disk before this answers.
+    ///
+    /// # Errors
+    /// `Spent` exactly where the client is spent: nothing was done. `DiskFault` only where the count of disk faults rose, and
+    /// `NoMemory`: the event's commit may have been made, and the client is spent.
+    pub fn event<H: Host>(
+        &mut self,
+        alloc: Global,
+        host: &mut H,
+        event: Event,
+    ) -> Result<Outcome, ClientFault>
+        requires stored { IsTrue H.tells_files → IsStored self.old.store (H.view host.old) }
+        requires spelled { IsSpelledEvent event }
+        ensures turn { IfOk result (λ outcome. (s : State) (past : Past) → StandsFor self.old s past
+            → HandsOut s past event outcome self.new) }
+        ensures spent { IsErrOf result ClientFault.Spent ↔ IsSpent self.old }
+        ensures spends { IsSpent self.new ↔ IsErr result }
+        ensures live { OnOk result (IsLive self.new) }
+        ensures untouched { IsErrOf result ClientFault.Spent → host.new ≡ host.old }
+        ensures root { self.new.root ≡ self.old.root }
+        ensures stored { IsTrue H.tells_files → IsStored self.new.store (H.view host.new) }
+        ensures files { IsTrue H.tells_files → ¬ (IsSpent self.old)
+            → (s : State) (past : Past) → StandsFor self.old s past
+            → MovesBy s past event (H.view host.old) (H.view host.new) }
+        ensures out { KeepsOut (H.view host.old) (H.view host.new) }
+        ensures counts { RisesAt (IsErrOf result ClientFault.DiskFault)
+            (H.view host.old).disk_faults (H.view host.new).disk_faults }
+    {
+        if self.spent {
+            return Err(ClientFault::Spent);
+        }
+        self.spent = true;
+        let outcome = self.turn(alloc, host, event)?;
+        self.spent = false;
+        Ok(outcome)
+    }
+
+    /// The store, lent.
+    pub fn store(&self) -> &LocalStore
+        ensures { result.now ≡ self.now.store }
+    {
+        &self.store
+    }
+
+    /// The database.
+    pub fn root(&self) -> &Database
+        ensures { result.now ≡ self.now.root }
+    {
+        &self.root
+    }
+
+    /// The last snapshot of the listener of the id, lent; `None` exactly where there is no such listener, or it has raised none.
+    pub fn snapshot(&self, id: u32) -> Option<Snapshot<'_, LocalStore>>
+        requires { (s : State) × ((past : Past) × StandsFor self.now s past) }
+        ensures { Lends self.now id result }
+    {
+        let view = self.listeners.view(id)?;
+        if !view.has_raised() {
+            return None;
+        }
+        Some(view.snapshot(&self.store))
+    }
+}

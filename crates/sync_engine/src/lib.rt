@@ -1,0 +1,23 @@
+//! What one event does to a client.
+//!
+//! A `Client` is opened over the files of a host. `Client::event` takes an `Event`: its commit is made before the answer, an
+//! `Outcome` of lines (`Out`) or a `Refusal`. Then the client is settled (`settling.rt`): each listener that the event concerns
+//! is refreshed, and raises a snapshot where what it shows differs from what it last raised; `Client::snapshot` lends it. After
+//! a `ClientFault` the client is spent. What an event's turn is, `specs/Turn.antt` says, from the state before it and the past,
+//! the list of events that the client has heard; what the client keeps of these, `specs/Standing.antt` says part by part.
+#![tactic(auto)]
+
+mod client;
+mod fault;
+mod laws;
+mod listening;
+mod out;
+mod refusal;
+mod settling;
+mod turns;
+
+pub use client::Client;
+pub use fault::ClientFault;
+pub use laws::a_turn_is_one;
+pub use out::{Out, Outcome};
+pub use refusal::Refusal;

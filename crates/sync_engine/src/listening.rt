@@ -1,0 +1,126 @@
+//! The turns of listeners.
+
+ghost use Rattle.std.specs.Prelude.{◌≡◌, IsTrue, true, IfOk, OnOk, IsErrOf};
+ghost use Rattle.host_api.specs.Counts.{RisesAt};
+ghost use Rattle.host_api.specs.Host.{KeepsOut};
+ghost use Rattle.client_events.specs.Spelled.{IsSpelledEvent};
+ghost use Rattle.client_events.specs.declared.event.Event.TheVariants as event;
+ghost use Rattle.local_store.specs.State.{State};
+ghost use Rattle.local_store.specs.Store.{IsSpent as IsStoreSpent, IsStored};
+ghost use Rattle.target_codec.specs.Spelling.{IsSpelledTarget};
+ghost use Rattle.sync_engine.specs.Past.{Past};
+ghost use Rattle.sync_engine.specs.Standing.{StandsFor};
+ghost use Rattle.sync_engine.specs.Telling.{HandsOut, MovesBy, KeepsListeners};
+ghost use Rattle.sync_engine.specs.Targets.{GivesTarget, MovesForTarget};
+
+use crate::client::Client;
+use crate::fault::ClientFault;
+use crate::out::{Out, Outcome};
+use crate::refusal::Refusal;
+use host_api::Host;
+use local_store::MOST_COMMITS;
+use queries::{Query, Target};
+use record_codec::Commit;
+use std::alloc::Global;
+
+/// The greatest id that a target may have.
+const LAST_TARGET: u32 = 2_147_483_646;
+
+impl Client {
+    /// The id of the target's row, which is made where there is none; `None` where no number is left for the commit, or no id.
+    fn target_for<H: Host>(
+        &mut self,
+        alloc: Global,
+        host: &mut H,
+        target: &Target,
+    ) -> Result<Option<i32>, ClientFault>
+        requires stored { IsTrue H.tells_files → IsStored self.old.store (H.view host.old) }
+        requires whole { ¬ (IsStoreSpent self.old.store) }
+        requires poised { self.old.spent ≡ true }
+        requires spelled { IsSpelledTarget target.now }
+        ensures found { IfOk result (λ found.
+            GivesTarget self.old.store.state target.now found self.new.store.state) }
+        ensures whole { OnOk result (¬ (IsStoreSpent self.new.store)) }
+        ensures rest { KeepsListeners self.old self.new }
+        ensures stored { IsTrue H.tells_files → IsStored self.new.store (H.view host.new) }
+        ensures files { IsTrue H.tells_files
+            → MovesForTarget self.old.store.state target.now (H.view host.old) (H.view host.new) }
+        ensures out { KeepsOut (H.view host.old) (H.view host.new) }
+        ensures unspent { IsErrOf result ClientFault.Spent → ⊥ }
+        ensures counts { RisesAt (IsErrOf result ClientFault.DiskFault)
+            (H.view host.old).disk_faults (H.view host.new).disk_faults }
+    {
+        let id = self.store.targets().next_id();
+        if let Some(found) = self.store.targets().find(target) {
+            return Ok(Some(found));
+        }
+        let number = self.store.number();
+        if number >= MOST_COMMITS {
+            return Ok(None);
+        }
+        if id > LAST_TARGET {
+            return Ok(None);
+        }
+        let target = target.copy(alloc)?;
+        self.commit(alloc, host, Commit::Allocate { id, target })?;
+        Ok(Some(id as i32))
+    }
+
+    /// The turn of a listener that begins.
+    pub(crate) fn listen<H: Host>(
+        &mut self,
+        alloc: Global,
+        host: &mut H,
+        id: u32,
+        query: Query,
+    ) -> Result<Outcome, ClientFault>
+        requires stored { IsTrue H.tells_files → IsStored self.old.store (H.view host.old) }
+        requires whole { ¬ (IsStoreSpent self.old.store) }
+        requires poised { self.old.spent ≡ true }
+        requires spelled { IsSpelledEvent (event.Listen id query) }
+        ensures turn { IfOk result (λ outcome. (s : State) (past : Past) → StandsFor self.old s past
+            → HandsOut s past (event.Listen id query) outcome self.new) }
+        ensures whole { OnOk result (¬ (IsStoreSpent self.new.store)) }
+        ensures root { (self.new.root ≡ self.old.root) × (self.new.spent ≡ self.old.spent) }
+        ensures stored { IsTrue H.tells_files → IsStored self.new.store (H.view host.new) }
+        ensures files { IsTrue H.tells_files → (s : State) (past : Past) → StandsFor self.old s past
+            → MovesBy s past (event.Listen id query) (H.view host.old) (H.view host.new) }
+        ensures out { KeepsOut (H.view host.old) (H.view host.new) }
+        ensures unspent { IsErrOf result ClientFault.Spent → ⊥ }
+        ensures counts { RisesAt (IsErrOf result ClientFault.DiskFault)
+            (H.view host.old).disk_faults (H.view host.new).disk_faults }
+    {
+        let _last = self.store.targets().next_id();
+        if !self.listeners.view(id).is_none() {
+            return Ok(Outcome::Refused(Refusal::ListenerTaken(id)));
+        }
+        let Some(target) = self.target_for(alloc, host, query.as_target())? else {
+            return Ok(Outcome::Refused(Refusal::IdsSpent));
+        };
+        let commit = self.store.number();
+        let mut outs = Vec::new(alloc);
+        outs.push(Out::Listening { id, target, commit })?;
+        self.listeners.add(alloc, id, query)?;
+        self.settle(alloc, &[id], &mut outs)?;
+        Ok(Outcome::Done(outs))
+    }
+
+    /// The turn of a listener that ends.
+    pub(crate) fn unlisten(&mut self, alloc: Global, id: u32) -> Result<Outcome, ClientFault>
+        ensures turn { IfOk result (λ outcome. (s : State) (past : Past) → StandsFor self.old s past
+            → HandsOut s past (event.Unlisten id) outcome self.new) }
+        ensures store { self.new.store ≡ self.old.store }
+        ensures root { (self.new.root ≡ self.old.root) × (self.new.spent ≡ self.old.spent) }
+        ensures unspent { IsErrOf result ClientFault.Spent → ⊥ }
+        ensures memory { IsErrOf result ClientFault.DiskFault → ⊥ }
+    {
+        if self.listeners.view(id).is_none() {
+            return Ok(Outcome::Refused(Refusal::NoListener(id)));
+        }
+        let commit = self.store.number();
+        let mut outs = Vec::new(alloc);
+        outs.push(Out::Unlistened { id, commit })?;
+        self.listeners.remove(id);
+        Ok(Outcome::Done(outs))
+    }
+}

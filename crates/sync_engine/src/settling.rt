@@ -1,0 +1,118 @@
+//! Which listeners are refreshed, and what they raise.
+
+ghost use Rattle.std.specs.Prelude.{◌≡◌, ◌↔◌, ◌<◌, ℕ, IfOk, OnOk, IsTrue};
+ghost use Rattle.std.specs.List.{AllPairs, Contains};
+ghost use Rattle.listeners.specs.Concerns.{IsConcerned};
+ghost use Rattle.listeners.specs.Ids.{has_id};
+ghost use Rattle.mutation_queue.specs.Queue.{written_key};
+ghost use Rattle.sync_engine.specs.Concerned.{AreConcerned, ConcernsOne};
+ghost use Rattle.sync_engine.specs.Settling.{MayStart};
+ghost use Rattle.sync_engine.specs.Telling.{IsQuietOrAmong, KeepsRest, Raises, ShowsOne};
+
+use crate::client::Client;
+use crate::out::Out;
+use document_keys::{DocumentKey, KeySet, NoMemory};
+use mutations::Write;
+use queries::Target;
+use std::alloc::Global;
+use std::collections::BTreeSet;
+use views::Standing;
+
+/// The key of the document that the write changes.
+fn key_of(write: &Write) -> &DocumentKey
+    ensures { result.now ≡ written_key write.entry.now }
+{
+    match write {
+        Write::Update { key, .. } => key,
+        Write::Delete { key, .. } => key,
+    }
+}
+
+/// The ids in their order.
+fn in_order(alloc: Global, set: &BTreeSet<u32>) -> Result<Vec<u32>, NoMemory>
+    ensures ascending { IfOk result (λ ids. AllPairs (λ a b. a < b) ids.items) }
+    ensures all { IfOk result (λ ids. (id : ℕ) → IsTrue (has_id set.now id) → Contains ids.items id) }
+{
+    let mut ids = Vec::new(alloc);
+    for id in set.iter() {
+        ids.push(*id)?;
+    }
+    Ok(ids)
+}
+
+impl Client {
+    /// The listeners that the writes concern, in a set.
+    fn concerned_set(&self, alloc: Global, writes: &[Write]) -> Result<BTreeSet<u32>, NoMemory>
+        ensures { IfOk result (λ set. (id : ℕ) → ConcernsOne self.now.listeners writes.now id
+            → IsTrue (has_id set id)) }
+    {
+        let mut set = BTreeSet::new(alloc);
+        for write in writes {
+            self.listeners.concerned(alloc, key_of(write), &mut set)?;
+        }
+        Ok(set)
+    }
+
+    /// The ids of the listeners that the writes concern, ascending.
+    pub(crate) fn concerned(&self, alloc: Global, writes: &[Write]) -> Result<Vec<u32>, NoMemory>
+        ensures { IfOk result (λ ids. AreConcerned self.now.listeners writes.now ids.items) }
+    {
+        let set = self.concerned_set(alloc, writes)?;
+        let ids = in_order(alloc, &set)?;
+        Ok(ids)
+    }
+
+    /// Whether a listener of the target may start with nothing to show: its row isn't blank.
+    fn may_start(&self, target: &Target) -> bool
+        ensures { MayStart self.now.store.state target.now result }
+    {
+        let targets = self.store.targets();
+        let _last = targets.next_id();
+        let Some(id) = targets.find(target) else {
+            return false;
+        };
+        match targets.row(id) {
+            Some(row) => row.held.is_some(),
+            None => false,
+        }
+    }
+
+    /// Refreshes the listener of the id, if there is one, and tells whether it raised a snapshot.
+    fn show(&mut self, alloc: Global, id: u32) -> Result<bool, NoMemory>
+        ensures rest { KeepsRest self.old self.new }
+        ensures shows { IfOk result (λ raised. ShowsOne id self.old self.new raised) }
+    {
+        let Some(view) = self.listeners.view(id) else {
+            return Ok(false);
+        };
+        let may_start = self.may_start(view.query().as_target());
+        let standing = Standing {
+            current: false,
+            keys: KeySet::new(alloc),
+        };
+        let refresh = self
+            .listeners
+            .refresh(alloc, &self.root, &self.store, id, &standing, may_start)?;
+        Ok(refresh.raised)
+    }
+
+    /// Refreshes the listeners of the ids, which ascend; any other listener is quiet. Hands out the snapshots that are raised.
+    pub(crate) fn settle(
+        &mut self,
+        alloc: Global,
+        ids: &[u32],
+        outs: &mut Vec<Out>,
+    ) -> Result<(), NoMemory>
+        requires ascending { AllPairs (λ a b. a < b) ids.now }
+        ensures rest { KeepsRest self.old self.new }
+        ensures raises { IsQuietOrAmong ids.now self.old
+            → OnOk result (Raises self.old self.new outs.old.items outs.new.items) }
+    {
+        for id in ids {
+            if self.show(alloc, *id)? {
+                outs.push(Out::Raised(*id))?;
+            }
+        }
+        Ok(())
+    }
+}

@@ -1,0 +1,143 @@
+//! The turns of events, one by one.
+
+ghost use Rattle.std.specs.Prelude.{◌≡◌, ◌∷◌, [], IsTrue, true, IfOk, OnOk, IsErrOf};
+ghost use Rattle.host_api.specs.Counts.{RisesAt};
+ghost use Rattle.host_api.specs.Host.{KeepsOut};
+ghost use Rattle.client_events.specs.Spelled.{IsSpelledEvent};
+ghost use Rattle.client_events.specs.declared.event.Event.TheVariants as event;
+ghost use Rattle.local_store.specs.Files.{Moves};
+ghost use Rattle.local_store.specs.State.{State, Fits, committed};
+ghost use Rattle.local_store.specs.Store.{IsSpent as IsStoreSpent, IsStored};
+ghost use Rattle.record_codec.specs.Spelling.{HasSpelling};
+ghost use Rattle.sync_engine.specs.Past.{Past};
+ghost use Rattle.sync_engine.specs.Standing.{StandsFor};
+ghost use Rattle.sync_engine.specs.Telling.{HandsOut, MovesBy, KeepsListeners};
+
+use crate::client::Client;
+use crate::fault::ClientFault;
+use crate::out::{Out, Outcome};
+use crate::refusal::Refusal;
+use client_events::Event;
+use document_keys::DocumentKey;
+use host_api::Host;
+use local_store::{MOST_COMMITS, StoreFault};
+use mutations::{Batch, Writes};
+use record_codec::Commit;
+use std::alloc::Global;
+use value_model::Timestamp;
+
+impl Client {
+    /// Makes the commit, which fits.
+    pub(crate) fn commit<H: Host>(
+        &mut self,
+        alloc: Global,
+        host: &mut H,
+        commit: Commit,
+    ) -> Result<(), ClientFault>
+        requires stored { IsTrue H.tells_files → IsStored self.old.store (H.view host.old) }
+        requires whole { ¬ (IsStoreSpent self.old.store) }
+        requires poised { self.old.spent ≡ true }
+        requires fits { Fits self.old.store.state commit }
+        requires spelled { HasSpelling commit }
+        ensures state { OnOk result (self.new.store.state ≡ committed self.old.store.state commit) }
+        ensures whole { OnOk result (¬ (IsStoreSpent self.new.store)) }
+        ensures rest { KeepsListeners self.old self.new }
+        ensures stored { IsTrue H.tells_files → IsStored self.new.store (H.view host.new) }
+        ensures files { IsTrue H.tells_files
+            → Moves self.old.store.state (committed self.old.store.state commit)
+            (H.view host.old) (H.view host.new) }
+        ensures out { KeepsOut (H.view host.old) (H.view host.new) }
+        ensures unspent { IsErrOf result ClientFault.Spent → ⊥ }
+        ensures counts { RisesAt (IsErrOf result ClientFault.DiskFault)
+            (H.view host.old).disk_faults (H.view host.new).disk_faults }
+    {
+        match self.store.commit(alloc, host, commit) {
+            Ok(_) => Ok(()),
+            Err(StoreFault::DiskFault) => Err(ClientFault::DiskFault),
+            Err(StoreFault::NoMemory) => Err(ClientFault::NoMemory),
+            Err(StoreFault::Spent) => unreachable!(),
+        }
+    }
+
+    /// The turn of a get.
+    fn get(&mut self, alloc: Global, key: DocumentKey) -> Result<Outcome, ClientFault>
+        ensures turn { IfOk result (λ outcome. (s : State) (past : Past) → StandsFor self.old s past
+            → HandsOut s past (event.Get key) outcome self.new) }
+        ensures same { self.new ≡ self.old }
+        ensures unspent { IsErrOf result ClientFault.Spent → ⊥ }
+        ensures memory { IsErrOf result ClientFault.DiskFault → ⊥ }
+    {
+        let mut outs = Vec::new(alloc);
+        outs.push(Out::Document(key))?;
+        Ok(Outcome::Done(outs))
+    }
+
+    /// The turn of a write. A batch is committed, and then the listeners are refreshed that its writes concern.
+    fn write<H: Host>(
+        &mut self,
+        alloc: Global,
+        host: &mut H,
+        at: Timestamp,
+        writes: Writes,
+    ) -> Result<Outcome, ClientFault>
+        requires stored { IsTrue H.tells_files → IsStored self.old.store (H.view host.old) }
+        requires whole { ¬ (IsStoreSpent self.old.store) }
+        requires poised { self.old.spent ≡ true }
+        requires spelled { IsSpelledEvent (event.Write at writes) }
+        ensures turn { IfOk result (λ outcome. (s : State) (past : Past) → StandsFor self.old s past
+            → HandsOut s past (event.Write at writes) outcome self.new) }
+        ensures whole { OnOk result (¬ (IsStoreSpent self.new.store)) }
+        ensures root { (self.new.root ≡ self.old.root) × (self.new.spent ≡ self.old.spent) }
+        ensures stored { IsTrue H.tells_files → IsStored self.new.store (H.view host.new) }
+        ensures files { IsTrue H.tells_files → (s : State) (past : Past) → StandsFor self.old s past
+            → MovesBy s past (event.Write at writes) (H.view host.old) (H.view host.new) }
+        ensures out { KeepsOut (H.view host.old) (H.view host.new) }
+        ensures unspent { IsErrOf result ClientFault.Spent → ⊥ }
+        ensures counts { RisesAt (IsErrOf result ClientFault.DiskFault)
+            (H.view host.old).disk_faults (H.view host.new).disk_faults }
+    {
+        let number = self.store.number();
+        let id = self.store.next_batch();
+        if number >= MOST_COMMITS {
+            return Ok(Outcome::Refused(Refusal::IdsSpent));
+        }
+        let mut outs = Vec::new(alloc);
+        let commit = number + 1;
+        outs.push(Out::Wrote { batch: id, commit })?;
+        let ids = self.concerned(alloc, writes.as_slice())?;
+        self.commit(alloc, host, Commit::Enqueue(Batch { id, at, writes }))?;
+        self.settle(alloc, ids.as_slice(), &mut outs)?;
+        Ok(Outcome::Done(outs))
+    }
+
+    /// The turn of an event.
+    pub(crate) fn turn<H: Host>(
+        &mut self,
+        alloc: Global,
+        host: &mut H,
+        event: Event,
+    ) -> Result<Outcome, ClientFault>
+        requires stored { IsTrue H.tells_files → IsStored self.old.store (H.view host.old) }
+        requires whole { ¬ (IsStoreSpent self.old.store) }
+        requires poised { self.old.spent ≡ true }
+        requires spelled { IsSpelledEvent event }
+        ensures turn { IfOk result (λ outcome. (s : State) (past : Past) → StandsFor self.old s past
+            → HandsOut s past event outcome self.new) }
+        ensures whole { OnOk result (¬ (IsStoreSpent self.new.store)) }
+        ensures root { (self.new.root ≡ self.old.root) × (self.new.spent ≡ self.old.spent) }
+        ensures stored { IsTrue H.tells_files → IsStored self.new.store (H.view host.new) }
+        ensures files { IsTrue H.tells_files → (s : State) (past : Past) → StandsFor self.old s past
+            → MovesBy s past event (H.view host.old) (H.view host.new) }
+        ensures out { KeepsOut (H.view host.old) (H.view host.new) }
+        ensures unspent { IsErrOf result ClientFault.Spent → ⊥ }
+        ensures counts { RisesAt (IsErrOf result ClientFault.DiskFault)
+            (H.view host.old).disk_faults (H.view host.new).disk_faults }
+    {
+        match event {
+            Event::Write { at, writes } => self.write(alloc, host, at, writes),
+            Event::Get(key) => self.get(alloc, key),
+            Event::Listen { id, query } => self.listen(alloc, host, id, query),
+            Event::Unlisten(id) => self.unlisten(alloc, id),
+        }
+    }
+}
