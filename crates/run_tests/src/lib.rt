@@ -8,6 +8,7 @@
 
 #[cfg(test)]
 mod fixtures;
+#[cfg(test)]
 mod listening;
 #[cfg(test)]
 mod runs;
