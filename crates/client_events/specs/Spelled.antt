@@ -1,11 +1,16 @@
--- The events that the journal can hold: what each of them commits has a spelling.
-use Rattle.std.specs.Prelude.{ℕ, ◌<◌, ◌≤◌, ◌^◌, List, length}
+-- The events that a client takes: what each of them commits has a spelling, and the stream that it speaks of is one that is
+-- built.
+use Rattle.std.specs.Prelude.{◌≡◌, ℕ, ◌<◌, ◌≤◌, ◌^◌, List, length, IfSome}
 use Rattle.value_model.specs.Time.{IsMoment}
+use Rattle.value_model.specs.declared.message.StreamName.{StreamName}
+use Rattle.value_model.specs.declared.message.StreamName.TheVariants as stream
 use Rattle.value_model.specs.declared.timestamp.Timestamp.{Timestamp}
+use Rattle.mutations.specs.declared.results.WriteResponse.{WriteResponse}
 use Rattle.mutations.specs.declared.write.Write.{Write}
 use Rattle.queries.specs.declared.target.Target.{Target}
 use Rattle.record_parts.specs.Spelling.{AreSpelled, IsSpelledWrite}
 use Rattle.target_codec.specs.Spelling.{IsSpelledTarget}
+use Rattle.outcome_codec.specs.Spelling.{IsSpelledResult}
 use Rattle.client_events.specs.declared.event.Event.{Event}
 use Rattle.client_events.specs.declared.event.Event.TheVariants as event
 
@@ -25,9 +30,22 @@ pub record IsSpelledListener (id : ℕ) (query : Target) : Type 0 where
   pub fits : id < 2 ^ 32
   pub target : IsSpelledTarget query
 
--- the id of a listener fits four bytes, and what the event commits has a spelling
+-- a message of the stream of writes whose results have a spelling, at a time of the years 1 to 9999
+pub record IsSpelledResponse (response : WriteResponse) : Type 0 where
+  pub time : IfSome response.commit_time IsMoment
+  pub results : AreSpelled IsSpelledResult response.results
+
+-- the stream of writes: that of listeners isn't built yet
+abbrev pub IsBuilt : StreamName → Type 0
+IsBuilt name = name ≡ stream.Write
+
+-- the id of a listener fits four bytes, what the event commits has a spelling, and its stream is built
 abbrev pub IsSpelledEvent : Event → Type 0
 IsSpelledEvent (event.Write at writes) = AreSpelledWrites at writes
 IsSpelledEvent (event.Listen id query) = IsSpelledListener id query
 IsSpelledEvent (event.Unlisten id) = id < 2 ^ 32
+IsSpelledEvent (event.Opened name) = IsBuilt name
+IsSpelledEvent (event.Closed name status) = IsBuilt name
+IsSpelledEvent (event.Written response) = IsSpelledResponse response
+IsSpelledEvent (event.BadMessage name member) = IsBuilt name
 IsSpelledEvent _ = Unit {0}

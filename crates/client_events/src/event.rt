@@ -1,12 +1,12 @@
-use document_keys::DocumentKey;
-use mutations::Writes;
+use document_keys::{DocumentKey, Text};
+use mutations::{WriteResponse, Writes};
 use queries::Query;
-use value_model::Timestamp;
+use value_model::{RpcStatus, StreamName, Timestamp};
 
 /// How many writes may be made at once.
 pub const MAX_WRITES: u64 = 500;
 
-/// What an app asks of a client.
+/// What a client is told: what an app asks of it, and what comes on the streams of the backend.
 #[derive(Debug, Drop)]
 pub enum Event {
     /// Local writes that are made at once, with their local write time.
@@ -17,4 +17,12 @@ pub enum Event {
     Listen { id: u32, query: Query },
     /// The listener of this id ends.
     Unlisten(u32),
+    /// The stream was opened.
+    Opened(StreamName),
+    /// The stream was closed, with this status.
+    Closed(StreamName, RpcStatus),
+    /// A message came on the stream of writes.
+    Written(WriteResponse),
+    /// A message came on the stream that has a fault, in the member of this name.
+    BadMessage(StreamName, Text),
 }
