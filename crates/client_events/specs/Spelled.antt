@@ -39,13 +39,14 @@ pub record IsSpelledResponse (response : WriteResponse) : Type 0 where
 abbrev pub IsBuilt : StreamName → Type 0
 IsBuilt name = name ≡ stream.Write
 
--- the id of a listener fits four bytes, what the event commits has a spelling, and its stream is built
+-- the id of a listener fits four bytes and the code of a status one, what the event commits has a spelling, and its stream is
+-- built
 abbrev pub IsSpelledEvent : Event → Type 0
 IsSpelledEvent (event.Write at writes) = AreSpelledWrites at writes
 IsSpelledEvent (event.Listen id query) = IsSpelledListener id query
 IsSpelledEvent (event.Unlisten id) = id < 2 ^ 32
 IsSpelledEvent (event.Opened name) = IsBuilt name
-IsSpelledEvent (event.Closed name status) = IsBuilt name
+IsSpelledEvent (event.Closed name status) = IsBuilt name × (status.code < 2 ^ 8)
 IsSpelledEvent (event.Written response) = IsSpelledResponse response
 IsSpelledEvent (event.BadMessage name member) = IsBuilt name
 IsSpelledEvent _ = Unit {0}

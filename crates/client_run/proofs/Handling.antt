@@ -1,5 +1,5 @@
 -- What one line does to the files, call by call.
-use Rattle.std.proofs.Common.{◌≡◌, ℕ, ◌⊎◌, inl, inr, Bool, IsTrue, List, ◌∷◌, ◌++◌, Option, Some, None, option_map, is_none, if◌then◌else◌, refl, ap, subst, ◌∙◌}
+use Rattle.std.proofs.Common.{◌≡◌, ℕ, ◌⊎◌, inl, inr, Bool, IsTrue, List, ◌∷◌, ◌++◌, Option, Some, None, option_map, refl, sym, ap, subst, ◌∙◌}
 use Rattle.host_api.specs.Host.{Files, View, IsPart, Emits}
 use Rattle.host_api.proofs.Spans.{spans_then, spans_weaker}
 use Rattle.document_keys.specs.Names.{Root}
@@ -10,7 +10,7 @@ use Rattle.local_store.specs.Files.{FindsState, Moves}
 use Rattle.local_store.specs.State.{State}
 use Rattle.local_store.specs.Store.{IsSpent as IsStoreSpent, IsStored}
 use Rattle.client_events.specs.declared.event.Event.{Event}
-use Rattle.sync_engine.specs.Answers.{after}
+use Rattle.sync_engine.specs.Turns.{after}
 use Rattle.sync_engine.specs.Past.{Turn, Past}
 use Rattle.sync_engine.specs.Standing.{Kept, StandsFor}
 use Rattle.sync_engine.specs.Telling.{HandsOut, MovesBy}
@@ -20,7 +20,7 @@ use Rattle.sync_engine.specs.declared.out.Outcome.{Outcome}
 use Rattle.client_run.specs.Printed.{printed}
 use Rattle.sync_engine.proofs.Committed.{stored_finds}
 use Rattle.client_run.specs.Taken.{IsStanding, IsTaken, MovesLine}
-use Rattle.client_run.specs.Turn.{LineTurn, IsLineTurn, CommitsNext, and_heard, entry_of, of_event, unheard, unread_turn}
+use Rattle.client_run.specs.Turn.{LineTurn, IsLineTurn, CommitsNext, and_heard, entry_of, of_event, refusal_in, unheard, unread_turn}
 use Rattle.client_run.specs.Turned.{Coming, FindsCommit, HasTurn, InTurn, IsHandled, Turned, WrotePart, coming, text_of_turn}
 use Rattle.client_run.specs.declared.taken.Taken.{Taken}
 use Rattle.client_run.specs.declared.taken.Taken.TheVariants.{Unread as NoEvent, Heard}
@@ -34,17 +34,18 @@ settled_commits root s past e answer (Some refusal) t is = ap (λ (x : Turn). x.
 pub turn_commits : (root : Root) (s : State) (past : Past) (reading : Reading) (t : LineTurn) → IsLineTurn root s past reading t → CommitsNext s past reading t.commit
 turn_commits root s past (Refused refusal) t is = ap (λ (x : LineTurn). x.commit) is
 turn_commits root s past (an_event e) t is =
-    (is.is_turn.answer, is.is_turn.answers, ap (λ (x : LineTurn). x.commit) is.is ∙ settled_commits root s past e is.is_turn.answer is.is_turn.answer.refusal is.turn is.is_turn.settles)
+    let settled = is.is_turn.is_settled in
+    (settled.answer, settled.answers, ap (λ (x : LineTurn). x.commit) is.is ∙ ap (λ (x : Turn). x.commit) is.is_turn.is ∙ settled_commits root s past e settled.answer settled.answer.refusal is.is_turn.settled settled.settles)
 
 -- ---- taking a line
 
 -- what is heard of an event, by its turn as that of its line
+refusal_back : (r : Option Refusal) → refusal_in (option_map unheard r) ≡ r
+refusal_back None = refl
+refusal_back (Some refusal) = refl
+
 heard_as : (s : State) (e : Event) (t : Turn) (past : Past) → heard_then (record { state = s; event = e; turn = t }) past ≡ and_heard s (an_event e) (of_event t) past
-heard_as s e t past = by t.refusal refl
-  where
-    by : (r : Option Refusal) → t.refusal ≡ r → (if is_none r then record { state = s; event = e; turn = t } ∷ past else past) ≡ (if is_none (option_map unheard r) then entry_of s e (of_event t) ∷ past else past)
-    by None is = λ i. record { state = s; event = e; turn = record { refusal = is i; commit = t.commit; lines = t.lines } } ∷ past
-    by (Some refusal) is = refl
+heard_as s e t past = λ i. heard_then (record { state = s; event = e; turn = record { refusal = sym (refusal_back t.refusal) i; commit = t.commit; lines = t.lines } }) past
 
 pub event_taken : {s : State} {past : Past} {e : Event} {outcome : Outcome} {client : Kept} → HandsOut s past e outcome client → IsTaken s past (an_event e) (Heard outcome) client
 event_taken {s} {past} {e} {outcome} {client} it = record {

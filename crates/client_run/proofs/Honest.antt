@@ -26,7 +26,8 @@ use Rattle.queries.specs.declared.target.Target.{Target}
 use Rattle.target_cache.specs.Cache.{TellsId, id_at}
 use Rattle.views.specs.Viewed.{Viewed}
 use Rattle.views.specs.declared.raised.Raised.{Raised}
-use Rattle.sync_engine.specs.Answers.{Answers, Begins, after, are_left, commits, ends, enqueued, last_target, listens, refused}
+use Rattle.sync_engine.specs.Answers.{Answers, Begins, are_left, ends, enqueued, last_target, listens}
+use Rattle.sync_engine.specs.Turns.{after, commits, refused}
 use Rattle.sync_engine.specs.Lines.{Line, Told, wrote, listening, unlistened, document}
 use Rattle.sync_engine.specs.Past.{Turn, Past, asked, listener, raised_in, told}
 use Rattle.sync_engine.specs.Settling.{Settles, ShowsAt, told_to}

@@ -4,7 +4,7 @@ use Rattle.document_keys.specs.Names.{Root}
 use Rattle.record_codec.specs.declared.commit.Commit.{Commit}
 use Rattle.local_store.specs.State.{State, committed}
 use Rattle.line_reader.specs.declared.reading.Reading.{Reading}
-use Rattle.sync_engine.specs.Answers.{after}
+use Rattle.sync_engine.specs.Turns.{after}
 use Rattle.sync_engine.specs.Past.{Past}
 use Rattle.client_run.specs.Printed.{printed}
 use Rattle.client_run.specs.Turn.{LineTurn, IsLineTurn, and_heard}

@@ -1,12 +1,13 @@
 -- Laws of runs.
-use Rattle.std.specs.Prelude.{◌≡◌, ℕ, ◌+◌, ◌<◌, ◌≤◌, ◌^◌, length, Some}
+use Rattle.std.specs.Prelude.{◌≡◌, ℕ, ◌+◌, ◌<◌, ◌≤◌, ◌^◌, length, Some, IfSome}
 use Rattle.document_keys.specs.Names.{Root}
 use Rattle.line_printer.specs.Reported.{ReportedWithin}
 use Rattle.line_reader.specs.Spelled.{IsSpelledReading}
 use Rattle.line_reader.specs.declared.reading.Reading.{Reading}
 use Rattle.local_store.specs.State.{State, most_commits}
-use Rattle.sync_engine.specs.Answers.{after}
+use Rattle.sync_engine.specs.Turns.{after}
 use Rattle.sync_engine.specs.Past.{Past, listener}
+use Rattle.sync_engine.specs.Writing.{first_batch}
 use Rattle.target_cache.specs.Cache.{id_at}
 use Rattle.views.specs.Viewed.{Viewed}
 use Rattle.client_run.specs.History.{AreTurns, History, readings_of}
@@ -19,11 +20,13 @@ AHistoryIsOne = (root : Root) (first : State) (history other : History)
     → AreTurns root first history → AreTurns root first other
     → readings_of history ≡ readings_of other → history ≡ other
 
--- numbers that a store can have: its commits, its batches and the ids of its targets are counted
+-- numbers that a store can have: its commits, its batches and the ids of its targets are counted, and eight bytes have the id of
+-- the first pending batch
 pub record IsCounted (s : State) : Type 0 where
   pub within : s.number ≤ most_commits
   pub next : s.next_batch ≤ s.number + 1
   pub rows : id_at (length s.rows) ≤ 2147483648
+  pub first : IfSome (first_batch s) (λ batch. batch.id < 2 ^ 64)
 
 -- the ids of the listeners that were heard of fit four bytes
 abbrev pub HasListenerIds : Past → Type 0

@@ -10,8 +10,8 @@ use Rattle.line_reader.specs.declared.refusal.Refusal.{Refusal as Unread}
 use Rattle.queries.specs.declared.raw.QueryRule.{QueryRule}
 use Rattle.queries.specs.declared.raw.QueryRule.TheVariants as rule
 use Rattle.sync_engine.specs.declared.refusal.Refusal.{Refusal}
-use Rattle.sync_engine.specs.declared.refusal.Refusal.TheVariants.{ListenerTaken, NoListener, IdsSpent}
-use Rattle.sync_engine.specs.Lines.{Line, wrote, listening, unlistened, document, snapshot}
+use Rattle.sync_engine.specs.declared.refusal.Refusal.TheVariants.{ListenerTaken, NoListener, StreamState, BadMessage, IdsSpent}
+use Rattle.sync_engine.specs.Lines.{Line, wrote, listening, unlistened, document, result, rejected, snapshot, send}
 use Rattle.client_run.specs.Turn.{Cause, unread, unheard, LineTurn}
 
 abbrev pub tree_of : Root → Line → Data
@@ -19,7 +19,10 @@ tree_of root (wrote batch commit) = tree.ok_tree batch commit
 tree_of root (listening id target commit) = tree.listening_tree id target commit
 tree_of root (unlistened id commit) = tree.unlistened_tree id commit
 tree_of root (document key found how) = tree.document_tree root key found how
+tree_of root (result batch commit time) = tree.result_tree batch commit time
+tree_of root (rejected batch commit status) = tree.rejected_tree batch commit status
 tree_of root (snapshot commit read_time told) = tree.snapshot_tree root told.id commit read_time told.raised
+tree_of root (send request) = tree.send_write_tree root request
 
 -- the bytes of lines, one after another
 abbrev pub text_of : Root → List Line → List ℕ
@@ -48,6 +51,8 @@ unread_tree line (unread_for.BadQuery rule) = tree.bad_query_tree line (rule_num
 abbrev pub unheard_tree : ℕ → Refusal → Data
 unheard_tree line (ListenerTaken id) = tree.listener_taken_tree line id
 unheard_tree line (NoListener id) = tree.no_listener_tree line id
+unheard_tree line (StreamState stream is_open) = tree.stream_state_tree line stream is_open
+unheard_tree line (BadMessage stream member) = tree.bad_message_tree line stream member
 unheard_tree line IdsSpent = tree.ids_spent_tree line
 
 abbrev pub refused_tree : ℕ → Cause → Data

@@ -6,7 +6,7 @@ use Rattle.record_codec.specs.declared.commit.Commit.{Commit}
 use Rattle.line_reader.specs.declared.reading.Reading.{Reading}
 use Rattle.local_store.specs.Files.{Moves}
 use Rattle.local_store.specs.State.{State}
-use Rattle.sync_engine.specs.Answers.{after}
+use Rattle.sync_engine.specs.Turns.{after}
 use Rattle.sync_engine.specs.Lines.{Line}
 use Rattle.sync_engine.specs.Past.{Turn, Past}
 use Rattle.sync_engine.specs.Standing.{Kept, StandsFor}

@@ -1,5 +1,5 @@
 -- What one line of input does: why it is refused, at most one commit, and the lines that answer it.
-use Rattle.std.specs.Prelude.{◌≡◌, List, [], ◌∷◌, Option, Some, None, option_map, is_none, if◌then◌else◌}
+use Rattle.std.specs.Prelude.{◌≡◌, List, [], Option, Some, None, option_map}
 use Rattle.document_keys.specs.Names.{Root}
 use Rattle.record_codec.specs.declared.commit.Commit.{Commit}
 use Rattle.local_store.specs.State.{State}
@@ -11,7 +11,7 @@ use Rattle.sync_engine.specs.declared.refusal.Refusal.{Refusal}
 use Rattle.sync_engine.specs.Answers.{Answers}
 use Rattle.sync_engine.specs.Lines.{Line}
 use Rattle.sync_engine.specs.Past.{Turn, Entry, Past}
-use Rattle.sync_engine.specs.Turn.{IsTurn}
+use Rattle.sync_engine.specs.Turn.{IsTurn, heard_then}
 
 -- why a line is refused: it is no event, or the client refuses its event
 pub data Cause : Type 0 where
@@ -47,12 +47,18 @@ abbrev pub CommitsNext : State → Past → Reading → Option Commit → Type 0
 CommitsNext s past (Refused refusal) commit = commit ≡ None
 CommitsNext s past (an_event e) commit = (answer : Turn) × Answers s past e answer × (commit ≡ answer.commit)
 
--- an event that was heard
+-- why the client refused the event of a line, if it did
+abbrev pub refusal_in : Option Cause → Option Refusal
+refusal_in None = None
+refusal_in (Some (unread refusal)) = None
+refusal_in (Some (unheard refusal)) = Some refusal
+
+-- the event of a line, with its turn
 abbrev pub entry_of : State → Event → LineTurn → Entry
 entry_of s e t =
-    record { state = s; event = e; turn = record { refusal = None; commit = t.commit; lines = t.lines } }
+    record { state = s; event = e; turn = record { refusal = refusal_in t.cause; commit = t.commit; lines = t.lines } }
 
--- what was heard, with this line, unless it was refused
+-- what was heard, with this line, if it was heard
 abbrev pub and_heard : State → Reading → LineTurn → Past → Past
 and_heard s (Refused refusal) t past = past
-and_heard s (an_event e) t past = if is_none t.cause then entry_of s e t ∷ past else past
+and_heard s (an_event e) t past = heard_then (entry_of s e t) past

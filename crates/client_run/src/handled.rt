@@ -1,11 +1,12 @@
 //! One line, from its reading to its answer.
 
-ghost use Rattle.std.specs.Prelude.{◌≡◌, IsTrue, IfErr, OnOk};
+ghost use Rattle.std.specs.Prelude.{◌≡◌, ◌<◌, ◌^◌, IsTrue, IfErr, IfSome, OnOk};
 ghost use Rattle.line_reader.specs.Spelled.{IsSpelledReading};
 ghost use Rattle.local_store.specs.State.{State};
 ghost use Rattle.local_store.specs.Store.{IsStored};
 ghost use Rattle.sync_engine.specs.Past.{Past};
 ghost use Rattle.sync_engine.specs.Standing.{IsLive, StandsFor};
+ghost use Rattle.sync_engine.specs.Writing.{first_batch};
 ghost use Rattle.client_run.specs.Laws.{IsCounted};
 ghost use Rattle.client_run.specs.Taken.{IsStanding};
 ghost use Rattle.client_run.specs.Turned.{IsHandled, Stopped, Turned, TurnCounts, coming};
@@ -15,8 +16,18 @@ use crate::taken::take;
 use crate::turn_fault::TurnFault;
 use host_api::Host;
 use line_reader::Reading;
+use local_store::LocalStore;
 use std::alloc::Global;
 use sync_engine::Client;
+
+/// Shows that eight bytes have the id of the first pending batch.
+fn show_first(store: &LocalStore)
+    ensures { IfSome (first_batch store.now.state) (λ batch. batch.id < 2 ^ 64) }
+{
+    if let Some(first) = store.pending().first() {
+        let _id = first.id;
+    }
+}
 
 /// Handles one line: what it commits is on the disk before its lines go out, in one call of `emit`. `number` is that of the
 /// line in the run, from 1.
@@ -50,6 +61,7 @@ pub fn handle<H: Host>(
 {
     let _number = client.store().number();
     let _next = client.store().targets().next_id();
+    show_first(client.store());
     let taken = take(alloc, host, client, reading)?;
     let text = print_taken(alloc, client, number, &taken)?;
     host.emit(text.as_str().as_bytes())?;

@@ -5,7 +5,7 @@ ghost use Rattle.std.specs.String.{string_bytes};
 ghost use Rattle.line_printer.specs.Lines.{document_tree, line_of};
 ghost use Rattle.local_store.specs.Documents.{document_of, standing_of};
 ghost use Rattle.sync_engine.specs.Lines.{Line};
-ghost use Rattle.sync_engine.specs.Telling.{IsRaised, IsShown};
+ghost use Rattle.sync_engine.specs.Telling.{IsRaised, IsSent, IsShown};
 ghost use Rattle.client_run.specs.Printed.{printed, rule_number as rule_number_of, text_of, tree_of, unheard_tree, unread_tree};
 ghost use Rattle.client_run.specs.Taken.{AreShown, IsHeard, IsStanding, Tells};
 ghost use Rattle.client_run.specs.Turn.{LineTurn};
@@ -13,10 +13,11 @@ ghost use Rattle.client_run.specs.Turn.{LineTurn};
 use crate::taken::Taken;
 use document_keys::{Database, DocumentKey, NoMemory};
 use line_printer::{
-    print_bad_line, print_bad_name, print_bad_query, print_bad_writes, print_found,
-    print_ids_spent, print_listener_taken, print_listening, print_missing, print_no_listener,
-    print_snapshot, print_too_deep, print_too_long, print_unlistened, print_unsupported,
-    print_wrote,
+    print_bad_line, print_bad_message, print_bad_name, print_bad_query, print_bad_writes,
+    print_batch, print_found, print_handshake, print_ids_spent, print_listener_taken,
+    print_listening, print_missing, print_no_listener, print_rejected, print_result,
+    print_snapshot, print_stream_state, print_too_deep, print_too_long, print_unlistened,
+    print_unsupported, print_wrote,
 };
 use line_reader::Refusal as Unread;
 use local_store::{LocalStore, documents_are_local};
@@ -55,12 +56,18 @@ fn print_unread(alloc: Global, line: u64, refusal: &Unread) -> Result<String, No
 }
 
 /// The answer of a line whose event the client refuses.
-fn print_unheard(alloc: Global, line: u64, refusal: Refusal) -> Result<String, NoMemory>
-    ensures { IfOk result (λ text. string_bytes text ≡ line_of (unheard_tree line refusal)) }
+fn print_unheard(alloc: Global, line: u64, refusal: &Refusal) -> Result<String, NoMemory>
+    ensures { IfOk result (λ text. string_bytes text ≡ line_of (unheard_tree line refusal.now)) }
 {
     match refusal {
-        Refusal::ListenerTaken(id) => print_listener_taken(alloc, line, id),
-        Refusal::NoListener(id) => print_no_listener(alloc, line, id),
+        Refusal::ListenerTaken(id) => print_listener_taken(alloc, line, *id),
+        Refusal::NoListener(id) => print_no_listener(alloc, line, *id),
+        Refusal::StreamState { stream, is_open } => {
+            print_stream_state(alloc, line, *stream, *is_open)
+        }
+        Refusal::BadMessage { stream, member } => {
+            print_bad_message(alloc, line, *stream, member.as_str())
+        }
         Refusal::IdsSpent => print_ids_spent(alloc, line),
     }
 }
@@ -103,6 +110,23 @@ fn print_raised(alloc: Global, client: &Client, id: u32) -> Result<String, NoMem
     )
 }
 
+/// The request with the pending batch at the place.
+fn print_sent(alloc: Global, client: &Client, place: u64) -> Result<String, NoMemory>
+    requires sent { (line : Line) × IsSent client.now place line }
+    ensures { IfOk result (λ text. (line : Line) → IsSent client.now place line
+        → string_bytes text ≡ line_of (tree_of client.now.root line)) }
+{
+    let Some(batch) = client.store().pending().get(place) else {
+        unreachable!();
+    };
+    print_batch(
+        alloc,
+        client.root(),
+        client.token(),
+        batch.writes.as_slice(),
+    )
+}
+
 /// A line that was handed out.
 fn print_out(alloc: Global, client: &Client, out: &Out) -> Result<String, NoMemory>
     requires standing { IsStanding client.now }
@@ -118,7 +142,19 @@ fn print_out(alloc: Global, client: &Client, out: &Out) -> Result<String, NoMemo
             let line = print_document(alloc, client.root(), client.store(), key)?;
             Ok(line)
         }
+        Out::Result {
+            batch,
+            commit,
+            time,
+        } => print_result(alloc, *batch, *commit, *time),
+        Out::Rejected {
+            batch,
+            commit,
+            status,
+        } => print_rejected(alloc, *batch, *commit, status),
         Out::Raised(id) => print_raised(alloc, client, *id),
+        Out::SendHandshake => print_handshake(alloc, client.root()),
+        Out::SendBatch(place) => print_sent(alloc, client, *place),
     }
 }
 
@@ -151,7 +187,7 @@ fn print_outcome(
 {
     match outcome {
         Outcome::Done(outs) => print_outs(alloc, client, outs.as_slice()),
-        Outcome::Refused(refusal) => print_unheard(alloc, number, *refusal),
+        Outcome::Refused(refusal) => print_unheard(alloc, number, refusal),
     }
 }
 

@@ -15,20 +15,25 @@ use Rattle.local_store.specs.Store.{Store}
 use Rattle.queries.proofs.Counting.{pairs_tail, pairs_head}
 use Rattle.views.specs.Viewed.{Viewed}
 use Rattle.views.specs.declared.raised.Raised.{Raised}
-use Rattle.sync_engine.specs.Answers.{Answers, after, answered, ends, refused}
-use Rattle.sync_engine.specs.Lines.{Line, Told, wrote, listening, unlistened, document, snapshot}
-use Rattle.sync_engine.specs.Past.{Turn, Past, asked, listener, raised_in, told}
+use Rattle.sync_engine.specs.Answers.{Answers, ends}
+use Rattle.sync_engine.specs.Turns.{after, answered, refused}
+use Rattle.sync_engine.specs.Lines.{Line, Told, wrote, listening, unlistened, document, result, rejected, snapshot, send}
+use Rattle.write_pipeline.specs.Order.{Steps, outstanding}
+use Rattle.sync_engine.specs.Past.{Turn, Past, asked, listener, raised_in, sent_in, steps_by, steps_of, told}
 use Rattle.sync_engine.specs.Settling.{IsBelow, Settles, ShowsAt, told_to}
-use Rattle.sync_engine.specs.Standing.{Kept, IsQuiet, StandsFor}
-use Rattle.sync_engine.specs.Telling.{HandsOut, IsOutcome, IsRaised, IsShown, KeepsRest, Raises}
-use Rattle.sync_engine.specs.Turn.{IsTurn, Settled, SettlesAfter, snapshot_line, with_snapshots}
+use Rattle.sync_engine.specs.Standing.{Kept, IsQuiet, StandsFor, StandsOn}
+use Rattle.sync_engine.specs.Telling.{HandsOut, HandsSettled, IsOutcome, IsRaised, IsSent, IsShown, KeepsRest, Raises}
+use Rattle.sync_engine.specs.Turn.{Settled, SettlesAfter, heard_then, is_heard, snapshot_line, with_snapshots}
 use Rattle.sync_engine.specs.declared.out.Out.{Out}
-use Rattle.sync_engine.specs.declared.out.Out.TheVariants.{Document, Listening, Unlistened, Wrote, Raised as RaisedBy}
+use Rattle.sync_engine.specs.declared.out.Out.TheVariants.{Document, Listening, Unlistened, Wrote, Result, Rejected, Raised as RaisedBy, SendHandshake, SendBatch}
 use Rattle.sync_engine.specs.declared.out.Outcome.{Outcome}
 use Rattle.sync_engine.specs.declared.out.Outcome.TheVariants.{Done, Refused}
 use Rattle.sync_engine.specs.declared.refusal.Refusal.{Refusal}
 use Rattle.sync_engine.proofs.Ones.{head_below, told_first, told_later}
 use Rattle.sync_engine.proofs.Quiet.{settles_none}
+use Rattle.sync_engine.proofs.Steps.{few_by, sent_behind, sent_told}
+use Rattle.sync_engine.specs.Past.{Entry}
+use Rattle.sync_engine.specs.declared.write_stream.WriteStream.{WriteStream}
 
 -- ---- the snapshots among the lines
 
@@ -38,6 +43,9 @@ raised_behind id (wrote b c ∷ xs) ys none = raised_behind id xs ys none
 raised_behind id (listening i t c ∷ xs) ys none = raised_behind id xs ys none
 raised_behind id (unlistened i c ∷ xs) ys none = raised_behind id xs ys none
 raised_behind id (document k d h ∷ xs) ys none = raised_behind id xs ys none
+raised_behind id (result b c t ∷ xs) ys none = raised_behind id xs ys none
+raised_behind id (rejected b c t ∷ xs) ys none = raised_behind id xs ys none
+raised_behind id (send r ∷ xs) ys none = raised_behind id xs ys none
 raised_behind id (snapshot c r t ∷ xs) ys none = go (raised_behind id xs ys) (nat_eq t.id id) none
   where
     go : (raised_in id xs ≡ None → raised_in id (xs ++ ys) ≡ raised_in id ys) → (b : Bool) → (if b then Some t.raised else raised_in id xs) ≡ None → (if b then Some t.raised else raised_in id (xs ++ ys)) ≡ raised_in id ys
@@ -61,7 +69,7 @@ all_told (t ∷ ts) pairs =
     all_both P Q [] first second = All-nil (λ (x : Told). P x × Q x)
     all_both P Q (u ∷ us) first second = All-cons (λ (x : Told). P x × Q x) u us (All-head P u us first, All-head Q u us second) (all_both P Q us (All-tail P u us first) (All-tail Q u us second))
 
-zip_append : {X Y : Type 0} (R : X → Y → Type 0) (xs : List X) (ys : List Y) (us : List X) (vs : List Y) → AllZip R xs ys → AllZip R us vs → AllZip R (xs ++ us) (ys ++ vs)
+pub zip_append : {X Y : Type 0} (R : X → Y → Type 0) (xs : List X) (ys : List Y) (us : List X) (vs : List Y) → AllZip R xs ys → AllZip R us vs → AllZip R (xs ++ us) (ys ++ vs)
 zip_append R [] [] us vs first second = second
 zip_append R [] (y ∷ ys) us vs first second = absurd first
 zip_append R (x ∷ xs) [] us vs first second = absurd first
@@ -72,7 +80,8 @@ zip_append R (x ∷ xs) (y ∷ ys) us vs first second = (first.0, zip_append R x
 module _ (s : State) (past : Past) (e : Event) (answer : Turn) (mid new : Kept) (before : List Out) (vec : Vec Out Global)
     (answers : Answers s past e answer) (state : mid.store.state ≡ after s answer.commit)
     (listeners : (id : ℕ) → viewed mid.listeners id ≡ asked id e (listener id past))
-    (rest : KeepsRest mid new) (raises : Raises mid new before vec.items) where
+    (rest : KeepsRest mid new) (raises : Raises mid new before vec.items)
+    (writes : StandsOn mid.writes (steps_by e None (steps_of past))) (pending : outstanding (steps_of past) ≤ length s.batches) where
   abbrev later : State
   later = after s answer.commit
 
@@ -100,10 +109,15 @@ module _ (s : State) (past : Past) (e : Event) (answer : Turn) (mid new : Kept) 
   heard : ((id : ℕ) → raised_in id answer.lines ≡ None) → (id : ℕ) → viewed new.listeners id ≡ told (raised_in id turn.lines) (asked id e (listener id past))
   heard none id = raises.listeners id ∙ ap (told (told_to id ts)) (listeners id) ∙ ap (λ r. told r (asked id e (listener id past))) (sym (lines_told none id))
 
-  stands : ((id : ℕ) → raised_in id answer.lines ≡ None) → StandsFor new later (record { state = s; event = e; turn = turn } ∷ past)
-  stands none = record {
+  silent : ((h : Steps) → sent_in answer.lines h ≡ h) → (h : Steps) → sent_in turn.lines h ≡ h
+  silent none h = sent_behind answer.lines (each (snapshot_line later) ts) h ∙ sent_told later ts (sent_in answer.lines h) ∙ none h
+
+  stands : ((id : ℕ) → raised_in id answer.lines ≡ None) → ((h : Steps) → sent_in answer.lines h ≡ h) → answer.refusal ≡ None → StandsFor new later (record { state = s; event = e; turn = turn } ∷ past)
+  stands none unsent done = record {
     state = new_state;
     listeners = heard none;
+    writes = subst (λ (h : Steps). StandsOn new.writes h) (sym (silent unsent (steps_by e None (steps_of past)))) (subst (λ (w : WriteStream). StandsOn w (steps_by e None (steps_of past))) (sym rest.writes) writes);
+    pending = subst (λ (h : Steps). outstanding h ≤ length later.batches) (sym (silent unsent (steps_by e None (steps_of past)))) (subst (λ (r : Option Refusal). outstanding (steps_by e r (steps_of past)) ≤ length later.batches) done (few_by s past e answer answers pending));
     quiet = λ id.
         subst (λ (v : Option Viewed). IfSome v (IsQuiet new.root later)) (heard none id)
         (subst (λ (root : Root). IfSome (viewed new.listeners id) (IsQuiet root later)) (sym rest.root)
@@ -128,15 +142,15 @@ module _ (s : State) (past : Past) (e : Event) (answer : Turn) (mid new : Kept) 
   shown [] all = tt
   shown (u ∷ us) all = (is_raised u (All-head (λ (t : Told). told_to t.id ts ≡ Some t.raised) u us all), shown us (All-tail (λ (t : Told). told_to t.id ts ≡ Some t.raised) u us all))
 
-  pub hands_settled : answer.refusal ≡ None → ((id : ℕ) → raised_in id answer.lines ≡ None) → AllZip (IsShown new) before answer.lines → HandsOut s past e (Done vec) new
-  hands_settled none quiet first = record {
+  pub hands_settled : answer.refusal ≡ None → ((id : ℕ) → raised_in id answer.lines ≡ None) → ((h : Steps) → sent_in answer.lines h ≡ h) → AllZip (IsShown new) before answer.lines → HandsSettled s past e (Done vec) new
+  hands_settled none quiet unsent first = record {
     turn = turn;
-    is_turn = record {
+    is_settled = record {
       answer = answer;
       answers = answers;
       settles = subst (λ (r : Option Refusal). SettlesAfter new.root s past e answer r turn) (sym none) (record { told = ts; settles = settles; is = refl });
     };
-    stands = stands quiet;
+    stands = stands quiet unsent none;
     outcome = (
       refl,
       subst (λ (os : List Out). AllZip (IsShown new) os turn.lines) (sym raises.outs)
@@ -157,31 +171,31 @@ same_id id q = by (is_id id q) refl (nat_eq id q) refl
     by false one false two = one ∙ sym two
 
 -- nothing of what the client keeps changes
-pub hands_got : {client : Kept} {s : State} {past : Past} {vec : Vec Out Global} (key : List (List ℕ)) → StandsFor client s past → vec.items ≡ Document key ∷ [] → HandsOut s past (event.Get key) (Done vec) client
+pub hands_got : {client : Kept} {s : State} {past : Past} {vec : Vec Out Global} (key : List (List ℕ)) → StandsFor client s past → vec.items ≡ Document key ∷ [] → HandsSettled s past (event.Get key) (Done vec) client
 hands_got {client} {s} {past} {vec} key stands is =
     let line = document key (document_of s key) (standing_of s key) in
     let answer = answered (line ∷ []) in
     record {
       turn = with_snapshots s answer [];
-      is_turn = record { answer = answer; answers = refl; settles = record { told = []; settles = settles_none client.root s (λ id. listener id past) stands.quiet; is = refl } };
-      stands = record { state = stands.state; listeners = stands.listeners; quiet = stands.quiet };
+      is_settled = record { answer = answer; answers = refl; settles = record { told = []; settles = settles_none client.root s (λ id. listener id past) stands.quiet; is = refl } };
+      stands = record { state = stands.state; listeners = stands.listeners; quiet = stands.quiet; writes = stands.writes; pending = stands.pending };
       outcome = (refl, subst (λ (os : List Out). AllZip (IsShown client) os (line ∷ [])) (sym is) ((λ i. document key (document_of (sym stands.state i) key) (standing_of (sym stands.state i) key)), tt));
     }
 
 -- a listener ends
-pub hands_ended : {old new : Kept} {s : State} {past : Past} {vec : Vec Out Global} (id : ℕ) (view : Viewed) → viewed old.listeners id ≡ Some view → StandsFor old s past → new.root ≡ old.root → new.store ≡ old.store → Changes id None old.listeners new.listeners
-    → vec.items ≡ Unlistened id old.store.state.number ∷ [] → HandsOut s past (event.Unlisten id) (Done vec) new
-hands_ended {old} {new} {s} {past} {vec} id view there stands root store changes is =
+pub hands_ended : {old new : Kept} {s : State} {past : Past} {vec : Vec Out Global} (id : ℕ) (view : Viewed) → viewed old.listeners id ≡ Some view → StandsFor old s past → new.root ≡ old.root → new.store ≡ old.store → new.writes ≡ old.writes → Changes id None old.listeners new.listeners
+    → vec.items ≡ Unlistened id old.store.state.number ∷ [] → HandsSettled s past (event.Unlisten id) (Done vec) new
+hands_ended {old} {new} {s} {past} {vec} id view there stands root store writes changes is =
     let answer = answered (unlistened id s.number ∷ []) in
     let ended : ends s id (listener id past) ≡ answer = ap (ends s id) (sym (stands.listeners id) ∙ there) in
     record {
       turn = with_snapshots s answer [];
-      is_turn = record {
+      is_settled = record {
         answer = answer;
         answers = sym ended;
         settles = record { told = []; settles = settles_none new.root s (λ q. asked q (event.Unlisten id) (listener q past)) quiet; is = refl };
       };
-      stands = record { state = ap (λ (x : Store). x.state) store ∙ stands.state; listeners = listeners; quiet = quiet };
+      stands = record { state = ap (λ (x : Store). x.state) store ∙ stands.state; listeners = listeners; quiet = quiet; writes = subst (λ (w : WriteStream). StandsOn w (steps_of past)) (sym writes) stands.writes; pending = stands.pending };
       outcome = (refl, subst (λ (os : List Out). AllZip (IsShown new) os (unlistened id s.number ∷ [])) (sym is) (ap (λ (x : State). unlistened id x.number) (sym stands.state), tt));
     }
   where
@@ -197,13 +211,15 @@ hands_ended {old} {new} {s} {past} {vec} id view there stands root store changes
 
 -- ---- refusals
 
-pub hands_refused : {client : Kept} {s : State} {past : Past} {e : Event} (refusal : Refusal) → StandsFor client s past → Answers s past e (refused refusal) → HandsOut s past e (Refused refusal) client
-hands_refused {client} {s} {past} {e} refusal stands answers = record {
-  turn = refused refusal;
-  is_turn = record { answer = refused refusal; answers = answers; settles = refl };
-  stands = stands;
-  outcome = (refl, refl);
-}
+pub hands_refused : {client : Kept} {s : State} {past : Past} {e : Event} (refusal : Refusal) → is_heard (Some refusal) ≡ false → StandsFor client s past → Answers s past e (refused refusal) → HandsSettled s past e (Refused refusal) client
+hands_refused {client} {s} {past} {e} refusal unheard stands answers =
+    let entry : Entry = record { state = s; event = e; turn = refused refusal } in
+    record {
+      turn = refused refusal;
+      is_settled = record { answer = refused refusal; answers = answers; settles = refl };
+      stands = subst (λ (b : Bool). StandsFor client s (if b then entry ∷ past else past)) (sym unheard) stands;
+      outcome = (refl, refl);
+    }
 
 -- ---- whether there is a listener
 
@@ -218,16 +234,20 @@ some_viewed f (Some x) v b maps is so = (f x, sym maps)
 -- ---- whether it is spent says nothing of what it stands for
 
 abbrev as_spent : Kept → Bool → Kept
-as_spent k b = record { root = k.root; store = k.store; listeners = k.listeners; spent = b }
+as_spent k b = record { root = k.root; store = k.store; listeners = k.listeners; writes = k.writes; spent = b }
 
 pub stands_still : {k : Kept} {s : State} {past : Past} (b : Bool) → StandsFor k s past → StandsFor (as_spent k b) s past
-stands_still b stands = record { state = stands.state; listeners = stands.listeners; quiet = stands.quiet }
+stands_still b stands = record { state = stands.state; listeners = stands.listeners; quiet = stands.quiet; writes = stands.writes; pending = stands.pending }
 
 shown_still : (k : Kept) (b : Bool) (out : Out) (line : Line) → IsShown k out line → IsShown (as_spent k b) out line
 shown_still k b (Wrote batch commit) line is = is
 shown_still k b (Listening id target commit) line is = is
 shown_still k b (Unlistened id commit) line is = is
 shown_still k b (Document key) line is = is
+shown_still k b (Result batch commit time) line is = is
+shown_still k b (Rejected batch commit status) line is = is
+shown_still k b SendHandshake line is = is
+shown_still k b (SendBatch place) line is = record { steps = is.steps; stands = is.stands; batch = is.batch; there = is.there; is = is.is }
 shown_still k b (RaisedBy id) line is = record { view = is.view; there = is.there; raised = is.raised; last = is.last; is = is.is }
 
 all_still : (k : Kept) (b : Bool) (outs : List Out) (lines : List Line) → AllZip (IsShown k) outs lines → AllZip (IsShown (as_spent k b)) outs lines

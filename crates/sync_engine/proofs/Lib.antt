@@ -1,9 +1,13 @@
+pub mod Closed
 pub mod Committed
 pub mod Gathering
 pub mod Handing
 pub mod Ones
 pub mod Quiet
+pub mod Requests
+pub mod Sent
 pub mod Settled
 pub mod Showing
+pub mod Steps
 pub mod Targets
 pub mod Turning

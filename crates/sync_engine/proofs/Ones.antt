@@ -19,7 +19,8 @@ use Rattle.views.specs.Refresh.{Refreshes}
 use Rattle.views.specs.Viewed.{Viewed}
 use Rattle.views.specs.declared.raised.Raised.{Raised}
 use Rattle.views.specs.declared.view.Refresh.{Refresh}
-use Rattle.sync_engine.specs.Answers.{Answers, Begins, listens, after}
+use Rattle.sync_engine.specs.Answers.{Answers, Begins, listens}
+use Rattle.sync_engine.specs.Turns.{after}
 use Rattle.sync_engine.specs.Laws.{ATurnIsOne}
 use Rattle.sync_engine.specs.Lines.{Told}
 use Rattle.sync_engine.specs.Past.{Turn, Past, listener, asked}

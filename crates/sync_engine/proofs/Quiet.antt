@@ -1,9 +1,9 @@
 -- listeners that are quiet, and stay so
-use Rattle.std.proofs.Common.{◌≡◌, ◌↔◌, ◌⊎◌, ⊎_elim, inl, inr, ℕ, ◌+◌, ◌<◌, ℤ, pos, Bool, true, false, ◌||◌, IsTrue, List, [], ◌∷◌, ◌++◌, length, Option, Some, None, IfSome, if◌then◌else◌, refl, sym, ap, subst, ◌∙◌, arith, get_or, suc, zero}
+use Rattle.std.proofs.Common.{◌≡◌, ◌↔◌, ◌⊎◌, ⊎_elim, inl, inr, ℕ, ◌+◌, ◌<◌, ℤ, pos, Bool, true, false, ◌||◌, IsTrue, List, [], ◌∷◌, ◌++◌, map as each, drop, cond, length, Option, Some, None, IfSome, if◌then◌else◌, refl, sym, ap, subst, ◌∙◌, arith, get_or, suc, zero}
 use Rattle.std.proofs.lemmas.List.Elements.{All-nil, All-cons, All-head, All-tail, All-weaker, All-contains, All-contains_itself}
 use Rattle.std.proofs.lemmas.Option.{none-some}
 use Rattle.std.specs.FinMap as map
-use Rattle.std.specs.List.{All, AllPairs, Contains, slice_get}
+use Rattle.std.specs.List.{All, AllPairs, Contains, cons_option, filter_map, slice_get}
 use Rattle.std.specs.Option.{IsSome, option_map}
 use Rattle.document_keys.specs.Names.{Root}
 use Rattle.mutation_queue.specs.Queue.{keys_of, named_keys, written_key}
@@ -11,14 +11,24 @@ use Rattle.mutations.specs.declared.batch.Batch.{Batch}
 use Rattle.mutations.specs.declared.write.Write.{Write}
 use Rattle.value_model.specs.Documents.{DocumentMap, Stored}
 use Rattle.value_model.specs.declared.document.Document.{Document}
-use Rattle.durable_state.proofs.Laid.{among-append, among_in, local_more, named_more, not_so, not_written}
+use Rattle.durable_state.proofs.Changed.{get_changed}
+use Rattle.durable_state.proofs.Laid.{among-append, among_in, first_false, local_more, named_more, not_so, not_written, second_false}
+use Rattle.durable_state.specs.Cached.{Changed, acknowledged_keys, answered_by, cached, first_writes, with_all, with_changed}
+use Rattle.acknowledgements.specs.Acked.{acked}
+use Rattle.document_keys.specs.KeySet.{is_key}
+use Rattle.mutations.specs.declared.results.WriteResult.{WriteResult}
+use Rattle.remote_documents.specs.Table.{EntryMap}
+use Rattle.value_model.specs.declared.document.Entry.{Entry}
+use Rattle.value_model.specs.declared.document.Seal.{Seal}
+use Rattle.value_model.specs.declared.document.Seal.TheVariants.{Committed}
+use Rattle.value_model.specs.declared.timestamp.Timestamp.{Timestamp}
 use Rattle.durable_state.proofs.Local.{documents_local}
 use Rattle.durable_state.specs.Documents.{documents_of, is_among, is_named, sealed_entry_of, standing_by, stored}
 use Rattle.value_model.specs.declared.document.DocState.TheVariants as stands
 use Rattle.local_store.specs.Documents.{document_of, entry_of, standing_of, touched_keys_of}
 use Rattle.local_store.specs.State.{State, committed}
 use Rattle.overlays.specs.LocalDocument.{base_of, local_document}
-use Rattle.record_codec.specs.declared.commit.Commit.TheVariants.{Enqueue, Allocate}
+use Rattle.record_codec.specs.declared.commit.Commit.TheVariants.{Enqueue, Acknowledge, Allocate, Reject}
 use Rattle.queries.specs.declared.target.Target.{Target}
 use Rattle.target_cache.specs.Cache.{IsRow, blank, id_at}
 use Rattle.target_cache.specs.declared.row.Row.{Row}
@@ -123,21 +133,76 @@ unnamed_stays s batch key none =
     or_none true = refl
     or_none false = refl
 
+module _ (target : Target) where
+  Apart : List (List ℕ) → Type 0
+  Apart key = Concerns target key → ⊥
+
+  all_keys : (ws : List Write) → All (λ (w : Write). Apart (written_key w)) ws → All Apart (keys_of ws)
+  all_keys [] all = All-nil Apart
+  all_keys (w ∷ ws) all = All-cons Apart (written_key w) (keys_of ws) (All-head (λ (x : Write). Apart (written_key x)) w ws all) (all_keys ws (All-tail (λ (x : Write). Apart (written_key x)) w ws all))
+
+  named_write : (ws : List Write) (key : List (List ℕ)) → Contains (keys_of ws) key → Concerns target key → ((write : Write) → Contains ws write → Concerns target (written_key write) → ⊥) → ⊥
+  named_write ws key among concerns never =
+      All-contains Apart (keys_of ws) key (all_keys ws (All-weaker (Contains ws) (λ (x : Write). Apart (written_key x)) never ws (All-contains_itself ws))) among concerns
+
 pub quiet_enqueued : (root : Root) (s : State) (batch : Batch) (view : Viewed) → ((write : Write) → Contains batch.writes write → Concerns view.target (written_key write) → ⊥) → IsQuiet root s view → IsQuiet root (committed s (Enqueue batch)) view
 quiet_enqueued root s batch view never = quiet_stays root s (committed s (Enqueue batch)) view
-    (λ key concerns. unnamed_stays s batch key (not_so (is_among (keys_of batch.writes) key) (λ among. named_write batch.writes key (among_in key (keys_of batch.writes) among) concerns never)))
+    (λ key concerns. unnamed_stays s batch key (not_so (is_among (keys_of batch.writes) key) (λ among. named_write view.target batch.writes key (among_in key (keys_of batch.writes) among) concerns never)))
     ((λ it. it), (λ it. it))
+
+-- ---- behind the first batch's answer
+
+first_named : (bs : List Batch) (key : List (List ℕ)) → is_among (keys_of (first_writes bs)) key ≡ false → is_among (named_keys (drop 1 bs)) key ≡ is_among (named_keys bs) key
+first_named [] key none = refl
+first_named (b ∷ bs) key none = sym (among-append (keys_of b.writes) (named_keys bs) key ∙ ap (λ x. x || is_among (named_keys bs) key) none)
+
+first_local : (key : List (List ℕ)) (base : Option Document) (bs : List Batch) → is_among (keys_of (first_writes bs)) key ≡ false → local_document key base (drop 1 bs) ≡ local_document key base bs
+first_local key base [] none = refl
+first_local key base (b ∷ bs) none = ap (λ d. local_document key d bs) (sym (not_written key b.at b.writes base none))
+
+-- the keys whose entries change are among those of the batch
+get_all : (entries : EntryMap) (cs : List Changed) (key : List (List ℕ)) → is_among (each (λ (c : Changed). c.0) cs) key ≡ false → map.get (with_all entries cs) key ≡ map.get entries key
+get_all entries [] key none = refl
+get_all entries (c ∷ cs) key none =
+    get_all (with_changed entries c) cs key (second_false (is_key c.0 key) (is_among (each (λ (x : Changed). x.0) cs) key) none)
+    ∙ get_changed entries c key ∙ ap (λ b. cond b c.1 (map.get entries key)) (first_false (is_key c.0 key) (is_among (each (λ (x : Changed). x.0) cs) key) none)
+
+apart : (entries : EntryMap) (writes : List Write) (results : List WriteResult) (at : Timestamp) (keys : List (List (List ℕ))) (key : List (List ℕ)) → is_among keys key ≡ false
+    → is_among (each (λ (c : Changed). c.0) (filter_map (answered_by entries writes results at) keys)) key ≡ false
+apart entries writes results at [] key none = refl
+apart entries writes results at (k ∷ keys) key none = go (acked (cached entries k) k writes results at) (apart entries writes results at keys key (second_false (is_key k key) (is_among keys key) none))
   where
-    Apart : List (List ℕ) → Type 0
-    Apart key = Concerns view.target key → ⊥
+    go : (found : Option Entry) → is_among (each (λ (c : Changed). c.0) (filter_map (answered_by entries writes results at) keys)) key ≡ false
+        → is_among (each (λ (c : Changed). c.0) (cons_option (option_map (λ entry. (k, Some (entry, Committed at))) found) (filter_map (answered_by entries writes results at) keys))) key ≡ false
+    go None rest = rest
+    go (Some entry) rest = ap (λ b. b || is_among (each (λ (c : Changed). c.0) (filter_map (answered_by entries writes results at) keys)) key) (first_false (is_key k key) (is_among keys key) none) ∙ rest
 
-    all_keys : (ws : List Write) → All (λ (w : Write). Apart (written_key w)) ws → All Apart (keys_of ws)
-    all_keys [] all = All-nil Apart
-    all_keys (w ∷ ws) all = All-cons Apart (written_key w) (keys_of ws) (All-head (λ (x : Write). Apart (written_key x)) w ws all) (all_keys ws (All-tail (λ (x : Write). Apart (written_key x)) w ws all))
+-- a key that the first batch doesn't name has the document that it had, where that batch leaves
+first_stays : (s t : State) (key : List (List ℕ)) → t.batches ≡ drop 1 s.batches → map.get t.entries key ≡ map.get s.entries key → is_among (keys_of (first_writes s.batches)) key ≡ false → map.get (documents_of t) key ≡ map.get (documents_of s) key
+first_stays s t key batches entries none =
+    let entry : entry_of t key ≡ entry_of s key = ap (option_map (λ (x : Entry × Seal). x.0)) entries in
+    let document : document_of t key ≡ document_of s key =
+    (λ i. local_document key (base_of (entry i)) (batches i)) ∙ first_local key (base_of (entry_of s key)) s.batches none in
+    let named : is_named t key ≡ is_named s key = ap (λ bs. is_among (named_keys bs) key) batches ∙ first_named s.batches key none in
+    let same : (d : Document) → stored t key d ≡ stored s key d = λ d i. record { fields = d.fields; update_time = d.update_time; state = if named i then stands.Pending else standing_by (entries i) } in
+    documents_local t key ∙ ap (λ (f : Document → Stored). option_map f (document_of t key)) (λ i d. same d i) ∙ ap (option_map (stored s key)) document ∙ sym (documents_local s key)
 
-    named_write : (ws : List Write) (key : List (List ℕ)) → Contains (keys_of ws) key → Concerns view.target key → ((write : Write) → Contains ws write → Concerns view.target (written_key write) → ⊥) → ⊥
-    named_write ws key among concerns never =
-        All-contains Apart (keys_of ws) key (all_keys ws (All-weaker (Contains ws) (λ (x : Write). Apart (written_key x)) never ws (All-contains_itself ws))) among concerns
+-- what is said of a batch that joined holds of one that leaves: a listener that none of its writes concerns stays quiet
+apart_from : (writes : List Write) (target : Target) → ((write : Write) → Contains writes write → Concerns target (written_key write) → ⊥) → (key : List (List ℕ)) → Concerns target key → is_among (keys_of writes) key ≡ false
+apart_from writes target never key concerns = not_so (is_among (keys_of writes) key) (λ among. named_write target writes key (among_in key (keys_of writes) among) concerns never)
+
+pub quiet_rejected : (root : Root) (s : State) (id : ℕ) (view : Viewed) → ((write : Write) → Contains (first_writes s.batches) write → Concerns view.target (written_key write) → ⊥) → IsQuiet root s view → IsQuiet root (committed s (Reject id)) view
+quiet_rejected root s id view never = quiet_stays root s (committed s (Reject id)) view
+    (λ key concerns. first_stays s (committed s (Reject id)) key refl refl (apart_from (first_writes s.batches) view.target never key concerns))
+    ((λ it. it), (λ it. it))
+
+pub quiet_acknowledged : (root : Root) (s : State) (id : ℕ) (at : Timestamp) (results : List WriteResult) (view : Viewed) → ((write : Write) → Contains (first_writes s.batches) write → Concerns view.target (written_key write) → ⊥) → IsQuiet root s view → IsQuiet root (committed s (Acknowledge id at results)) view
+quiet_acknowledged root s id at results view never = quiet_stays root s (committed s (Acknowledge id at results)) view
+    (λ key concerns.
+        let none = apart_from (first_writes s.batches) view.target never key concerns in
+        first_stays s (committed s (Acknowledge id at results)) key refl
+        (get_all s.entries (acknowledged_keys s.entries (first_writes s.batches) results at) key (apart s.entries (first_writes s.batches) results at (keys_of (first_writes s.batches)) key none)) none)
+    ((λ it. it), (λ it. it))
 
 -- ---- what a quiet listener has raised
 

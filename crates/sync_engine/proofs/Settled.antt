@@ -34,7 +34,7 @@ pub record Settling (old now : Kept) (before outs : List Out) (ids : List ℕ) (
   pub quiet : (id : ℕ) → Contains (take done ids) id → IfSome (viewed now.listeners id) (IsQuiet old.root old.store.state)
 
 pub keeps_then : {old mid new : Kept} → KeepsRest old mid → KeepsRest mid new → KeepsRest old new
-keeps_then first second = record { root = second.root ∙ first.root; store = second.store ∙ first.store; spent = second.spent ∙ first.spent }
+keeps_then first second = record { root = second.root ∙ first.root; store = second.store ∙ first.store; writes = second.writes ∙ first.writes; spent = second.spent ∙ first.spent }
 
 told_none : (v : Option Viewed) → told None v ≡ v
 told_none v = refl
@@ -45,7 +45,7 @@ nothing_among it = absurd (omega (arith, it.1))
 pub none_settled : (old : Kept) (outs : List Out) (ids : List ℕ) → Settling old old outs outs ids 0
 none_settled old outs ids = record {
   ts = [];
-  rest = record { root = refl; store = refl; spent = refl };
+  rest = record { root = refl; store = refl; writes = refl; spent = refl };
   outs_are = sym (append-nil outs);
   ascending = λ i j d less inside. absurd (omega (arith, inside));
   among = All-nil (λ (t : Told). Contains (take 0 ids) t.id);
@@ -178,7 +178,7 @@ module _ (old now new : Kept) (before outs after : List Out) (ids : List ℕ) (d
   pub settled_more : after ≡ outs ++ outs_of (entry x one.raised) → Settling old new before after ids (done + 1)
   settled_more is = record {
     ts = all_ts;
-    rest = record { root = kept.root ∙ it.rest.root; store = kept.store ∙ it.rest.store; spent = kept.spent ∙ it.rest.spent };
+    rest = record { root = kept.root ∙ it.rest.root; store = kept.store ∙ it.rest.store; writes = kept.writes ∙ it.rest.writes; spent = kept.spent ∙ it.rest.spent };
     outs_are = outs_more before outs after it.ts (entry x one.raised) it.outs_are is;
     ascending = pairs_more x one.raised it.ts it.ascending below;
     among = subst (λ (l : List ℕ). All (λ (t : Told). Contains l t.id) all_ts) (sym grown)

@@ -21,13 +21,16 @@ use Rattle.record_codec.specs.declared.commit.Commit.TheVariants.{Enqueue, Alloc
 use Rattle.target_cache.specs.Cache.{id_at}
 use Rattle.value_model.specs.declared.timestamp.Timestamp.{Timestamp}
 use Rattle.views.specs.Viewed.{Viewed}
-use Rattle.sync_engine.specs.Answers.{Answers, Begins, after, answered, are_left, commits, ends, enqueued, last_target, listens, refused}
+use Rattle.sync_engine.specs.Answers.{Answers, Begins, are_left, ends, enqueued, last_target, listens}
+use Rattle.sync_engine.specs.Turns.{after, answered, commits, refused}
 use Rattle.sync_engine.specs.Concerned.{AreConcerned, ConcernsOne}
 use Rattle.sync_engine.specs.Lines.{Line, listening, wrote}
-use Rattle.sync_engine.specs.Past.{Turn, Past, asked, listener, raised_in}
-use Rattle.sync_engine.specs.Standing.{Kept, IsQuiet, StandsFor}
+use Rattle.write_pipeline.specs.Order.{Steps}
+use Rattle.sync_engine.specs.Past.{Turn, Past, asked, listener, raised_in, sent_in}
+use Rattle.sync_engine.specs.Standing.{Kept, IsQuiet, StandsFor, StandsOn}
+use Rattle.sync_engine.specs.declared.write_stream.WriteStream.{WriteStream}
 use Rattle.sync_engine.specs.Targets.{GivesTarget, MovesForTarget, given_id, given_state}
-use Rattle.sync_engine.specs.Telling.{HandsOut, IsQuietOrAmong, IsShown, KeepsListeners, KeepsRest, MovesBy, Raises}
+use Rattle.sync_engine.specs.Telling.{HandsSettled, IsQuietOrAmong, IsShown, KeepsListeners, KeepsRest, MovesBy, Raises}
 use Rattle.sync_engine.specs.declared.out.Out.{Out}
 use Rattle.sync_engine.specs.declared.out.Out.TheVariants.{Listening, Wrote}
 use Rattle.sync_engine.specs.declared.out.Outcome.TheVariants.{Done}
@@ -40,7 +43,10 @@ use Rattle.sync_engine.proofs.Quiet.{quiet_allocated, quiet_enqueued}
 pub by_state : {client : Kept} {s : State} {past : Past} (P : State → Type 0) → StandsFor client s past → (StandsFor client client.store.state past → P client.store.state) → P s
 by_state {client} {s} {past} P stands holds = subst P stands.state (holds (subst (λ (t : State). StandsFor client t past) (sym stands.state) stands))
 
-among_or_not : (ids : List ℕ) (id : ℕ) → Contains ids id ⊎ (Contains ids id → ⊥)
+pub stays_on : {old new : WriteStream} {h : Steps} → old ≡ new → StandsOn old h → StandsOn new h
+stays_on {old} {new} {h} same stands = subst (λ (w : WriteStream). StandsOn w h) same stands
+
+pub among_or_not : (ids : List ℕ) (id : ℕ) → Contains ids id ⊎ (Contains ids id → ⊥)
 among_or_not [] id = inr (λ it. absurd (omega (arith, it.1)))
 among_or_not (x ∷ ids) id = go (nat_eq x id) refl (among_or_not ids id)
   where
@@ -53,7 +59,7 @@ among_or_not (x ∷ ids) id = go (nat_eq x id) refl (among_or_not ids id)
         (Contains-append_cases (x ∷ []) ids id it))
 
 -- the listener of an id is quiet
-quiet_at : {client : Kept} {s : State} {past : Past} (id : ℕ) (view : Viewed) → StandsFor client s past → viewed client.listeners id ≡ Some view → IsQuiet client.root s view
+pub quiet_at : {client : Kept} {s : State} {past : Past} (id : ℕ) (view : Viewed) → StandsFor client s past → viewed client.listeners id ≡ Some view → IsQuiet client.root s view
 quiet_at {client} {s} id view stands there = subst (λ (v : Option Viewed). IfSome v (IsQuiet client.root s)) (sym (stands.listeners id) ∙ there) (stands.quiet id)
 
 -- ---- writes
@@ -83,15 +89,16 @@ quiet_or_written {old} mid at writes ids stands concerned root listeners state i
         (quiet_at id view stands was)))
 
 pub hands_written : {old new : Kept} (mid : Kept) {past : Past} {before : List Out} {vec : Vec Out Global} (at : Timestamp) (writes : List Write) (ids : List ℕ) → StandsFor old old.store.state past → AreConcerned old.listeners writes ids
-    → old.store.state.number < most_commits → mid.root ≡ old.root → mid.listeners ≡ old.listeners → mid.store.state ≡ committed old.store.state (Enqueue (record { id = old.store.state.next_batch; at = at; writes = writes }))
+    → old.store.state.number < most_commits → mid.root ≡ old.root → mid.listeners ≡ old.listeners → mid.writes ≡ old.writes → mid.store.state ≡ committed old.store.state (Enqueue (record { id = old.store.state.next_batch; at = at; writes = writes }))
     → KeepsRest mid new → (IsQuietOrAmong ids mid → Raises mid new before vec.items) → before ≡ Wrote old.store.state.next_batch (old.store.state.number + 1) ∷ []
-    → HandsOut old.store.state past (event.Write at writes) (Done vec) new
-hands_written {old} {new} mid {past} {before} {vec} at writes ids stands concerned few root listeners state rest raises first =
+    → HandsSettled old.store.state past (event.Write at writes) (Done vec) new
+hands_written {old} {new} mid {past} {before} {vec} at writes ids stands concerned few root listeners kept state rest raises first =
     hands_settled old.store.state past (event.Write at writes) (commits (Enqueue (record { id = old.store.state.next_batch; at = at; writes = writes })) (wrote old.store.state.next_batch (old.store.state.number + 1) ∷ [])) mid new before vec
     (sym (enqueued_is old.store.state at writes few)) state
     (λ id. ap (λ (t : Table). viewed t id) listeners ∙ stands.listeners id) rest
     (raises (quiet_or_written mid at writes ids stands concerned root listeners state))
-    refl (λ id. refl)
+    (stays_on (sym kept) stands.writes) stands.pending
+    refl (λ id. refl) (λ h. refl)
     (subst (λ (os : List Out). AllZip (IsShown new) os (wrote old.store.state.next_batch (old.store.state.number + 1) ∷ [])) (sym first) (refl, tt))
 
 -- ---- a listener that begins
@@ -137,7 +144,7 @@ quiet_given root s query None view quiet = by (are_left s)
 module _ (old mid new : Kept) (past : Past) (id : ℕ) (query : Target) (given : Option ℤ) (target : ℤ)
     (stands : StandsFor old old.store.state past) (free : viewed old.listeners id ≡ None)
     (gives : GivesTarget old.store.state query given mid.store.state) (is : given ≡ Some target)
-    (root : mid.root ≡ old.root) (changes : Changes id (Some (fresh query)) old.listeners mid.listeners) where
+    (root : mid.root ≡ old.root) (kept : mid.writes ≡ old.writes) (changes : Changes id (Some (fresh query)) old.listeners mid.listeners) where
   first : Begun old.store.state id query gives.found target
   first = begun old.store.state id query gives.found target (sym gives.id ∙ is)
 
@@ -159,10 +166,11 @@ module _ (old mid new : Kept) (past : Past) (id : ℕ) (query : Target) (given :
           (quiet_given old.root old.store.state query gives.found view (quiet_at q view stands was))))
 
   pub hands_begun : {before : List Out} {vec : Vec Out Global} → KeepsRest mid new → (IsQuietOrAmong (id ∷ []) mid → Raises mid new before vec.items) → before ≡ Listening id target mid.store.state.number ∷ []
-      → HandsOut old.store.state past (event.Listen id query) (Done vec) new
+      → HandsSettled old.store.state past (event.Listen id query) (Done vec) new
   hands_begun {before} {vec} rest raises begins =
-      hands_settled old.store.state past (event.Listen id query) first.answer mid new before vec answers (gives.state ∙ first.state) listeners rest (raises quiet_or_new) first.none
-      (λ q. ap (raised_in q) first.lines)
+      hands_settled old.store.state past (event.Listen id query) first.answer mid new before vec answers (gives.state ∙ first.state) listeners rest (raises quiet_or_new)
+      (stays_on (sym kept) stands.writes) stands.pending first.none
+      (λ q. ap (raised_in q) first.lines) (λ h. ap (λ (l : List Line). sent_in l h) first.lines)
       (subst (λ (os : List Out). AllZip (IsShown new) os first.answer.lines) (sym begins)
       (subst (AllZip (IsShown new) (Listening id target mid.store.state.number ∷ [])) (sym first.lines)
       (sym (ap (λ (t : State). listening id target t.number) gives.state), tt)))
@@ -226,6 +234,8 @@ spent_stands {old} {new} {past} query given stands gives none rest = record {
   state = gives.state ∙ given_none old.store.state query gives.found (sym gives.id ∙ none);
   listeners = λ id. ap (λ (t : Table). viewed t id) rest.listeners ∙ stands.listeners id;
   quiet = λ id. subst (λ (r : Root). IfSome (listener id past) (IsQuiet r old.store.state)) (sym rest.root) (stands.quiet id);
+  writes = stays_on (sym rest.writes) stands.writes;
+  pending = stands.pending;
 }
 
 pub ends_none : (s : State) (id : ℕ) (view : Option Viewed) → (ends s id view).commit ≡ None

@@ -1,31 +1,20 @@
--- What an event comes to, but for the snapshots that it raises.
+-- What an event comes to, but for the snapshots that it raises and the batches that go out behind them.
 use Rattle.std.specs.Prelude.{◌≡◌, ℕ, ◌+◌, Bool, ◌&&◌, not, pos, ℤ, List, [], ◌∷◌, length, nat_lt, Option, Some, None, if◌then◌else◌}
 use Rattle.value_model.specs.declared.timestamp.Timestamp.{Timestamp}
 use Rattle.mutations.specs.declared.write.Write.{Write}
-use Rattle.record_codec.specs.declared.commit.Commit.{Commit}
 use Rattle.record_codec.specs.declared.commit.Commit.TheVariants.{Enqueue, Allocate}
 use Rattle.queries.specs.declared.target.Target.{Target}
 use Rattle.target_cache.specs.Cache.{TellsId, id_at}
 use Rattle.local_store.specs.Documents.{document_of, standing_of}
-use Rattle.local_store.specs.State.{State, committed, most_commits}
+use Rattle.local_store.specs.State.{State, most_commits}
 use Rattle.client_events.specs.declared.event.Event.{Event}
 use Rattle.client_events.specs.declared.event.Event.TheVariants as event
 use Rattle.views.specs.Viewed.{Viewed}
-use Rattle.sync_engine.specs.declared.refusal.Refusal.{Refusal}
 use Rattle.sync_engine.specs.declared.refusal.Refusal.TheVariants.{ListenerTaken, NoListener, IdsSpent}
 use Rattle.sync_engine.specs.Lines.{Line, wrote, listening, unlistened, document}
-use Rattle.sync_engine.specs.Past.{Turn, Past, listener}
-
--- a refused event does nothing
-abbrev pub refused : Refusal → Turn
-refused refusal = record { refusal = Some refusal; commit = None; lines = [] }
-
-abbrev pub answered : List Line → Turn
-answered lines = record { refusal = None; commit = None; lines = lines }
-
--- the event makes this commit
-abbrev pub commits : Commit → List Line → Turn
-commits commit lines = record { refusal = None; commit = Some commit; lines = lines }
+use Rattle.sync_engine.specs.Past.{Turn, Past, listener, steps_of}
+use Rattle.sync_engine.specs.Turns.{answered, commits, refused}
+use Rattle.sync_engine.specs.Writing.{WrittenTurn, bad_turn, closed_turn, is_open, opened_turn}
 
 -- the writes are the next batch, where a number is left for its commit
 abbrev pub enqueued : State → Timestamp → List Write → Turn
@@ -69,8 +58,7 @@ Answers s past (event.Get key) t =
     t ≡ answered (document key (document_of s key) (standing_of s key) ∷ [])
 Answers s past (event.Listen id query) t = Begins s id query (listener id past) t
 Answers s past (event.Unlisten id) t = t ≡ ends s id (listener id past)
-
--- the state after a turn
-abbrev pub after : State → Option Commit → State
-after s None = s
-after s (Some commit) = committed s commit
+Answers s past (event.Opened name) t = t ≡ opened_turn name (is_open (steps_of past))
+Answers s past (event.Closed name status) t = t ≡ closed_turn s (steps_of past) name status (is_open (steps_of past))
+Answers s past (event.Written response) t = WrittenTurn s (steps_of past) response (is_open (steps_of past)) t
+Answers s past (event.BadMessage name member) t = t ≡ bad_turn name member (is_open (steps_of past))

@@ -3,8 +3,11 @@ pub mod Concerned
 pub mod Laws
 pub mod Lines
 pub mod Past
+pub mod Sending
 pub mod Settling
 pub mod Standing
 pub mod Targets
 pub mod Telling
 pub mod Turn
+pub mod Turns
+pub mod Writing

@@ -1,7 +1,9 @@
 -- The lines that answer an event, as values.
 use Rattle.std.specs.Prelude.{ℕ, ℤ, List, Option}
+use Rattle.mutations.specs.declared.results.WriteRequest.{WriteRequest}
 use Rattle.value_model.specs.declared.document.DocState.{DocState}
 use Rattle.value_model.specs.declared.document.Document.{Document}
+use Rattle.value_model.specs.declared.document.RpcStatus.{RpcStatus}
 use Rattle.value_model.specs.declared.timestamp.Timestamp.{Timestamp}
 use Rattle.views.specs.declared.raised.Raised.{Raised}
 
@@ -11,10 +13,15 @@ pub record Told : Type 0 where
   pub raised : Raised
 
 -- The batch and the commit of a write; a listener with the id of its target, or one that ended, each with the number of commits
--- then; the document of a key as it then stands; or a snapshot, with the number of commits and the last read time then.
+-- then; the document of a key as it then stands; a batch that the backend committed at a time, or rejected with a status, and
+-- the commit by which it left; a snapshot, with the number of commits and the last read time then; or a request on the stream
+-- of writes.
 pub data Line : Type 0 where
   wrote : ℕ → ℕ → Line
   listening : ℕ → ℤ → ℕ → Line
   unlistened : ℕ → ℕ → Line
   document : List (List ℕ) → Option Document → DocState → Line
+  result : ℕ → ℕ → Timestamp → Line
+  rejected : ℕ → ℕ → RpcStatus → Line
   snapshot : ℕ → Option Timestamp → Told → Line
+  send : WriteRequest → Line

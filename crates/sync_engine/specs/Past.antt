@@ -1,4 +1,4 @@
--- What a client has heard, and what it keeps of it beside the durable state: its listeners.
+-- What a client has heard, and what it keeps of it beside the durable state: its listeners, and how the stream of writes stands.
 use Rattle.std.specs.Prelude.{ℕ, Bool, nat_eq, List, [], ◌∷◌, Option, Some, None, option_map, if◌then◌else◌}
 use Rattle.record_codec.specs.declared.commit.Commit.{Commit}
 use Rattle.local_store.specs.State.{State}
@@ -6,8 +6,10 @@ use Rattle.client_events.specs.declared.event.Event.{Event}
 use Rattle.client_events.specs.declared.event.Event.TheVariants as event
 use Rattle.views.specs.declared.raised.Raised.{Raised}
 use Rattle.views.specs.Viewed.{Viewed}
+use Rattle.mutations.specs.declared.results.WriteRequest.TheVariants.{Batch as a_batch}
+use Rattle.write_pipeline.specs.Order.{Steps, acknowledged, closed, is_ready, kept, opened, sent, shaken}
 use Rattle.sync_engine.specs.declared.refusal.Refusal.{Refusal}
-use Rattle.sync_engine.specs.Lines.{Line, Told, snapshot}
+use Rattle.sync_engine.specs.Lines.{Line, Told, send, snapshot}
 
 -- what an event came to: why it was refused, at most one commit, and the lines that answer it
 pub record Turn : Type 0 where
@@ -21,7 +23,8 @@ pub record Entry : Type 0 where
   pub event : Event
   pub turn : Turn
 
--- events that a client has heard, the newest first; those that were refused aren't among them
+-- Events that a client has heard, the newest first. Those that were refused aren't among them, but for bad messages, which close
+-- their stream.
 abbrev pub Past : Type 0
 Past = List Entry
 
@@ -48,3 +51,25 @@ told (Some raised) view = option_map (λ v. record { target = v.target; raised =
 abbrev pub listener : ℕ → Past → Option Viewed
 listener id [] = None
 listener id (entry ∷ past) = told (raised_in id entry.turn.lines) (asked id entry.event (listener id past))
+
+-- ---- the stream of writes
+
+-- what an event does on the stream of writes, before anything is sent: a message that is refused closes it
+abbrev pub steps_by : Event → Option Refusal → Steps → Steps
+steps_by (event.Opened name) refusal h = opened ∷ h
+steps_by (event.Closed name status) refusal h = closed ∷ h
+steps_by (event.BadMessage name member) refusal h = closed ∷ h
+steps_by (event.Written response) (Some refusal) h = closed ∷ h
+steps_by (event.Written response) None h = kept response.token ∷ (if is_ready h then acknowledged else shaken) ∷ h
+steps_by _ refusal h = h
+
+-- the batches that these lines send
+abbrev pub sent_in : List Line → Steps → Steps
+sent_in [] h = h
+sent_in (send (a_batch token writes) ∷ lines) h = sent_in lines (sent ∷ h)
+sent_in (_ ∷ lines) h = sent_in lines h
+
+-- what was done on the stream of writes
+abbrev pub steps_of : Past → Steps
+steps_of [] = []
+steps_of (entry ∷ past) = sent_in entry.turn.lines (steps_by entry.event entry.turn.refusal (steps_of past))

@@ -7,11 +7,14 @@ ghost use Rattle.local_store.specs.Files.{FindsState, Refuses};
 ghost use Rattle.local_store.specs.State.{State};
 ghost use Rattle.local_store.specs.Store.{IsFoundIn, IsStored};
 ghost use Rattle.sync_engine.specs.Past.{Past};
-ghost use Rattle.sync_engine.specs.Standing.{IsLive, IsSpent, StandsFor};
+ghost use Rattle.write_pipeline.specs.Order.{latest_token};
+ghost use Rattle.sync_engine.specs.Standing.{ComesAs, IsLive, IsSpent, StandsFor};
 ghost use Rattle.sync_engine.specs.Telling.{HandsOut, Lends, MovesBy};
+ghost use Rattle.sync_engine.specs.Writing.{is_stream_open};
 
 use crate::fault::ClientFault;
 use crate::out::Outcome;
+use crate::write_stream::WriteStream;
 use client_events::Event;
 use disk_journal::OpenFault;
 use document_keys::Database;
@@ -20,15 +23,17 @@ use listeners::Listeners;
 use local_store::LocalStore;
 use std::alloc::Global;
 use std::marker::Model;
+use value_model::StreamName;
 use views::Snapshot;
 
-/// A client of one database: its durable state in the files of a host, and its listeners. Contracts see what it keeps, and speak
+/// A client of one database: its durable state in the files of a host, its listeners, and the stream of writes. Contracts see what it keeps, and speak
 /// of each past that it stands for. After a fault it is spent.
 #[derive(Drop)]
 pub struct Client {
     pub(crate) root: Database,
     pub(crate) store: LocalStore,
     pub(crate) listeners: Listeners,
+    pub(crate) writes: WriteStream,
     spent: bool,
 }
 
@@ -41,13 +46,13 @@ impl Model for Client {
 
     ghost coded = { kept_code };
 
-    ghost view = { λ c. record { root = c.root; store = c.store; listeners = c.listeners; spent = c.spent } };
+    ghost view = { λ c. record { root = c.root; store = c.store; listeners = c.listeners; writes = c.writes; spent = c.spent } };
 
     ghost invariant = { λ c. c.spent ≡ false → ¬ (IsStoreSpent c.store) };
 }
 
 impl Client {
-    /// Opens the store of the host's files, with no listeners. What the store's opening promises, `LocalStore::open` says.
+    /// Opens the store of the host's files, with no listeners, and no stream open. What the store's opening promises, `LocalStore::open` says.
     ///
     /// # Errors
     /// As `LocalStore::open`.
@@ -75,6 +80,7 @@ impl Client {
             root,
             store,
             listeners: Listeners::new(alloc),
+            writes: WriteStream::new(),
             spent: false,
         })
     }
@@ -128,6 +134,24 @@ impl Client {
         ensures { result.now ≡ self.now.root }
     {
         &self.root
+    }
+
+    /// Whether the stream is open. Only that of writes is ever opened.
+    pub fn is_open(&self, stream: StreamName) -> bool
+        ensures { (s : State) (past : Past) → StandsFor self.now s past
+            → result ≡ is_stream_open stream past }
+    {
+        match stream {
+            StreamName::Watch => false,
+            StreamName::Write => self.writes.is_open,
+        }
+    }
+
+    /// The latest token of the stream of writes since it was opened, empty where there is none.
+    pub fn token(&self) -> &[u8]
+        ensures { ComesAs self.now.writes (λ h. result.now ≡ latest_token h) }
+    {
+        self.writes.pipeline.token()
     }
 
     /// The last snapshot of the listener of the id, lent; `None` exactly where there is no such listener, or it has raised none.

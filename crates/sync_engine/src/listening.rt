@@ -10,7 +10,7 @@ ghost use Rattle.local_store.specs.Store.{IsSpent as IsStoreSpent, IsStored};
 ghost use Rattle.target_codec.specs.Spelling.{IsSpelledTarget};
 ghost use Rattle.sync_engine.specs.Past.{Past};
 ghost use Rattle.sync_engine.specs.Standing.{StandsFor};
-ghost use Rattle.sync_engine.specs.Telling.{HandsOut, MovesBy, KeepsListeners};
+ghost use Rattle.sync_engine.specs.Telling.{HandsSettled, MovesBy, KeepsListeners};
 ghost use Rattle.sync_engine.specs.Targets.{GivesTarget, MovesForTarget};
 
 use crate::client::Client;
@@ -79,7 +79,7 @@ impl Client {
         requires poised { self.old.spent ≡ true }
         requires spelled { IsSpelledEvent (event.Listen id query) }
         ensures turn { IfOk result (λ outcome. (s : State) (past : Past) → StandsFor self.old s past
-            → HandsOut s past (event.Listen id query) outcome self.new) }
+            → HandsSettled s past (event.Listen id query) outcome self.new) }
         ensures whole { OnOk result (¬ (IsStoreSpent self.new.store)) }
         ensures root { (self.new.root ≡ self.old.root) × (self.new.spent ≡ self.old.spent) }
         ensures stored { IsTrue H.tells_files → IsStored self.new.store (H.view host.new) }
@@ -108,7 +108,7 @@ impl Client {
     /// The turn of a listener that ends.
     pub(crate) fn unlisten(&mut self, alloc: Global, id: u32) -> Result<Outcome, ClientFault>
         ensures turn { IfOk result (λ outcome. (s : State) (past : Past) → StandsFor self.old s past
-            → HandsOut s past (event.Unlisten id) outcome self.new) }
+            → HandsSettled s past (event.Unlisten id) outcome self.new) }
         ensures store { self.new.store ≡ self.old.store }
         ensures root { (self.new.root ≡ self.old.root) × (self.new.spent ≡ self.old.spent) }
         ensures unspent { IsErrOf result ClientFault.Spent → ⊥ }

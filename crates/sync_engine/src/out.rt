@@ -1,5 +1,6 @@
 use crate::refusal::Refusal;
 use document_keys::DocumentKey;
+use value_model::{RpcStatus, Timestamp};
 
 /// A line that answers an event.
 #[derive(Debug, Drop)]
@@ -12,8 +13,24 @@ pub enum Out {
     Unlistened { id: u32, commit: u64 },
     /// The document of this key, as it stands after the event.
     Document(DocumentKey),
+    /// The backend committed the batch at this time, and it left by this commit.
+    Result {
+        batch: u64,
+        commit: u64,
+        time: Timestamp,
+    },
+    /// The backend rejected the batch with this status, and it left by this commit.
+    Rejected {
+        batch: u64,
+        commit: u64,
+        status: RpcStatus,
+    },
     /// The listener of this id raised a snapshot, which [`crate::Client::snapshot`] lends.
     Raised(u32),
+    /// The first request on the stream of writes, which names the database.
+    SendHandshake,
+    /// A request with the writes of the pending batch at this place, from 0, and [`crate::Client::token`].
+    SendBatch(u64),
 }
 
 /// What an event came to.
@@ -21,6 +38,6 @@ pub enum Out {
 pub enum Outcome {
     /// These lines answer it.
     Done(Vec<Out>),
-    /// It was refused, and changed nothing.
+    /// It was refused, and changed nothing, but that a bad message closes its stream.
     Refused(Refusal),
 }

@@ -11,7 +11,7 @@ ghost use Rattle.local_store.specs.Store.{IsSpent as IsStoreSpent, IsStored};
 ghost use Rattle.record_codec.specs.Spelling.{HasSpelling};
 ghost use Rattle.sync_engine.specs.Past.{Past};
 ghost use Rattle.sync_engine.specs.Standing.{StandsFor};
-ghost use Rattle.sync_engine.specs.Telling.{HandsOut, MovesBy, KeepsListeners};
+ghost use Rattle.sync_engine.specs.Telling.{HandsOut, HandsSettled, KeepsListeners, MovesBy};
 
 use crate::client::Client;
 use crate::fault::ClientFault;
@@ -62,7 +62,7 @@ impl Client {
     /// The turn of a get.
     fn get(&mut self, alloc: Global, key: DocumentKey) -> Result<Outcome, ClientFault>
         ensures turn { IfOk result (λ outcome. (s : State) (past : Past) → StandsFor self.old s past
-            → HandsOut s past (event.Get key) outcome self.new) }
+            → HandsSettled s past (event.Get key) outcome self.new) }
         ensures same { self.new ≡ self.old }
         ensures unspent { IsErrOf result ClientFault.Spent → ⊥ }
         ensures memory { IsErrOf result ClientFault.DiskFault → ⊥ }
@@ -85,7 +85,7 @@ impl Client {
         requires poised { self.old.spent ≡ true }
         requires spelled { IsSpelledEvent (event.Write at writes) }
         ensures turn { IfOk result (λ outcome. (s : State) (past : Past) → StandsFor self.old s past
-            → HandsOut s past (event.Write at writes) outcome self.new) }
+            → HandsSettled s past (event.Write at writes) outcome self.new) }
         ensures whole { OnOk result (¬ (IsStoreSpent self.new.store)) }
         ensures root { (self.new.root ≡ self.old.root) × (self.new.spent ≡ self.old.spent) }
         ensures stored { IsTrue H.tells_files → IsStored self.new.store (H.view host.new) }
@@ -108,6 +108,41 @@ impl Client {
         self.commit(alloc, host, Commit::Enqueue(Batch { id, at, writes }))?;
         self.settle(alloc, ids.as_slice(), &mut outs)?;
         Ok(Outcome::Done(outs))
+    }
+
+    /// The turn of an event, but for the batches that go out.
+    fn answer<H: Host>(
+        &mut self,
+        alloc: Global,
+        host: &mut H,
+        event: Event,
+    ) -> Result<Outcome, ClientFault>
+        requires stored { IsTrue H.tells_files → IsStored self.old.store (H.view host.old) }
+        requires whole { ¬ (IsStoreSpent self.old.store) }
+        requires poised { self.old.spent ≡ true }
+        requires spelled { IsSpelledEvent event }
+        ensures turn { IfOk result (λ outcome. (s : State) (past : Past) → StandsFor self.old s past
+            → HandsSettled s past event outcome self.new) }
+        ensures whole { OnOk result (¬ (IsStoreSpent self.new.store)) }
+        ensures root { (self.new.root ≡ self.old.root) × (self.new.spent ≡ self.old.spent) }
+        ensures stored { IsTrue H.tells_files → IsStored self.new.store (H.view host.new) }
+        ensures files { IsTrue H.tells_files → (s : State) (past : Past) → StandsFor self.old s past
+            → MovesBy s past event (H.view host.old) (H.view host.new) }
+        ensures out { KeepsOut (H.view host.old) (H.view host.new) }
+        ensures unspent { IsErrOf result ClientFault.Spent → ⊥ }
+        ensures counts { RisesAt (IsErrOf result ClientFault.DiskFault)
+            (H.view host.old).disk_faults (H.view host.new).disk_faults }
+    {
+        match event {
+            Event::Write { at, writes } => self.write(alloc, host, at, writes),
+            Event::Get(key) => self.get(alloc, key),
+            Event::Listen { id, query } => self.listen(alloc, host, id, query),
+            Event::Unlisten(id) => self.unlisten(alloc, id),
+            Event::Opened(name) => self.open_stream(alloc, name),
+            Event::Closed(name, status) => self.close_stream(alloc, host, name, status),
+            Event::Written(response) => self.written(alloc, host, response),
+            Event::BadMessage(name, member) => Ok(self.bad_message(name, member)),
+        }
     }
 
     /// The turn of an event.
@@ -133,11 +168,13 @@ impl Client {
         ensures counts { RisesAt (IsErrOf result ClientFault.DiskFault)
             (H.view host.old).disk_faults (H.view host.new).disk_faults }
     {
-        match event {
-            Event::Write { at, writes } => self.write(alloc, host, at, writes),
-            Event::Get(key) => self.get(alloc, key),
-            Event::Listen { id, query } => self.listen(alloc, host, id, query),
-            Event::Unlisten(id) => self.unlisten(alloc, id),
+        match self.answer(alloc, host, event)? {
+            Outcome::Refused(refusal) => Ok(Outcome::Refused(refusal)),
+            Outcome::Done(outs) => {
+                let mut outs = outs;
+                self.send(alloc, &mut outs)?;
+                Ok(Outcome::Done(outs))
+            }
         }
     }
 }

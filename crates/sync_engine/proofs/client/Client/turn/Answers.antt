@@ -2,7 +2,8 @@ use Rattle.std.proofs.Common.{[], ◌∷◌, refl}
 use Rattle.client_events.specs.declared.event.Event.TheVariants as event
 use Rattle.local_store.specs.Documents.{document_of, standing_of}
 use Rattle.local_store.specs.State.{State}
-use Rattle.sync_engine.specs.Answers.{answered, ends}
+use Rattle.sync_engine.specs.Answers.{ends}
+use Rattle.sync_engine.specs.Turns.{answered}
 use Rattle.sync_engine.specs.Lines.{document}
 use Rattle.sync_engine.specs.Past.{listener}
 use Rattle.sync_engine.specs.Telling.{MovesBy}

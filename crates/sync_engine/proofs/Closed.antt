@@ -1,0 +1,231 @@
+-- what is handed out for what comes on the stream of writes
+use Rattle.std.proofs.Common.{◌≡◌, ◌⊎◌, ⊎_elim, inl, inr, ℕ, ◌+◌, ◌≤◌, ◌<◌, Bool, true, false, nat_lt, List, [], ◌∷◌, ◌++◌, map as each, length, Option, Some, None, if◌then◌else◌, IfSome, Vec, Global, refl, sym, ap, subst, ◌∙◌, append-nil, arith}
+use Rattle.std.proofs.lemmas.Bool.{lt-ltb, le-ltb}
+use Rattle.std.proofs.lemmas.Option.{none-some}
+use Rattle.std.specs.List.{AllZip, Contains, slice_get}
+use Rattle.document_keys.specs.Names.{Root}
+use Rattle.client_events.specs.declared.event.Event.{Event}
+use Rattle.client_events.specs.declared.event.Event.TheVariants as event
+use Rattle.durable_state.specs.Cached.{first_writes}
+use Rattle.host_api.specs.Host.{View}
+use Rattle.listeners.specs.Table.{Table, viewed}
+use Rattle.local_store.specs.Files.{Moves}
+use Rattle.local_store.specs.State.{State, committed, most_commits}
+use Rattle.local_store.specs.Store.{Store}
+use Rattle.mutation_queue.specs.Queue.{written_key}
+use Rattle.mutations.specs.declared.batch.Batch.{Batch}
+use Rattle.mutations.specs.declared.results.WriteRequest.TheVariants.{Handshake as the_first}
+use Rattle.mutations.specs.declared.results.WriteResponse.{WriteResponse}
+use Rattle.mutations.specs.declared.results.WriteResult.{WriteResult}
+use Rattle.mutations.specs.declared.write.Write.{Write}
+use Rattle.record_codec.specs.declared.commit.Commit.{Commit}
+use Rattle.record_codec.specs.declared.commit.Commit.TheVariants.{Acknowledge, Reject}
+use Rattle.value_model.specs.declared.document.RpcStatus.{RpcStatus}
+use Rattle.value_model.specs.declared.message.StreamName.{StreamName}
+use Rattle.value_model.specs.declared.message.StreamName.TheVariants as stream
+use Rattle.value_model.specs.declared.timestamp.Timestamp.{Timestamp}
+use Rattle.views.specs.Viewed.{Viewed}
+use Rattle.write_pipeline.specs.Order.{Steps, acknowledged, closed, is_ready, kept, opened, outstanding, shaken}
+use Rattle.write_pipeline.specs.Standing.{Fails, Fits, closing_of}
+use Rattle.write_pipeline.specs.declared.answer.Answer.TheVariants.{Handshake, Acknowledges}
+use Rattle.write_pipeline.specs.declared.answer.Closing.{Closing}
+use Rattle.write_pipeline.specs.declared.answer.Closing.TheVariants.{Kept as KeepsAll, Rejects}
+use Rattle.write_pipeline.specs.declared.answer.WriteMember.{WriteMember}
+use Rattle.sync_engine.specs.Answers.{Answers}
+use Rattle.sync_engine.specs.Concerned.{AreConcerned}
+use Rattle.sync_engine.specs.Lines.{Line, rejected, result, send}
+use Rattle.sync_engine.specs.Past.{Entry, Past, Turn, asked, listener, raised_in, sent_in, steps_by, steps_of}
+use Rattle.sync_engine.specs.Standing.{Kept, IsQuiet, GoesOn, StandsFor, StandsOn}
+use Rattle.sync_engine.specs.Telling.{HandsSettled, IsQuietOrAmong, IsShown, KeepsRest, MovesBy, Raises}
+use Rattle.sync_engine.specs.Turn.{is_heard, with_snapshots}
+use Rattle.sync_engine.specs.Turns.{after, answered, commits, refused}
+use Rattle.sync_engine.specs.Writing.{IsWritten, WrittenTurn, acknowledges, bad_turn, closed_turn, closes, fails, first_batch, is_open, member_name, opened_turn, rejects, settles, shakes}
+use Rattle.sync_engine.specs.declared.out.Out.{Out}
+use Rattle.sync_engine.specs.declared.out.Out.TheVariants.{Rejected, Result, SendHandshake}
+use Rattle.sync_engine.specs.declared.out.Outcome.TheVariants.{Done, Refused}
+use Rattle.sync_engine.specs.declared.refusal.Refusal.{Refusal}
+use Rattle.sync_engine.specs.declared.refusal.Refusal.TheVariants.{BadMessage, IdsSpent, StreamState}
+use Rattle.sync_engine.specs.declared.write_stream.WriteStream.{WriteStream}
+use Rattle.sync_engine.proofs.Handing.{hands_settled}
+use Rattle.sync_engine.proofs.Quiet.{quiet_acknowledged, quiet_rejected, settles_none}
+use Rattle.sync_engine.proofs.Steps.{few_by}
+use Rattle.sync_engine.proofs.Turning.{among_or_not, moves_none, quiet_at, stays_on}
+
+-- ---- nothing but the stream changes
+
+-- the client keeps all but its stream of writes
+pub record KeepsButStream (old new : Kept) : Type 0 where
+  pub root : new.root ≡ old.root
+  pub store : new.store ≡ old.store
+  pub listeners : new.listeners ≡ old.listeners
+
+-- an event that is no listener's
+abbrev IsOfStream : Event → Type 0
+IsOfStream e = (id : ℕ) (v : Option Viewed) → asked id e v ≡ v
+
+module _ (old new : Kept) (s : State) (past : Past) (e : Event) (turn : Turn) (stands : StandsFor old s past) (kept : KeepsButStream old new)
+    (plain : IsOfStream e) (unsaid : (id : ℕ) → raised_in id turn.lines ≡ None) (unsent : (h : Steps) → sent_in turn.lines h ≡ h) (unmade : turn.commit ≡ None)
+    (writes : StandsOn new.writes (steps_by e turn.refusal (steps_of past))) (answers : Answers s past e turn) where
+  entry : Entry
+  entry = record { state = s; event = e; turn = turn }
+
+  listeners : (id : ℕ) → viewed new.listeners id ≡ listener id (entry ∷ past)
+  listeners id =
+      ap (λ (t : Table). viewed t id) kept.listeners ∙ stands.listeners id ∙ sym (plain id (listener id past))
+      ∙ ap (λ r. Rattle.sync_engine.specs.Past.told r (asked id e (listener id past))) (sym (unsaid id))
+
+  pub stands_then : StandsFor new s (entry ∷ past)
+  stands_then = record {
+    state = ap (λ (x : Store). x.state) kept.store ∙ stands.state;
+    listeners = listeners;
+    quiet = λ id.
+        subst (λ (v : Option Viewed). IfSome v (IsQuiet new.root s)) (sym (stands.listeners id) ∙ sym (ap (λ (t : Table). viewed t id) kept.listeners) ∙ listeners id)
+        (subst (λ (r : Root). IfSome (listener id past) (IsQuiet r s)) (sym kept.root) (stands.quiet id));
+    writes = subst (StandsOn new.writes) (sym (unsent (steps_by e turn.refusal (steps_of past)))) writes;
+    pending = subst (λ (h : Steps). outstanding h ≤ length s.batches) (sym (unsent (steps_by e turn.refusal (steps_of past))))
+        (subst (λ (c : Option Commit). outstanding (steps_by e turn.refusal (steps_of past)) ≤ length (after s c).batches) unmade (few_by s past e turn answers stands.pending));
+  }
+
+-- lines alone answer the event
+pub hands_plain : {old new : Kept} {s : State} {past : Past} {vec : Vec Out Global} (e : Event) (lines : List Line) → StandsFor old s past → KeepsButStream old new → IsOfStream e → ((id : ℕ) → raised_in id lines ≡ None) → ((h : Steps) → sent_in lines h ≡ h)
+    → StandsOn new.writes (steps_by e None (steps_of past)) → Answers s past e (answered lines) → AllZip (IsShown new) vec.items lines → HandsSettled s past e (Done vec) new
+hands_plain {old} {new} {s} {past} {vec} e lines stands kept plain unsaid unsent writes answers shown =
+    let same : lines ++ [] ≡ lines = append-nil lines in
+    let then_it = stands_then old new s past e (answered lines) stands kept plain unsaid unsent refl writes answers in
+    record {
+      turn = with_snapshots s (answered lines) [];
+      is_settled = record {
+        answer = answered lines;
+        answers = answers;
+        settles = record {
+          told = [];
+          settles = settles_none new.root s (λ id. asked id e (listener id past)) (λ id. subst (λ (v : Option Viewed). IfSome v (IsQuiet new.root s)) (sym (plain id (listener id past))) (subst (λ (r : Root). IfSome (listener id past) (IsQuiet r s)) (sym kept.root) (stands.quiet id)));
+          is = refl;
+        };
+      };
+      stands = subst (λ (ls : List Line). StandsFor new s (record { state = s; event = e; turn = answered ls } ∷ past)) (sym same) then_it;
+      outcome = (refl, subst (AllZip (IsShown new) vec.items) (sym same) shown);
+    }
+
+-- a bad message closes the stream
+pub hands_closed : {old new : Kept} {s : State} {past : Past} (e : Event) (refusal : Refusal) → is_heard (Some refusal) ≡ true → StandsFor old s past → KeepsButStream old new → IsOfStream e
+    → StandsOn new.writes (steps_by e (Some refusal) (steps_of past)) → Answers s past e (refused refusal) → HandsSettled s past e (Refused refusal) new
+hands_closed {old} {new} {s} {past} e refusal heard stands kept plain writes answers =
+    let entry : Entry = record { state = s; event = e; turn = refused refusal } in
+    record {
+      turn = refused refusal;
+      is_settled = record { answer = refused refusal; answers = answers; settles = refl };
+      stands = subst (λ (b : Bool). StandsFor new s (if b then entry ∷ past else past)) (sym heard) (stands_then old new s past e (refused refusal) stands kept plain (λ id. refl) (λ h. refl) refl writes answers);
+      outcome = (refl, refl);
+    }
+
+-- ---- what the events come to
+
+module _ {client : Kept} {s : State} {past : Past} (stands : StandsFor client s past) where
+  open_is : (b : Bool) → client.writes.is_open ≡ b → is_open (steps_of past) ≡ b
+  open_is b is = sym stands.writes.open ∙ is
+
+  pub opened_twice : (name : StreamName) → client.writes.is_open ≡ true → Answers s past (event.Opened name) (refused (StreamState name true))
+  opened_twice name is = sym (ap (opened_turn name) (open_is true is))
+
+  pub opened_now : (name : StreamName) → client.writes.is_open ≡ false → Answers s past (event.Opened name) (answered (send the_first ∷ []))
+  opened_now name is = sym (ap (opened_turn name) (open_is false is))
+
+  pub bad_unopened : (name : StreamName) (member : List ℕ) → client.writes.is_open ≡ false → Answers s past (event.BadMessage name member) (refused (StreamState name false))
+  bad_unopened name member is = sym (ap (bad_turn name member) (open_is false is))
+
+  pub bad_now : (name : StreamName) (member : List ℕ) → client.writes.is_open ≡ true → Answers s past (event.BadMessage name member) (refused (BadMessage name member))
+  bad_now name member is = sym (ap (bad_turn name member) (open_is true is))
+
+  pub closed_unopened : (name : StreamName) (status : RpcStatus) → client.writes.is_open ≡ false → Answers s past (event.Closed name status) (refused (StreamState name false))
+  closed_unopened name status is = sym (ap (closed_turn s (steps_of past) name status) (open_is false is))
+
+  closed_as : (name : StreamName) (status : RpcStatus) (closing : Closing) → client.writes.is_open ≡ true → closing_of (steps_of past) status.code ≡ closing → closes s status closing ≡ closed_turn s (steps_of past) name status (is_open (steps_of past))
+  closed_as name status closing is as = ap (closes s status) (sym as) ∙ sym (ap (closed_turn s (steps_of past) name status) (open_is true is))
+
+  pub closed_kept : (name : StreamName) (status : RpcStatus) → client.writes.is_open ≡ true → closing_of (steps_of past) status.code ≡ KeepsAll → Answers s past (event.Closed name status) (answered [])
+  closed_kept name status is as = closed_as name status KeepsAll is as
+
+  pub closed_rejects : (name : StreamName) (status : RpcStatus) → client.writes.is_open ≡ true → closing_of (steps_of past) status.code ≡ Rejects → Answers s past (event.Closed name status) (rejects s (first_batch s) status)
+  closed_rejects name status is as = closed_as name status Rejects is as
+
+  pub written_unopened : (response : WriteResponse) → client.writes.is_open ≡ false → Answers s past (event.Written response) (refused (StreamState stream.Write false))
+  written_unopened response is = subst (λ (b : Bool). WrittenTurn s (steps_of past) response b (refused (StreamState stream.Write false))) (sym (open_is false is)) refl
+
+  pub written_as : (response : WriteResponse) (t : Turn) → client.writes.is_open ≡ true → IsWritten s (steps_of past) response t → Answers s past (event.Written response) t
+  written_as response t is it = subst (λ (b : Bool). WrittenTurn s (steps_of past) response b t) (sym (open_is true is)) it
+
+-- ---- the first batch leaves
+
+first_is : (bs : List Batch) (batch : Batch) → slice_get bs 0 ≡ Some batch → first_writes bs ≡ batch.writes
+first_is [] batch is = absurd (none-some batch is)
+first_is (b ∷ bs) batch is = ap (λ (x : Batch). x.writes) (some_one b batch is)
+  where
+    some_one : (x y : Batch) → Some x ≡ Some y → x ≡ y
+    some_one x y same = cc
+
+-- the listeners that no write of it concerns stay quiet
+quiet_or_first : {old : Kept} (mid : Kept) {past : Past} (batch : Batch) (ids : List ℕ) (commit : Commit) → StandsFor old old.store.state past → AreConcerned old.listeners batch.writes ids → first_batch old.store.state ≡ Some batch → mid.root ≡ old.root → mid.listeners ≡ old.listeners
+    → mid.store.state ≡ committed old.store.state commit
+    → ((view : Viewed) → ((write : Write) → Contains (first_writes old.store.state.batches) write → Rattle.listeners.specs.Concerns.Concerns view.target (written_key write) → ⊥) → IsQuiet old.root old.store.state view → IsQuiet old.root (committed old.store.state commit) view)
+    → IsQuietOrAmong ids mid
+quiet_or_first {old} mid batch ids commit stands concerned first root listeners state stays id view there = ⊎_elim inl (λ never. inr (quiet never)) (among_or_not ids id)
+  where
+    was : viewed old.listeners id ≡ Some view
+    was = ap (λ (t : Table). viewed t id) (sym listeners) ∙ there
+
+    writes : first_writes old.store.state.batches ≡ batch.writes
+    writes = first_is old.store.state.batches batch first
+
+    quiet : (Contains ids id → ⊥) → IsQuiet mid.root mid.store.state view
+    quiet never =
+        subst (λ (r : Root). IsQuiet r mid.store.state view) (sym root)
+        (subst (λ (t : State). IsQuiet old.root t view) (sym state)
+        (stays view
+        (λ write one concerns. never (concerned.each id (record { write = write; one = subst (λ (ws : List Write). Contains ws write) writes one; concerned = record { view = view; there = was; concerns = concerns } })))
+        (quiet_at id view stands was)))
+
+pub rejects_is : (s : State) (batch : Batch) (status : RpcStatus) → s.number < most_commits → first_batch s ≡ Some batch → rejects s (first_batch s) status ≡ commits (Reject batch.id) (rejected batch.id (s.number + 1) status ∷ [])
+rejects_is s batch status few first = ap (λ (b : Option Batch). rejects s b status) first ∙ ap (λ b. if b then commits (Reject batch.id) (rejected batch.id (s.number + 1) status ∷ []) else refused IdsSpent) (lt-ltb s.number most_commits few)
+
+pub rejects_not : (s : State) (batch : Batch) (status : RpcStatus) → most_commits ≤ s.number → first_batch s ≡ Some batch → rejects s (first_batch s) status ≡ refused IdsSpent
+rejects_not s batch status many first = ap (λ (b : Option Batch). rejects s b status) first ∙ ap (λ b. if b then commits (Reject batch.id) (rejected batch.id (s.number + 1) status ∷ []) else refused IdsSpent) (le-ltb s.number most_commits many)
+
+pub rejects_none : (s : State) (status : RpcStatus) → first_batch s ≡ None → rejects s (first_batch s) status ≡ answered []
+rejects_none s status none = ap (λ (b : Option Batch). rejects s b status) none
+
+pub settles_is : (s : State) (batch : ℕ) (time : Timestamp) (results : List WriteResult) → s.number < most_commits → settles s batch time results ≡ commits (Acknowledge batch time results) (result batch (s.number + 1) time ∷ [])
+settles_is s batch time results few = ap (λ b. if b then commits (Acknowledge batch time results) (result batch (s.number + 1) time ∷ []) else refused IdsSpent) (lt-ltb s.number most_commits few)
+
+pub settles_not : (s : State) (batch : ℕ) (time : Timestamp) (results : List WriteResult) → most_commits ≤ s.number → settles s batch time results ≡ refused IdsSpent
+settles_not s batch time results many = ap (λ b. if b then commits (Acknowledge batch time results) (result batch (s.number + 1) time ∷ []) else refused IdsSpent) (le-ltb s.number most_commits many)
+
+-- a batch is rejected
+pub hands_rejected : {old new : Kept} (mid : Kept) {past : Past} {before : List Out} {vec : Vec Out Global} (batch : Batch) (name : StreamName) (status : RpcStatus) (ids : List ℕ) → StandsFor old old.store.state past → AreConcerned old.listeners batch.writes ids
+    → old.store.state.number < most_commits → first_batch old.store.state ≡ Some batch → old.writes.is_open ≡ true → closing_of (steps_of past) status.code ≡ Rejects
+    → mid.root ≡ old.root → mid.listeners ≡ old.listeners → GoesOn old.writes mid.writes (λ h. closed ∷ h) → mid.store.state ≡ committed old.store.state (Reject batch.id)
+    → KeepsRest mid new → (IsQuietOrAmong ids mid → Raises mid new before vec.items) → before ≡ Rejected batch.id (old.store.state.number + 1) status ∷ []
+    → HandsSettled old.store.state past (event.Closed name status) (Done vec) new
+hands_rejected {old} {new} mid {past} {before} {vec} batch name status ids stands concerned few first open as root listeners goes state rest raises begins =
+    hands_settled old.store.state past (event.Closed name status) (commits (Reject batch.id) (rejected batch.id (old.store.state.number + 1) status ∷ [])) mid new before vec
+    (sym (rejects_is old.store.state batch status few first) ∙ closed_rejects stands name status open as) state
+    (λ id. ap (λ (t : Table). viewed t id) listeners ∙ stands.listeners id) rest
+    (raises (quiet_or_first mid batch ids (Reject batch.id) stands concerned first root listeners state (λ view never quiet. quiet_rejected old.root old.store.state batch.id view never quiet)))
+    (goes (steps_of past) stands.writes) stands.pending
+    refl (λ id. refl) (λ h. refl)
+    (subst (λ (os : List Out). AllZip (IsShown new) os (rejected batch.id (old.store.state.number + 1) status ∷ [])) (sym begins) (refl, tt))
+
+-- a batch is acknowledged
+pub hands_acknowledged : {old new : Kept} (mid : Kept) {past : Past} {before : List Out} {vec : Vec Out Global} (batch : Batch) (time : Timestamp) (response : WriteResponse) (ids : List ℕ) → StandsFor old old.store.state past → AreConcerned old.listeners batch.writes ids
+    → old.store.state.number < most_commits → first_batch old.store.state ≡ Some batch → response.commit_time ≡ Some time → old.writes.is_open ≡ true → Fits (steps_of past) (first_batch old.store.state) response Acknowledges
+    → mid.root ≡ old.root → mid.listeners ≡ old.listeners → GoesOn old.writes mid.writes (λ h. kept response.token ∷ acknowledged ∷ h) → mid.store.state ≡ committed old.store.state (Acknowledge batch.id time response.results)
+    → KeepsRest mid new → (IsQuietOrAmong ids mid → Raises mid new before vec.items) → before ≡ Result batch.id (old.store.state.number + 1) time ∷ []
+    → HandsSettled old.store.state past (event.Written response) (Done vec) new
+hands_acknowledged {old} {new} mid {past} {before} {vec} batch time response ids stands concerned few first at open fits root listeners goes state rest raises begins =
+    hands_settled old.store.state past (event.Written response) (commits (Acknowledge batch.id time response.results) (result batch.id (old.store.state.number + 1) time ∷ [])) mid new before vec
+    (written_as stands response _ open (acknowledges batch time first at fits (sym (settles_is old.store.state batch.id time response.results few)))) state
+    (λ id. ap (λ (t : Table). viewed t id) listeners ∙ stands.listeners id) rest
+    (raises (quiet_or_first mid batch ids (Acknowledge batch.id time response.results) stands concerned first root listeners state (λ view never quiet. quiet_acknowledged old.root old.store.state batch.id time response.results view never quiet)))
+    (subst (λ (b : Bool). StandsOn mid.writes (kept response.token ∷ (if b then acknowledged else shaken) ∷ steps_of past)) (sym fits.0) (goes (steps_of past) stands.writes)) stands.pending
+    refl (λ id. refl) (λ h. refl)
+    (subst (λ (os : List Out). AllZip (IsShown new) os (result batch.id (old.store.state.number + 1) time ∷ [])) (sym begins) (refl, tt))

@@ -1,0 +1,241 @@
+-- batches that go out
+use Rattle.std.proofs.Common.{◌≡◌, ◌⊎◌, ⊎_elim, inl, inr, ℕ, ◌+◌, ◌-◌, ◌≤◌, ◌<◌, suc, zero, Bool, true, false, ◌&&◌, nat_lt, List, [], ◌∷◌, ◌++◌, map as each, length, drop, take, Option, Some, None, if◌then◌else◌, Vec, Global, refl, sym, ap, subst, ◌∙◌, append-nil, arith}
+use Rattle.std.proofs.lemmas.Bool.{lt-ltb, le-ltb, ltb-true, ltb-false, true≢false}
+use Rattle.std.proofs.lemmas.List.{append_assoc, length-drop, length-take-le, take_all}
+use Rattle.std.proofs.lemmas.Option.{none-some}
+use Rattle.std.specs.List.{AllZip, slice_get}
+use Rattle.mutations.specs.declared.batch.Batch.{Batch}
+use Rattle.write_pipeline.specs.Order.{Steps, is_ready, latest_token, may_send, next_place, outstanding, sent}
+use Rattle.write_pipeline.specs.Standing.{StandsFor as PipelineStandsFor}
+use Rattle.sync_engine.specs.Lines.{Line}
+use Rattle.sync_engine.specs.Past.{sent_in}
+use Rattle.sync_engine.specs.Sending.{KeepsButPipeline, Sends, from_place, sent_times}
+use Rattle.sync_engine.specs.Standing.{ComesAs, Kept}
+use Rattle.sync_engine.specs.Telling.{IsShown}
+use Rattle.sync_engine.specs.Writing.{is_open, request_of, to_send}
+use Rattle.sync_engine.specs.declared.out.Out.{Out}
+use Rattle.sync_engine.specs.declared.out.Out.TheVariants.{SendBatch}
+
+-- ---- what stays where batches are sent
+
+pub sent_ready : (n : ℕ) (h : Steps) → is_ready (sent_times n h) ≡ is_ready h
+sent_ready zero h = refl
+sent_ready (suc n) h = sent_ready n h
+
+pub sent_open : (n : ℕ) (h : Steps) → is_open (sent_times n h) ≡ is_open h
+sent_open zero h = refl
+sent_open (suc n) h = sent_open n h
+
+pub sent_token : (n : ℕ) (h : Steps) → latest_token (sent_times n h) ≡ latest_token h
+sent_token zero h = refl
+sent_token (suc n) h = sent_token n h
+
+pub sent_count : (n : ℕ) (h : Steps) → outstanding (sent_times n h) ≡ outstanding h + n
+sent_count zero h = omega arith
+sent_count (suc n) h = let less = sent_count n h in omega (arith, less)
+
+-- ---- how many are sent
+
+-- the batches that may be outstanding are 10, or all
+take_ten : (bs : List Batch) → (10 ≤ length bs) × (length (take 10 bs) ≡ 10) ⊎ (length bs ≤ 10) × (length (take 10 bs) ≡ length bs)
+take_ten bs = by (nat_lt (length bs) 10) refl
+  where
+    by : (b : Bool) → nat_lt (length bs) 10 ≡ b → (10 ≤ length bs) × (length (take 10 bs) ≡ 10) ⊎ (length bs ≤ 10) × (length (take 10 bs) ≡ length bs)
+    by true less = let few = ltb-true (length bs) 10 less in let low : length bs ≤ 10 = omega (arith, few) in inr (low, ap (λ (l : List Batch). length l) (take_all 10 bs low))
+    by false more = let many = ltb-false (length bs) 10 more in inl (many, length-take-le 10 bs many)
+
+counted : (h : Steps) (bs : List Batch) → is_ready h ≡ true → length (to_send h bs) ≡ length (take 10 bs) - outstanding h
+counted h bs ready = ap (λ b. length (if b then drop (outstanding h) (take 10 bs) else [])) ready ∙ length-drop (outstanding h) (take 10 bs)
+
+uncounted : (h : Steps) (bs : List Batch) → is_ready h ≡ false → length (to_send h bs) ≡ 0
+uncounted h bs not = ap (λ b. length (if b then drop (outstanding h) (take 10 bs) else [])) not
+
+record Next (h : Steps) (pending place : ℕ) : Type 0 where
+  ready : is_ready h ≡ true
+  few : outstanding h < 10
+  more : outstanding h < pending
+  is : place ≡ outstanding h
+
+next_is : (h : Steps) (pending place : ℕ) → next_place h pending ≡ Some place → Next h pending place
+next_is h pending place is = go (is_ready h) refl (nat_lt (outstanding h) 10) refl (nat_lt (outstanding h) pending) refl is
+  where
+    go : (a : Bool) → is_ready h ≡ a → (b : Bool) → nat_lt (outstanding h) 10 ≡ b → (c : Bool) → nat_lt (outstanding h) pending ≡ c → (if (a && b) && c then Some (outstanding h) else None) ≡ Some place → Next h pending place
+    go true ready true few true more same = record { ready = ready; few = ltb-true (outstanding h) 10 few; more = ltb-true (outstanding h) pending more; is = cc }
+    go true ready true few false more same = absurd (none-some place same)
+    go true ready false few c more same = absurd (none-some place same)
+    go false ready b few c more same = absurd (none-some place same)
+
+record Over (h : Steps) (pending : ℕ) : Type 0 where
+  over : (is_ready h ≡ false) ⊎ ((10 ≤ outstanding h) ⊎ (pending ≤ outstanding h))
+
+next_not : (h : Steps) (pending : ℕ) → next_place h pending ≡ None → Over h pending
+next_not h pending is = go (is_ready h) refl (nat_lt (outstanding h) 10) refl (nat_lt (outstanding h) pending) refl is
+  where
+    go : (a : Bool) → is_ready h ≡ a → (b : Bool) → nat_lt (outstanding h) 10 ≡ b → (c : Bool) → nat_lt (outstanding h) pending ≡ c → (if (a && b) && c then Some (outstanding h) else None) ≡ None → Over h pending
+    go true ready true few true more same = absurd (none-some (outstanding h) (sym same))
+    go true ready true few false more same = record { over = inr (inr (ltb-false (outstanding h) pending more)) }
+    go true ready false few c more same = record { over = inr (inl (ltb-false (outstanding h) 10 few)) }
+    go false ready b few c more same = record { over = inl ready }
+
+pub may_from : (h : Steps) (pending place : ℕ) → next_place h pending ≡ Some place → may_send h ≡ true
+may_from h pending place is = let next = next_is h pending place is in ap (λ b. b && nat_lt (outstanding h) 10) next.ready ∙ lt-ltb (outstanding h) 10 next.few
+
+-- one more is sent
+more_to_send : (h : Steps) (bs : List Batch) (i place : ℕ) → next_place (sent_times i h) (length bs) ≡ Some place → i + 1 ≤ length (to_send h bs)
+more_to_send h bs i place is =
+    let next = next_is (sent_times i h) (length bs) place is in
+    let count = sent_count i h in
+    let all = counted h bs (sym (sent_ready i h) ∙ next.ready) in
+    let few = next.few in
+    let more = next.more in
+    ⊎_elim (λ ten. let t = ten.1 in omega (arith, t, count, all, few, more)) (λ whole. let t = whole.1 in omega (arith, t, count, all, few, more)) (take_ten bs)
+
+place_is : (h : Steps) (bs : List Batch) (i place : ℕ) → next_place (sent_times i h) (length bs) ≡ Some place → place ≡ outstanding h + i
+place_is h bs i place is = (next_is (sent_times i h) (length bs) place is).is ∙ sent_count i h
+
+all_sent : (h : Steps) (bs : List Batch) (i : ℕ) → next_place (sent_times i h) (length bs) ≡ None → i ≤ length (to_send h bs) → i ≡ length (to_send h bs)
+all_sent h bs i is some =
+    ⊎_elim
+    (λ not. let none = uncounted h bs (sym (sent_ready i h) ∙ not) in omega (arith, none, some))
+    (λ full. by (is_ready h) refl full)
+    (next_not (sent_times i h) (length bs) is).over
+  where
+    count : outstanding (sent_times i h) ≡ outstanding h + i
+    count = sent_count i h
+
+    by : (b : Bool) → is_ready h ≡ b → (10 ≤ outstanding (sent_times i h)) ⊎ (length bs ≤ outstanding (sent_times i h)) → i ≡ length (to_send h bs)
+    by false not full = let none = uncounted h bs not in omega (arith, none, some)
+    by true ready full =
+        let all = counted h bs ready in
+        ⊎_elim
+        (λ ten. let t = ten.1 in let l = ten.0 in ⊎_elim (λ a. omega (arith, a, t, l, all, count, some)) (λ a. omega (arith, a, t, l, all, count, some)) full)
+        (λ whole. let t = whole.1 in let l = whole.0 in ⊎_elim (λ a. omega (arith, a, t, l, all, count, some)) (λ a. omega (arith, a, t, l, all, count, some)) full)
+        (take_ten bs)
+
+ten_sent : (h : Steps) (bs : List Batch) (i : ℕ) → i ≡ 10 → i ≤ length (to_send h bs) → i ≡ length (to_send h bs)
+ten_sent h bs i ten some = by (is_ready h) refl
+  where
+    by : (b : Bool) → is_ready h ≡ b → i ≡ length (to_send h bs)
+    by false not = let none = uncounted h bs not in omega (arith, none, some)
+    by true ready =
+        let all = counted h bs ready in
+        ⊎_elim (λ t. let l = t.1 in omega (arith, ten, some, all, l)) (λ t. let l = t.1 in let u = t.0 in omega (arith, ten, some, all, l, u)) (take_ten bs)
+
+-- what is outstanding behind them is pending
+pub within : (h : Steps) (bs : List Batch) (count : ℕ) → count ≡ length (to_send h bs) → outstanding h ≤ length bs → outstanding (sent_times count h) ≤ length bs
+within h bs count all pending = let more = sent_count count h in by (is_ready h) refl more
+  where
+    by : (b : Bool) → is_ready h ≡ b → outstanding (sent_times count h) ≡ outstanding h + count → outstanding (sent_times count h) ≤ length bs
+    by false not more = let none = uncounted h bs not in omega (arith, none, all, pending, more)
+    by true ready more =
+        let so = counted h bs ready in
+        ⊎_elim (λ t. let l = t.1 in let u = t.0 in omega (arith, so, all, pending, more, l, u)) (λ t. let l = t.1 in omega (arith, so, all, pending, more, l)) (take_ten bs)
+
+-- ---- the places of those that are sent
+
+pub from_more : (place n : ℕ) → from_place place n ++ SendBatch (place + n) ∷ [] ≡ from_place place (n + 1)
+from_more place zero = ap (λ p. SendBatch p ∷ []) (zero_more place)
+  where
+    zero_more : (p : ℕ) → p + 0 ≡ p
+    zero_more p = omega arith
+from_more place (suc n) = ap (λ l. SendBatch place ∷ l) (ap (λ p. from_place (suc place) n ++ SendBatch p ∷ []) (suc_more place n) ∙ from_more (suc place) n)
+  where
+    suc_more : (p m : ℕ) → p + suc m ≡ suc p + m
+    suc_more p m = omega arith
+
+-- ---- along the loop
+
+pub record Sending (old now : Kept) (before outs : List Out) (i : ℕ) : Type 0 where
+  pub rest : KeepsButPipeline old now
+  pub stands : ComesAs old.writes (λ h. PipelineStandsFor now.writes.pipeline (sent_times i h))
+  pub some : ComesAs old.writes (λ h. i ≤ length (to_send h old.store.state.batches))
+  pub outs : ComesAs old.writes (λ h. outs ≡ before ++ from_place (outstanding h) i)
+
+pub none_sent : (old : Kept) (outs : List Out) → Sending old old outs outs 0
+none_sent old outs = record {
+  rest = record { root = refl; store = refl; listeners = refl; open = refl; spent = refl };
+  stands = λ h stands. stands;
+  some = λ h stands. omega arith;
+  outs = λ h stands. sym (append-nil outs);
+}
+
+pub sent_all : {old now : Kept} {before outs : List Out} {i : ℕ} → ComesAs now.writes (λ h. next_place h (length old.store.state.batches) ≡ None) ⊎ (i ≡ 10) → Sending old now before outs i → Sends old now before outs
+sent_all {old} {now} {before} {outs} {i} ends it = record {
+  count = i;
+  stands = it.stands;
+  all = λ h stands. ⊎_elim
+      (λ none. all_sent h old.store.state.batches i (none (sent_times i h) (it.stands h stands)) (it.some h stands))
+      (λ ten. ten_sent h old.store.state.batches i ten (it.some h stands)) ends;
+  outs = it.outs;
+}
+
+pub sent_more : {old now new : Kept} {before outs more : List Out} {i place : ℕ} → ComesAs now.writes (λ h. next_place h (length old.store.state.batches) ≡ Some place) → KeepsButPipeline now new
+    → ((h : Steps) → PipelineStandsFor now.writes.pipeline h → PipelineStandsFor new.writes.pipeline (sent ∷ h)) → more ≡ outs ++ SendBatch place ∷ [] → Sending old now before outs i → Sending old new before more (i + 1)
+sent_more {old} {now} {new} {before} {outs} {more} {i} {place} next kept takes pushed it = record {
+  rest = record { root = kept.root ∙ it.rest.root; store = kept.store ∙ it.rest.store; listeners = kept.listeners ∙ it.rest.listeners; open = kept.open ∙ it.rest.open; spent = kept.spent ∙ it.rest.spent };
+  stands = λ h stands. subst (λ n. PipelineStandsFor new.writes.pipeline (sent_times n h)) one_more (takes (sent_times i h) (it.stands h stands));
+  some = λ h stands. more_to_send h old.store.state.batches i place (next (sent_times i h) (it.stands h stands));
+  outs = λ h stands.
+      pushed ∙ ap (λ (l : List Out). l ++ SendBatch place ∷ []) (it.outs h stands) ∙ append_assoc before (from_place (outstanding h) i) (SendBatch place ∷ [])
+      ∙ ap (λ p. before ++ (from_place (outstanding h) i ++ SendBatch p ∷ [])) (place_is h old.store.state.batches i place (next (sent_times i h) (it.stands h stands)))
+      ∙ ap (λ l. before ++ l) (from_more (outstanding h) i);
+}
+  where
+    one_more : suc i ≡ i + 1
+    one_more = omega arith
+
+-- ---- the lines of those that are sent
+
+pub requests_sent : (token : List ℕ) (bs : List Batch) (h : Steps) → sent_in (each (request_of token) bs) h ≡ sent_times (length bs) h
+requests_sent token [] h = refl
+requests_sent token (b ∷ bs) h = requests_sent token bs (sent ∷ h) ∙ sent_first (length bs) h
+  where
+    sent_first : (n : ℕ) (g : Steps) → sent_times n (sent ∷ g) ≡ sent ∷ sent_times n g
+    sent_first zero g = refl
+    sent_first (suc n) g = ap (λ l. sent ∷ l) (sent_first n g)
+
+-- those stand in the pending list from this place on
+abbrev StandFrom : List Batch → ℕ → List Batch → Type 0
+StandFrom bs place xs = (j : ℕ) (x : Batch) → slice_get xs j ≡ Some x → slice_get bs (place + j) ≡ Some x
+
+get_drop : (n : ℕ) (xs : List Batch) → StandFrom xs n (drop n xs)
+get_drop zero xs j x is = is
+get_drop (suc n) [] j x is = absurd (none-some x (sym (nothing_there j) ∙ is))
+  where
+    nothing_there : (k : ℕ) → slice_get {Batch} [] k ≡ None
+    nothing_there k = refl
+get_drop (suc n) (y ∷ xs) j x is = get_drop n xs j x is
+
+get_take : (n : ℕ) (xs : List Batch) (k : ℕ) (x : Batch) → slice_get (take n xs) k ≡ Some x → slice_get xs k ≡ Some x
+get_take zero xs k x is = absurd (none-some x is)
+get_take (suc n) [] k x is = absurd (none-some x is)
+get_take (suc n) (y ∷ xs) zero x is = is
+get_take (suc n) (y ∷ xs) (suc k) x is = get_take n xs k x is
+
+to_send_stand : (h : Steps) (bs : List Batch) → StandFrom bs (outstanding h) (to_send h bs)
+to_send_stand h bs = by (is_ready h)
+  where
+    by : (b : Bool) → StandFrom bs (outstanding h) (if b then drop (outstanding h) (take 10 bs) else [])
+    by true j x is = get_take 10 bs (outstanding h + j) x (get_drop (outstanding h) (take 10 bs) j x is)
+    by false j x is = absurd (none-some x is)
+
+shown_from : (client : Kept) (steps : Steps) (token : List ℕ) (place : ℕ) (xs : List Batch) → PipelineStandsFor client.writes.pipeline steps → token ≡ latest_token steps → StandFrom client.store.state.batches place xs → AllZip (IsShown client) (from_place place (length xs)) (each (request_of token) xs)
+shown_from client steps token place [] stands same stand = tt
+shown_from client steps token place (x ∷ xs) stands same stand = (
+  record { steps = steps; stands = stands; batch = x; there = subst (λ p. slice_get client.store.state.batches p ≡ Some x) (zero_more place) (stand 0 x refl); is = ap (λ (t : List ℕ). request_of t x) same },
+  shown_from client steps token (suc place) xs stands same (λ j y is. subst (λ p. slice_get client.store.state.batches p ≡ Some y) (suc_more place j) (stand (suc j) y is)),
+)
+  where
+    zero_more : (p : ℕ) → p + 0 ≡ p
+    zero_more p = omega arith
+
+    suc_more : (p m : ℕ) → p + suc m ≡ suc p + m
+    suc_more p m = omega arith
+
+-- the requests are shown of a client that sent them
+pub shown_sent : (client : Kept) (h : Steps) (bs : List Batch) (count : ℕ) → client.store.state.batches ≡ bs → count ≡ length (to_send h bs) → PipelineStandsFor client.writes.pipeline (sent_times count h)
+    → AllZip (IsShown client) (from_place (outstanding h) count) (each (request_of (latest_token h)) (to_send h bs))
+shown_sent client h bs count same all stands =
+    subst (λ n. AllZip (IsShown client) (from_place (outstanding h) n) (each (request_of (latest_token h)) (to_send h bs))) (sym all)
+    (shown_from client (sent_times count h) (latest_token h) (outstanding h) (to_send h bs) stands (sym (sent_token count h))
+    (subst (λ l. StandFrom l (outstanding h) (to_send h bs)) (sym same) (to_send_stand h bs)))
