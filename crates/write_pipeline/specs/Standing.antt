@@ -1,6 +1,5 @@
 -- Which steps a pipeline stands for, and how a response or a closing fits them.
 use Rattle.std.specs.Prelude.{◌≡◌, ◌≢◌, ◌⊎◌, if◌then◌else◌, ℕ, ◌<◌, true, false, ◌&&◌, nat_lt, Option, Some, None, unwrap_or, [], ◌∷◌, length}
-use Rattle.std.specs.Borrow.{Bor}
 use Rattle.mutations.specs.Results.{FitsWrites}
 use Rattle.mutations.specs.declared.batch.Batch.{Batch}
 use Rattle.mutations.specs.declared.results.WriteResponse.{WriteResponse}
@@ -34,24 +33,24 @@ pub record MaySend (p : WritePipeline) : Type 0 where
   pub may : may_send steps ≡ true
 
 -- the batch that a response is for is there, and the response has a result for each of its writes
-abbrev pub HasResults : Option (Bor Batch) → WriteResponse → Type 0
+abbrev pub HasResults : Option Batch → WriteResponse → Type 0
 HasResults None response = ⊥
-HasResults (Some batch) response = length response.results ≡ length batch.now.writes
+HasResults (Some batch) response = length response.results ≡ length batch.writes
 
 -- each result can be that of its write
-abbrev pub HasTransforms : Option (Bor Batch) → WriteResponse → Type 0
+abbrev pub HasTransforms : Option Batch → WriteResponse → Type 0
 HasTransforms None response = ⊥
-HasTransforms (Some batch) response = FitsWrites batch.now.writes response.results
+HasTransforms (Some batch) response = FitsWrites batch.writes response.results
 
 -- what a response that fits is: the handshake has no results; any other is for the first outstanding batch, says when it was
 -- committed, and has its results
-abbrev pub Fits : Steps → Option (Bor Batch) → WriteResponse → Answer → Type 0
+abbrev pub Fits : Steps → Option Batch → WriteResponse → Answer → Type 0
 Fits h first response Handshake = (is_ready h ≡ false) × (response.results ≡ [])
 Fits h first response Acknowledges =
     (is_ready h ≡ true) × (0 < outstanding h) × HasTransforms first response × (response.commit_time ≢ None)
 
 -- the first member by which a response doesn't fit
-abbrev pub Fails : Steps → Option (Bor Batch) → WriteResponse → WriteMember → Type 0
+abbrev pub Fails : Steps → Option Batch → WriteResponse → WriteMember → Type 0
 Fails h first response WriteResults =
     ((is_ready h ≡ false) × (response.results ≢ []))
     ⊎ ((is_ready h ≡ true) × ((outstanding h ≡ 0) ⊎ ¬ (HasResults first response)))

@@ -1,4 +1,4 @@
-ghost use Rattle.std.specs.Prelude.{◌≡◌, ◌≤◌, ◌∷◌, [], IfOk, IfErr, OnErr};
+ghost use Rattle.std.specs.Prelude.{◌≡◌, ◌≤◌, ◌∷◌, [], option_map, IfOk, IfErr, OnErr};
 ghost use Rattle.write_pipeline.specs.Order.{Steps, latest_token, next_place, rejects};
 ghost use Rattle.write_pipeline.specs.Order as step;
 
@@ -44,31 +44,29 @@ impl WritePipeline {
     pub fn opened(&mut self)
         ensures { Takes self.old self.new step.opened }
     {
-        self.shaken = false;
-        self.outstanding = 0;
+        self.close();
         self.token = None;
     }
 
-    /// A response came; `first` is the first outstanding batch, if there is one.
+    /// What a response is; `first` is the first outstanding batch, if there is one. Nothing changes.
     ///
     /// # Errors
-    /// The first member by which it doesn't fit. The pipeline stands for the same steps as before then.
-    pub fn answer(
-        &mut self,
+    /// The first member by which it doesn't fit.
+    pub fn judge(
+        &self,
         response: &WriteResponse,
         first: Option<&Batch>,
     ) -> Result<Answer, WriteMember>
-        ensures fits { IfOk result (λ answer. (h : Steps) → StandsFor self.old h → Fits h first.entry response.now answer) }
-        ensures done { IfOk result (λ answer. Takes self.old self.new (step_of answer)) }
-        ensures fails { IfErr result (λ member. (h : Steps) → StandsFor self.old h → Fails h first.entry response.now member) }
-        ensures undone { OnErr result (Stays self.old self.new) }
+        ensures fits { IfOk result (λ answer. (h : Steps) → StandsFor self.now h
+            → Fits h (option_map (λ batch. batch.now) first.entry) response.now answer) }
+        ensures fails { IfErr result (λ member. (h : Steps) → StandsFor self.now h
+            → Fails h (option_map (λ batch. batch.now) first.entry) response.now member) }
     {
         let results = response.results.as_slice();
         if !self.shaken {
             if !results.is_empty() {
                 return Err(WriteMember::WriteResults);
             }
-            self.shaken = true;
             return Ok(Answer::Handshake);
         }
         if self.outstanding == 0 {
@@ -87,8 +85,38 @@ impl WritePipeline {
         if !fit_writes(writes, results) {
             return Err(WriteMember::TransformResults);
         }
-        self.outstanding -= 1;
         Ok(Answer::Acknowledges)
+    }
+
+    /// A response came that was judged to be this.
+    pub fn accept(&mut self, answer: Answer)
+        ensures { Takes self.old self.new (step_of answer) }
+    {
+        match answer {
+            Answer::Handshake => self.shaken = true,
+            Answer::Acknowledges => self.outstanding = self.outstanding.saturating_sub(1),
+        }
+    }
+
+    /// A response came; `first` is the first outstanding batch, if there is one.
+    ///
+    /// # Errors
+    /// The first member by which it doesn't fit. The pipeline stands for the same steps as before then.
+    pub fn answer(
+        &mut self,
+        response: &WriteResponse,
+        first: Option<&Batch>,
+    ) -> Result<Answer, WriteMember>
+        ensures fits { IfOk result (λ answer. (h : Steps) → StandsFor self.old h
+            → Fits h (option_map (λ batch. batch.now) first.entry) response.now answer) }
+        ensures done { IfOk result (λ answer. Takes self.old self.new (step_of answer)) }
+        ensures fails { IfErr result (λ member. (h : Steps) → StandsFor self.old h
+            → Fails h (option_map (λ batch. batch.now) first.entry) response.now member) }
+        ensures undone { OnErr result (Stays self.old self.new) }
+    {
+        let answer = self.judge(response, first)?;
+        self.accept(answer);
+        Ok(answer)
     }
 
     /// Keeps the token of a response; an empty one changes nothing.
@@ -110,19 +138,33 @@ impl WritePipeline {
         }
     }
 
-    /// The stream was closed with the status: no batch is outstanding any more.
-    pub fn closed(&mut self, status: &RpcStatus) -> Closing
-        ensures closing { (h : Steps) → StandsFor self.old h → result ≡ closing_of h status.now.code }
-        ensures stands { Takes self.old self.new step.closed }
+    /// What a closing with the status does to the first outstanding batch. Nothing changes.
+    pub fn closing(&self, status: &RpcStatus) -> Closing
+        ensures { (h : Steps) → StandsFor self.now h → result ≡ closing_of h status.now.code }
     {
-        let is_rejected = self.shaken && self.outstanding > 0 && rejects(status.code);
-        self.shaken = false;
-        self.outstanding = 0;
-        if is_rejected {
+        if self.shaken && self.outstanding > 0 && rejects(status.code) {
             Closing::Rejects
         } else {
             Closing::Kept
         }
+    }
+
+    /// The stream was closed: no batch is outstanding any more.
+    pub fn close(&mut self)
+        ensures { Takes self.old self.new step.closed }
+    {
+        self.shaken = false;
+        self.outstanding = 0;
+    }
+
+    /// The stream was closed with the status.
+    pub fn closed(&mut self, status: &RpcStatus) -> Closing
+        ensures closing { (h : Steps) → StandsFor self.old h → result ≡ closing_of h status.now.code }
+        ensures stands { Takes self.old self.new step.closed }
+    {
+        let closing = self.closing(status);
+        self.close();
+        closing
     }
 
     /// The place in the pending list, of so many batches, of the one that is to be sent; none where there was no handshake, 10
