@@ -223,7 +223,7 @@ fn bad_message_json(
     json!(in alloc; {"refused": {"cause": "BadMessage", "line": line, "member": member, "number": 10u64, "stream": stream}})
 }
 
-/// Number 10: the message of the backend can't be what the stream has next, by this member.
+/// Number 10: the backend's message has a fault, or can't come next on the stream, by this member.
 ///
 /// # Errors
 /// `NoMemory`
