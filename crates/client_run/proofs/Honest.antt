@@ -9,6 +9,7 @@ use Rattle.client_events.specs.Spelled.{IsSpelledEvent}
 use Rattle.client_events.specs.declared.event.Event.{Event}
 use Rattle.client_events.specs.declared.event.Event.TheVariants as event
 use Rattle.line_printer.specs.Lines.{line_of}
+use Rattle.line_printer.proofs.Streams as streams
 use Rattle.line_printer.proofs.Within as within
 use Rattle.line_printer.proofs.Within.{IsWithin, within_append, within_nothing, within_one}
 use Rattle.line_reader.specs.Spelled.{IsSpelledReading}
@@ -84,8 +85,8 @@ IsSmallRefusal IdsSpent = Unit {0}
 unheard_within : (most number : ℕ) (refusal : Refusal) → number < 2 ^ 64 → IsSmallRefusal refusal → IsWithin most (line_of (unheard_tree number refusal))
 unheard_within most number (ListenerTaken id) few small = within.listener_taken_within most number id few (omega (arith, small))
 unheard_within most number (NoListener id) few small = within.no_listener_within most number id few (omega (arith, small))
-unheard_within most number (StreamState stream is_open) few small = within.stream_state_within most number stream is_open few
-unheard_within most number (BadMessage stream member) few small = within.bad_message_within most number stream member few
+unheard_within most number (StreamState stream is_open) few small = streams.stream_state_within most number stream is_open few
+unheard_within most number (BadMessage stream member) few small = streams.bad_message_within most number stream member few
 unheard_within most number IdsSpent few small = within.ids_spent_within most number few
 
 -- ---- lines
@@ -150,7 +151,7 @@ module _ (root : Root) (number : ℕ) (s : State) (past : Past) (counted : IsCou
 
   opened_within : (name : StreamName) (opening : Bool) → AnswerWithin root number s (opened_turn name opening)
   opened_within name true = refused_answer root number s (StreamState name true) few tt
-  opened_within name false = record { refusal = within_nothing s.number; lines = one_answer root s.number (send the_first) (within.send_write_within s.number root the_first) }
+  opened_within name false = record { refusal = within_nothing s.number; lines = one_answer root s.number (send the_first) (streams.send_write_within s.number root the_first) }
 
   bad_within : (name : StreamName) (member : List ℕ) (opening : Bool) → AnswerWithin root number s (bad_turn name member opening)
   bad_within name member true = refused_answer root number s (BadMessage name member) few tt
@@ -166,7 +167,7 @@ module _ (root : Root) (number : ℕ) (s : State) (past : Past) (counted : IsCou
       by : (left : Bool) → nat_lt s.number most_commits ≡ left → AnswerWithin root number s (if left then commits (Reject batch.id) (rejected batch.id (s.number + 1) status ∷ []) else refused IdsSpent)
       by true is =
           let less = ltb-true s.number most_commits is in
-          record { refusal = within_nothing (s.number + 1); lines = one_answer root (s.number + 1) (rejected batch.id (s.number + 1) status) (within.rejected_within batch.id (s.number + 1) status bound (omega (arith, less)) (omega (arith, small))) }
+          record { refusal = within_nothing (s.number + 1); lines = one_answer root (s.number + 1) (rejected batch.id (s.number + 1) status) (streams.rejected_within batch.id (s.number + 1) status bound (omega (arith, less)) (omega (arith, small))) }
       by false is = refused_answer root number s IdsSpent few tt
 
   closes_within : (status : RpcStatus) → status.code < 2 ^ 8 → (closing : Closing) → AnswerWithin root number s (closes s status closing)
@@ -183,7 +184,7 @@ module _ (root : Root) (number : ℕ) (s : State) (past : Past) (counted : IsCou
       by : (left : Bool) → nat_lt s.number most_commits ≡ left → AnswerWithin root number s (if left then commits (Acknowledge batch time results) (result batch (s.number + 1) time ∷ []) else refused IdsSpent)
       by true is =
           let less = ltb-true s.number most_commits is in
-          record { refusal = within_nothing (s.number + 1); lines = one_answer root (s.number + 1) (result batch (s.number + 1) time) (within.result_within batch (s.number + 1) time bound (omega (arith, less))) }
+          record { refusal = within_nothing (s.number + 1); lines = one_answer root (s.number + 1) (result batch (s.number + 1) time) (streams.result_within batch (s.number + 1) time bound (omega (arith, less))) }
       by false is = refused_answer root number s IdsSpent few tt
 
   written_within : (h : Steps) (response : WriteResponse) (opening : Bool) (t : Turn) → WrittenTurn s h response opening t → AnswerWithin root number s t
@@ -266,7 +267,7 @@ settled_within root number s past e answer None t same counted spelled small is 
 -- requests report nothing
 requests_within : (root : Root) (most : ℕ) (token : List ℕ) (bs : List Batch) → IsWithin most (text_of root (each (request_of token) bs))
 requests_within root most token [] = within_nothing most
-requests_within root most token (b ∷ bs) = within_append most (line_of (tree_of root (request_of token b))) (text_of root (each (request_of token) bs)) (within.send_write_within most root (a_batch token b.writes)) (requests_within root most token bs)
+requests_within root most token (b ∷ bs) = within_append most (line_of (tree_of root (request_of token b))) (text_of root (each (request_of token) bs)) (streams.send_write_within most root (a_batch token b.writes)) (requests_within root most token bs)
 
 behind_within : (root : Root) (most : ℕ) (refusal : Option Refusal) (h : Steps) (bs : List Batch) → IsWithin most (text_of root (unless_refused refusal (requests h bs)))
 behind_within root most None h bs = requests_within root most (latest_token h) (to_send h bs)

@@ -1,18 +1,24 @@
 -- what is printed of the lines that were handed out
-use Rattle.std.proofs.Common.{◌≡◌, ℕ, ◌+◌, ◌<◌, suc, zero, List, [], ◌∷◌, ◌++◌, length, take, get_or, Option, option_map, append-nil, refl, sym, ap, subst, ◌∙◌, arith}
-use Rattle.std.specs.List.{AllZip}
+use Rattle.std.proofs.Common.{◌≡◌, ℕ, ◌+◌, ◌<◌, ◌^◌, suc, zero, List, [], ◌∷◌, ◌++◌, length, take, get_or, Option, Some, IfSome, option_map, append-nil, refl, sym, ap, subst, ◌∙◌, arith}
+use Rattle.std.specs.List.{AllZip, slice_get}
 use Rattle.std.proofs.Math.Seq.{take-length}
 use Rattle.std.proofs.lemmas.Grind.{flat_map-append}
 use Rattle.std.proofs.lemmas.List.{take_more}
 use Rattle.document_keys.specs.Names.{Root}
-use Rattle.line_printer.specs.Lines.{document_tree, line_of}
+use Rattle.line_printer.specs.Lines.{document_tree, line_of, send_write_tree}
+use Rattle.local_store.specs.State.{State}
+use Rattle.mutations.specs.declared.batch.Batch.{Batch}
+use Rattle.mutations.specs.declared.results.WriteRequest.TheVariants.{Batch as a_batch}
+use Rattle.mutations.specs.declared.write.Write.{Write}
+use Rattle.write_pipeline.specs.Order.{latest_token}
+use Rattle.sync_engine.specs.Writing.{first_batch}
 use Rattle.local_store.specs.Documents.{document_of, standing_of}
 use Rattle.local_store.specs.Store.{Store}
 use Rattle.sync_engine.specs.declared.out.Out.TheVariants.{Document}
 use Rattle.line_reader.specs.declared.refusal.Refusal.{Refusal as Unread}
 use Rattle.sync_engine.specs.Lines.{Line}
-use Rattle.sync_engine.specs.Standing.{Kept}
-use Rattle.sync_engine.specs.Telling.{IsShown}
+use Rattle.sync_engine.specs.Standing.{ComesAs, Kept}
+use Rattle.sync_engine.specs.Telling.{IsSent, IsShown}
 use Rattle.sync_engine.specs.declared.out.Out.{Out}
 use Rattle.sync_engine.specs.declared.out.Outcome.TheVariants.{Done, Refused}
 use Rattle.sync_engine.specs.declared.refusal.Refusal.{Refusal}
@@ -90,3 +96,22 @@ unheard_printed {client} {refusal} {t} root number text is same =
 
 pub unread_printed : {refusal : Unread} {t : LineTurn} (root : Root) (number : ℕ) (text : List ℕ) → t ≡ unread_turn refusal → text ≡ line_of (unread_tree number refusal) → text ≡ printed root number t
 unread_printed {refusal} root number text is same = same ∙ sym (append-nil (line_of (unread_tree number refusal))) ∙ ap (printed root number) (sym is)
+
+-- ---- pending batches
+
+-- eight bytes have the id of the first batch of a state
+pub small_first : (s : State) (bs : List Batch) (batch : Batch) → bs ≡ s.batches → slice_get bs 0 ≡ Some batch → batch.id < 2 ^ 64 → IfSome (first_batch s) (λ b. b.id < 2 ^ 64)
+small_first s bs batch same first small =
+    subst (λ (l : List Batch). IfSome (slice_get l 0) (λ b. b.id < 2 ^ 64)) same (subst (λ (found : Option Batch). IfSome found (λ b. b.id < 2 ^ 64)) (sym first) small)
+
+some_one : {A : Type 0} (x y : A) → Some x ≡ Some y → x ≡ y
+some_one x y same = cc
+
+-- the request of a batch is printed from what the client lends
+pub sent_printed : (client : Kept) (place : ℕ) (root : Root) (store : Store) (bs : List Batch) (batch : Batch) (token : List ℕ) (writes : List Write) (text : List ℕ) → root ≡ client.root → store ≡ client.store → bs ≡ store.state.batches → slice_get bs place ≡ Some batch
+    → ComesAs client.writes (λ h. token ≡ latest_token h) → writes ≡ batch.writes → text ≡ line_of (send_write_tree root (a_batch token writes)) → (line : Line) → IsSent client place line → text ≡ line_of (tree_of client.root line)
+sent_printed client place root store bs batch token writes text roots stores batches there tokens written is line sent =
+    let same : bs ≡ client.store.state.batches = batches ∙ ap (λ (s : Store). s.state.batches) stores in
+    let one : batch ≡ sent.batch = some_one batch sent.batch (sym there ∙ ap (λ (l : List Batch). slice_get l place) same ∙ sent.there) in
+    let tok : token ≡ latest_token sent.steps = tokens sent.steps sent.stands in
+    is ∙ (λ i. line_of (send_write_tree (roots i) (a_batch (tok i) ((written ∙ ap (λ (b : Batch). b.writes) one) i)))) ∙ ap (λ (l : Line). line_of (tree_of client.root l)) (sym sent.is)

@@ -17,15 +17,24 @@ use crate::turn_fault::TurnFault;
 use host_api::Host;
 use line_reader::Reading;
 use local_store::LocalStore;
+use mutations::Batch;
 use std::alloc::Global;
 use sync_engine::Client;
+
+/// The id of the batch.
+fn id_of(batch: &Batch) -> u64
+    ensures id { result ≡ batch.now.id }
+    ensures within { batch.now.id < 2 ^ 64 }
+{
+    batch.id
+}
 
 /// Shows that eight bytes have the id of the first pending batch.
 fn show_first(store: &LocalStore)
     ensures { IfSome (first_batch store.now.state) (λ batch. batch.id < 2 ^ 64) }
 {
     if let Some(first) = store.pending().first() {
-        let _id = first.id;
+        let _id = id_of(first);
     }
 }
 

@@ -119,12 +119,9 @@ fn print_sent(alloc: Global, client: &Client, place: u64) -> Result<String, NoMe
     let Some(batch) = client.store().pending().get(place) else {
         unreachable!();
     };
-    print_batch(
-        alloc,
-        client.root(),
-        client.token(),
-        batch.writes.as_slice(),
-    )
+    let writes = batch.writes.as_slice();
+    let line = print_batch(alloc, client.root(), client.token(), writes)?;
+    Ok(line)
 }
 
 /// A line that was handed out.
