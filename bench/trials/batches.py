@@ -6,7 +6,6 @@ import subprocess
 
 from client import NAME_FRONT, get_line, run_lines
 from readers.commits import read_commit
-from readers.effects import Documents
 from readers.journal_reader import get_files, read_pair
 from readers.queries import read_target
 
