@@ -40,7 +40,7 @@ turn_commits root s past (an_event e) t is =
 -- ---- taking a line
 
 -- what is heard of an event, by its turn as that of its line
-refusal_back : (r : Option Refusal) → refusal_in (option_map unheard r) ≡ r
+pub refusal_back : (r : Option Refusal) → refusal_in (option_map unheard r) ≡ r
 refusal_back None = refl
 refusal_back (Some refusal) = refl
 

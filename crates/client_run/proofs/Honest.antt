@@ -1,5 +1,5 @@
 -- What the turn of a line writes: whole lines, which report no number above that of the state after its commit.
-use Rattle.std.proofs.Common.{◌≡◌, ℕ, ◌+◌, ◌<◌, ◌≤◌, ◌^◌, ℤ, pos, nat_abs, suc, zero, Bool, true, false, not, nat_eq, nat_lt, List, [], ◌∷◌, ◌++◌, map as each, length, Option, Some, None, option_map, is_none, if◌then◌else◌, refl, sym, subst, arith}
+use Rattle.std.proofs.Common.{◌≡◌, ℕ, ◌+◌, ◌<◌, ◌≤◌, ◌^◌, ℤ, pos, nat_abs, suc, zero, Bool, true, false, not, nat_eq, nat_lt, List, [], ◌∷◌, ◌++◌, map as each, length, Option, Some, None, option_map, IfSome, if◌then◌else◌, refl, sym, ap, subst, ◌∙◌, arith}
 use Rattle.std.specs.List.{All, slice_get}
 use Rattle.std.proofs.lemmas.Bool.{and_parts, eqb-true, ltb-true}
 use Rattle.std.proofs.lemmas.Option.{none-some}
@@ -17,7 +17,7 @@ use Rattle.line_reader.specs.declared.reading.Reading.TheVariants.{Line as an_ev
 use Rattle.line_reader.specs.declared.refusal.Refusal.{Refusal as Unread}
 use Rattle.line_reader.specs.declared.refusal.Refusal.TheVariants.{LineTooLong, BadLine, TooDeep, Unsupported, BadName, BadWrites, BadQuery}
 use Rattle.record_codec.specs.declared.commit.Commit.{Commit}
-use Rattle.record_codec.specs.declared.commit.Commit.TheVariants.{Enqueue, Allocate}
+use Rattle.record_codec.specs.declared.commit.Commit.TheVariants.{Acknowledge, Enqueue, Allocate, Reject}
 use Rattle.local_store.specs.Documents.{document_of, standing_of}
 use Rattle.local_store.specs.State.{State, most_commits}
 use Rattle.queries.specs.declared.raw.QueryRule.{QueryRule}
@@ -27,17 +27,32 @@ use Rattle.target_cache.specs.Cache.{TellsId, id_at}
 use Rattle.views.specs.Viewed.{Viewed}
 use Rattle.views.specs.declared.raised.Raised.{Raised}
 use Rattle.sync_engine.specs.Answers.{Answers, Begins, are_left, ends, enqueued, last_target, listens}
-use Rattle.sync_engine.specs.Turns.{after, commits, refused}
-use Rattle.sync_engine.specs.Lines.{Line, Told, wrote, listening, unlistened, document}
-use Rattle.sync_engine.specs.Past.{Turn, Past, asked, listener, raised_in, told}
+use Rattle.sync_engine.specs.Turns.{after, answered, commits, refused}
+use Rattle.sync_engine.specs.Lines.{Line, Told, wrote, listening, unlistened, document, result, rejected, send}
+use Rattle.sync_engine.specs.Past.{Turn, Past, asked, listener, raised_in, steps_by, steps_of, told}
+use Rattle.sync_engine.specs.Writing.{IsWritten, WrittenTurn, acknowledges, bad_turn, closed_turn, closes, fails, first_batch, is_open, member_name, opened_turn, rejects, request_of, requests, settles, shakes, to_send}
+use Rattle.mutations.specs.declared.batch.Batch.{Batch}
+use Rattle.mutations.specs.declared.results.WriteRequest.TheVariants.{Batch as a_batch, Handshake as the_first}
+use Rattle.mutations.specs.declared.results.WriteResponse.{WriteResponse}
+use Rattle.mutations.specs.declared.results.WriteResult.{WriteResult}
+use Rattle.value_model.specs.declared.document.RpcStatus.{RpcStatus}
+use Rattle.value_model.specs.declared.message.StreamName.{StreamName}
+use Rattle.value_model.specs.declared.message.StreamName.TheVariants as stream
+use Rattle.value_model.specs.declared.timestamp.Timestamp.{Timestamp}
+use Rattle.write_pipeline.specs.Order.{Steps, latest_token}
+use Rattle.write_pipeline.specs.Standing.{closing_of}
+use Rattle.write_pipeline.specs.declared.answer.Closing.{Closing}
+use Rattle.write_pipeline.specs.declared.answer.Closing.TheVariants.{Kept as KeepsAll, Rejects}
+use Rattle.std.proofs.lemmas.List.{append_assoc}
+use Rattle.std.proofs.lemmas.Grind.{flat_map-append}
 use Rattle.sync_engine.specs.Settling.{Settles, ShowsAt, told_to}
-use Rattle.sync_engine.specs.Turn.{SettlesAfter, snapshot_line}
+use Rattle.sync_engine.specs.Turn.{SettlesAfter, is_heard, requests_behind, snapshot_line, unless_refused, with_requests}
 use Rattle.sync_engine.specs.declared.refusal.Refusal.{Refusal}
-use Rattle.sync_engine.specs.declared.refusal.Refusal.TheVariants.{ListenerTaken, NoListener, IdsSpent}
+use Rattle.sync_engine.specs.declared.refusal.Refusal.TheVariants.{ListenerTaken, NoListener, StreamState, BadMessage, IdsSpent}
 use Rattle.sync_engine.proofs.Handing.{all_told}
 use Rattle.client_run.specs.Laws.{ATurnReportsWithin, HasListenerIds, IsCounted}
 use Rattle.client_run.specs.Printed.{printed, refusal_text, rule_number, text_of, tree_of, unheard_tree, unread_tree}
-use Rattle.client_run.specs.Turn.{LineTurn, IsLineTurn, and_heard, entry_of, of_event, unheard}
+use Rattle.client_run.specs.Turn.{LineTurn, IsLineTurn, and_heard, entry_of, of_event, refusal_in, unheard}
 
 -- ---- refusals
 
@@ -62,11 +77,15 @@ unread_within most number (BadQuery broken) few is = within.bad_query_within mos
 abbrev IsSmallRefusal : Refusal → Type 0
 IsSmallRefusal (ListenerTaken id) = id < 2 ^ 32
 IsSmallRefusal (NoListener id) = id < 2 ^ 32
+IsSmallRefusal (StreamState stream is_open) = Unit {0}
+IsSmallRefusal (BadMessage stream member) = Unit {0}
 IsSmallRefusal IdsSpent = Unit {0}
 
 unheard_within : (most number : ℕ) (refusal : Refusal) → number < 2 ^ 64 → IsSmallRefusal refusal → IsWithin most (line_of (unheard_tree number refusal))
 unheard_within most number (ListenerTaken id) few small = within.listener_taken_within most number id few (omega (arith, small))
 unheard_within most number (NoListener id) few small = within.no_listener_within most number id few (omega (arith, small))
+unheard_within most number (StreamState stream is_open) few small = within.stream_state_within most number stream is_open few
+unheard_within most number (BadMessage stream member) few small = within.bad_message_within most number stream member few
 unheard_within most number IdsSpent few small = within.ids_spent_within most number few
 
 -- ---- lines
@@ -127,12 +146,63 @@ module _ (root : Root) (number : ℕ) (s : State) (past : Past) (counted : IsCou
   ends_within id None small = refused_answer root number s (NoListener id) few small
   ends_within id (Some view) small = record { refusal = within_nothing s.number; lines = one_answer root s.number (unlistened id s.number) (within.unlistened_within id s.number (omega (arith, small)) (omega (arith, counted.within))) }
 
+  -- ---- the stream of writes
+
+  opened_within : (name : StreamName) (open : Bool) → AnswerWithin root number s (opened_turn name open)
+  opened_within name true = refused_answer root number s (StreamState name true) few tt
+  opened_within name false = record { refusal = within_nothing s.number; lines = one_answer root s.number (send the_first) (within.send_write_within s.number root the_first) }
+
+  bad_within : (name : StreamName) (member : List ℕ) (open : Bool) → AnswerWithin root number s (bad_turn name member open)
+  bad_within name member true = refused_answer root number s (BadMessage name member) few tt
+  bad_within name member false = refused_answer root number s (StreamState name false) few tt
+
+  nothing_said : AnswerWithin root number s (answered [])
+  nothing_said = record { refusal = within_nothing s.number; lines = All-nil (LineWithin root s.number) }
+
+  rejects_within : (status : RpcStatus) → status.code < 2 ^ 8 → (first : Option Batch) → IfSome first (λ batch. batch.id < 2 ^ 64) → AnswerWithin root number s (rejects s first status)
+  rejects_within status small None bound = nothing_said
+  rejects_within status small (Some batch) bound = by (nat_lt s.number most_commits) refl
+    where
+      by : (left : Bool) → nat_lt s.number most_commits ≡ left → AnswerWithin root number s (if left then commits (Reject batch.id) (rejected batch.id (s.number + 1) status ∷ []) else refused IdsSpent)
+      by true is =
+          let less = ltb-true s.number most_commits is in
+          record { refusal = within_nothing (s.number + 1); lines = one_answer root (s.number + 1) (rejected batch.id (s.number + 1) status) (within.rejected_within batch.id (s.number + 1) status bound (omega (arith, less)) (omega (arith, small))) }
+      by false is = refused_answer root number s IdsSpent few tt
+
+  closes_within : (status : RpcStatus) → status.code < 2 ^ 8 → (closing : Closing) → AnswerWithin root number s (closes s status closing)
+  closes_within status small KeepsAll = nothing_said
+  closes_within status small Rejects = rejects_within status small (first_batch s) counted.first
+
+  closed_within : (h : Steps) (name : StreamName) (status : RpcStatus) → status.code < 2 ^ 8 → (open : Bool) → AnswerWithin root number s (closed_turn s h name status open)
+  closed_within h name status small true = closes_within status small (closing_of h status.code)
+  closed_within h name status small false = refused_answer root number s (StreamState name false) few tt
+
+  settles_within : (batch : ℕ) (time : Timestamp) (results : List WriteResult) → batch < 2 ^ 64 → AnswerWithin root number s (settles s batch time results)
+  settles_within batch time results bound = by (nat_lt s.number most_commits) refl
+    where
+      by : (left : Bool) → nat_lt s.number most_commits ≡ left → AnswerWithin root number s (if left then commits (Acknowledge batch time results) (result batch (s.number + 1) time ∷ []) else refused IdsSpent)
+      by true is =
+          let less = ltb-true s.number most_commits is in
+          record { refusal = within_nothing (s.number + 1); lines = one_answer root (s.number + 1) (result batch (s.number + 1) time) (within.result_within batch (s.number + 1) time bound (omega (arith, less))) }
+      by false is = refused_answer root number s IdsSpent few tt
+
+  written_within : (h : Steps) (response : WriteResponse) (open : Bool) (t : Turn) → WrittenTurn s h response open t → AnswerWithin root number s t
+  written_within h response true t (shakes fits is) = subst (AnswerWithin root number s) (sym is) nothing_said
+  written_within h response true t (acknowledges batch time first at fits is) =
+      subst (AnswerWithin root number s) (sym is) (settles_within batch.id time response.results (subst (λ (b : Option Batch). IfSome b (λ x. x.id < 2 ^ 64)) first counted.first))
+  written_within h response true t (fails member not is) = subst (AnswerWithin root number s) (sym is) (refused_answer root number s (BadMessage stream.Write (member_name member)) few tt)
+  written_within h response false t is = subst (AnswerWithin root number s) (sym is) (refused_answer root number s (StreamState stream.Write false) few tt)
+
   answer_within : (e : Event) (answer : Turn) → IsSpelledEvent e → Answers s past e answer → AnswerWithin root number s answer
   answer_within (event.Write at writes) answer spelled is = subst (AnswerWithin root number s) (sym is) (write_within at writes)
   answer_within (event.Get key) answer spelled is = subst (AnswerWithin root number s) (sym is)
       (record { refusal = within_nothing s.number; lines = one_answer root s.number (document key (document_of s key) (standing_of s key)) (within.document_within s.number root key (document_of s key) (standing_of s key)) })
   answer_within (event.Listen id query) answer spelled is = begins_within id query (listener id past) answer spelled.fits is
   answer_within (event.Unlisten id) answer spelled is = subst (AnswerWithin root number s) (sym is) (ends_within id (listener id past) spelled)
+  answer_within (event.Opened name) answer spelled is = subst (AnswerWithin root number s) (sym is) (opened_within name (is_open (steps_of past)))
+  answer_within (event.Closed name status) answer spelled is = subst (AnswerWithin root number s) (sym is) (closed_within (steps_of past) name status spelled.1 (is_open (steps_of past)))
+  answer_within (event.Written response) answer spelled is = written_within (steps_of past) response (is_open (steps_of past)) answer is
+  answer_within (event.BadMessage name member) answer spelled is = subst (AnswerWithin root number s) (sym is) (bad_within name member (is_open (steps_of past)))
 
 -- ---- snapshots
 
@@ -145,6 +215,10 @@ asked_small (event.Listen other query) past spelled small id view is = by (nat_e
     by : (b : Bool) → nat_eq other id ≡ b → (if b then Some (record { target = query; raised = None }) else listener id past) ≡ Some view → id < 2 ^ 32
     by true same is = subst (λ (n : ℕ). n < 2 ^ 32) (eqb-true other id same) spelled.fits
     by false apart is = small id view is
+asked_small (event.Opened name) past spelled small id view is = small id view is
+asked_small (event.Closed name status) past spelled small id view is = small id view is
+asked_small (event.Written response) past spelled small id view is = small id view is
+asked_small (event.BadMessage name member) past spelled small id view is = small id view is
 asked_small (event.Unlisten other) past spelled small id view is = by (nat_eq other id) is
   where
     by : (b : Bool) → (if b then None else listener id past) ≡ Some view → id < 2 ^ 32
@@ -189,15 +263,33 @@ settled_within root number s past e answer None t same counted spelled small is 
     (snapshots_within root later settled.told (after_few s answer.commit counted.within)
     (told_small root later (λ id. asked id e (listener id past)) settled.told (asked_small e past spelled small) settled.settles))))
 
+-- requests report nothing
+requests_within : (root : Root) (most : ℕ) (token : List ℕ) (bs : List Batch) → IsWithin most (text_of root (each (request_of token) bs))
+requests_within root most token [] = within_nothing most
+requests_within root most token (b ∷ bs) = within_append most (line_of (tree_of root (request_of token b))) (text_of root (each (request_of token) bs)) (within.send_write_within most root (a_batch token b.writes)) (requests_within root most token bs)
+
+behind_within : (root : Root) (most : ℕ) (refusal : Option Refusal) (h : Steps) (bs : List Batch) → IsWithin most (text_of root (unless_refused refusal (requests h bs)))
+behind_within root most None h bs = requests_within root most (latest_token h) (to_send h bs)
+behind_within root most (Some refusal) h bs = within_nothing most
+
+with_requests_within : (root : Root) (number : ℕ) (s : State) (past : Past) (e : Event) (t : Turn) → IsWithin (after s t.commit).number (printed root number (of_event t)) → IsWithin (after s t.commit).number (printed root number (of_event (with_requests s past e t)))
+with_requests_within root number s past e t is =
+    subst (IsWithin (after s t.commit).number)
+    (append_assoc (refusal_text number (option_map unheard t.refusal)) (text_of root t.lines) (text_of root (requests_behind s past e t))
+    ∙ ap (λ (x : List ℕ). refusal_text number (option_map unheard t.refusal) ++ x) (sym (flat_map-append (λ l. line_of (tree_of root l)) t.lines (requests_behind s past e t))))
+    (within_append (after s t.commit).number (printed root number (of_event t)) (text_of root (requests_behind s past e t)) is
+    (behind_within root (after s t.commit).number t.refusal (steps_by e t.refusal (steps_of past)) (after s t.commit).batches))
+
 pub turn_within : (root : Root) (s : State) (past : Past) (reading : Reading) (t : LineTurn) (number : ℕ) → IsCounted s → HasListenerIds past → number < 2 ^ 64 → IsSpelledReading reading → IsLineTurn root s past reading t → IsWithin (after s t.commit).number (printed root number t)
 turn_within root s past (Refused refusal) t number counted small few spelled is =
     subst (λ (x : LineTurn). IsWithin (after s x.commit).number (printed root number x)) (sym is)
     (within_one s.number (line_of (unread_tree number refusal)) (unread_within s.number number refusal few spelled))
 turn_within root s past (an_event e) t number counted small few spelled is =
-    let u = is.turn in
-    let turn = is.is_turn in
-    subst (λ (x : LineTurn). IsWithin (after s x.commit).number (printed root number x)) (sym is.is)
-    (settled_within root number s past e turn.answer turn.answer.refusal u refl counted spelled small (answer_within root number s past counted few e turn.answer spelled turn.answers) turn.settles)
+    let turn = is.is_turn.is_settled in
+    let settled = is.is_turn.settled in
+    let within_it = settled_within root number s past e turn.answer turn.answer.refusal settled refl counted spelled small (answer_within root number s past counted few e turn.answer spelled turn.answers) turn.settles in
+    subst (λ (x : LineTurn). IsWithin (after s x.commit).number (printed root number x)) (sym (is.is ∙ ap of_event is.is_turn.is))
+    (with_requests_within root number s past e settled within_it)
 
 pub turn_reports : ATurnReportsWithin
 turn_reports root s past reading t number counted small few spelled is = (turn_within root s past reading t number counted small few spelled is).within
@@ -211,7 +303,7 @@ told_there (Some raised) (Some found) view is = (found, refl)
 
 pub more_small : (s : State) (reading : Reading) (t : LineTurn) (past : Past) → IsSpelledReading reading → HasListenerIds past → HasListenerIds (and_heard s reading t past)
 more_small s (Refused refusal) t past spelled small = small
-more_small s (an_event e) t past spelled small = by (is_none t.cause)
+more_small s (an_event e) t past spelled small = by (is_heard (refusal_in t.cause))
   where
     by : (b : Bool) → HasListenerIds (if b then entry_of s e t ∷ past else past)
     by true = λ id view is.

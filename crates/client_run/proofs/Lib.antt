@@ -2,6 +2,7 @@ pub mod Began
 pub mod Handling
 pub mod Histories
 pub mod Honest
+pub mod Ordering
 pub mod Served
 pub mod Surviving
 pub mod Texts

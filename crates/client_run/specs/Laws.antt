@@ -10,7 +10,8 @@ use Rattle.sync_engine.specs.Past.{Past, listener}
 use Rattle.sync_engine.specs.Writing.{first_batch}
 use Rattle.target_cache.specs.Cache.{id_at}
 use Rattle.views.specs.Viewed.{Viewed}
-use Rattle.client_run.specs.History.{AreTurns, History, readings_of}
+use Rattle.sync_engine.specs.Order.{IsInOrder}
+use Rattle.client_run.specs.History.{AreTurns, History, heard, readings_of}
 use Rattle.client_run.specs.Printed.{printed}
 use Rattle.client_run.specs.Turn.{IsLineTurn, LineTurn}
 
@@ -38,3 +39,8 @@ ATurnReportsWithin = (root : Root) (s : State) (past : Past) (reading : Reading)
     → IsCounted s → HasListenerIds past → number < 2 ^ 64
     → IsSpelledReading reading → IsLineTurn root s past reading t
     → ReportedWithin (after s t.commit).number (printed root number t)
+
+-- In every run the pending batches went out in order on the stream of writes, none skipped, and left in order.
+abbrev pub RunsWriteInOrder : Type 0
+RunsWriteInOrder = (root : Root) (first : State) (history : History) → AreTurns root first history
+    → IsInOrder first (heard history)

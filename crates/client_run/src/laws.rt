@@ -1,6 +1,6 @@
 //! Laws of runs. These functions do nothing: their contracts are the laws.
 
-ghost use Rattle.client_run.specs.Laws.{AHistoryIsOne, ATurnReportsWithin};
+ghost use Rattle.client_run.specs.Laws.{AHistoryIsOne, ATurnReportsWithin, RunsWriteInOrder};
 
 /// Lines have one history: the readings and the state before them determine every turn.
 pub fn a_history_is_one()
@@ -10,4 +10,9 @@ pub fn a_history_is_one()
 /// No whole line that a turn writes reports a number above that of the state after its commit.
 pub fn a_turn_reports_within()
     ensures { ATurnReportsWithin }
+{}
+
+/// In every run the pending batches go out in order on the stream of writes, none skipped, and leave in order.
+pub fn runs_write_in_order()
+    ensures { RunsWriteInOrder }
 {}

@@ -186,6 +186,9 @@ required_ascending : (kind : Object) → ascending (required kind) ≡ true
 required_ascending object.WriteLine = refl
 required_ascending object.GetLine = refl
 required_ascending object.ListenLine = refl
+required_ascending object.OpenLine = refl
+required_ascending object.CloseLine = refl
+required_ascending object.TimerLine = refl
 required_ascending object.Update = refl
 required_ascending object.Transform = refl
 required_ascending object.ArrayTransform = refl

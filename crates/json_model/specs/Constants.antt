@@ -1,4 +1,4 @@
--- Texts that stand as constants, as google.firestore.v1 spells them in proto3 JSON.
+-- Texts that stand as constants, as google.firestore.v1 spells them in proto3 JSON, and those of the lines.
 use Rattle.std.specs.Prelude.{ℕ, List, Bool, false, ◌||◌, codes}
 use Rattle.std.specs.Str.{bytes_eq}
 use Rattle.json_model.specs.declared.place.Constants.{Constants}
@@ -24,6 +24,14 @@ is_direction text = bytes_eq text (codes "ASCENDING") || (bytes_eq text (codes "
 unfoldable pub is_change_type : List ℕ → Bool
 is_change_type text = bytes_eq text (codes "ADD") || (bytes_eq text (codes "CURRENT") || (bytes_eq text (codes "NO_CHANGE") || (bytes_eq text (codes "REMOVE") || bytes_eq text (codes "RESET"))))
 
+-- the name of a stream of the backend
+unfoldable pub is_stream_name : List ℕ → Bool
+is_stream_name text = bytes_eq text (codes "watch") || bytes_eq text (codes "write")
+
+-- the name of a timer
+unfoldable pub is_timer_name : List ℕ → Bool
+is_timer_name text = bytes_eq text (codes "online")
+
 -- a test that isn't supported
 unfoldable pub is_untaken_test : List ℕ → Bool
 is_untaken_test text = bytes_eq text (codes "IS_NAN") || bytes_eq text (codes "IS_NOT_NAN")
@@ -39,6 +47,8 @@ is_constant constants.Operator text = is_operator text
 is_constant constants.Test text = is_test text
 is_constant constants.Direction text = is_direction text
 is_constant constants.ChangeType text = is_change_type text
+is_constant constants.StreamName text = is_stream_name text
+is_constant constants.TimerName text = is_timer_name text
 
 -- it is one that isn't supported
 abbrev pub is_untaken : Constants → List ℕ → Bool

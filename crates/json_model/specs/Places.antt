@@ -35,18 +35,19 @@ value_rows =
     (codes "timestampValue", a_leaf leaf.Time) ∷
     []
 
--- the lines, by the name of their only member
+-- The lines, by the name of their only member. What the messages `watch` and `written` hold is read by the backend's side, and
+-- not with the line.
 unfoldable pub line_rows : List Row
 line_rows =
-    (codes "close", Unsupported) ∷
+    (codes "close", an_object object.CloseLine) ∷
     (codes "get", an_object object.GetLine) ∷
     (codes "listen", an_object object.ListenLine) ∷
-    (codes "open", Unsupported) ∷
-    (codes "timer", Unsupported) ∷
+    (codes "open", an_object object.OpenLine) ∷
+    (codes "timer", an_object object.TimerLine) ∷
     (codes "unlisten", an_object object.UnlistenLine) ∷
-    (codes "watch", Unsupported) ∷
+    (codes "watch", Ignored) ∷
     (codes "write", an_object object.WriteLine) ∷
-    (codes "written", Unsupported) ∷
+    (codes "written", Ignored) ∷
     []
 
 -- what `write` holds
@@ -56,12 +57,6 @@ write_line_rows =
     (codes "writes", a_series series.Writes) ∷
     []
 
--- what `get` holds
-unfoldable pub get_line_rows : List Row
-get_line_rows =
-    (codes "name", a_leaf leaf.Name) ∷
-    []
-
 -- what `listen` holds
 unfoldable pub listen_line_rows : List Row
 listen_line_rows =
@@ -69,10 +64,11 @@ listen_line_rows =
     (codes "target", an_object object.Target) ∷
     []
 
--- what `unlisten` holds
-unfoldable pub unlisten_line_rows : List Row
-unlisten_line_rows =
-    (codes "id", a_leaf leaf.ListenerId) ∷
+-- what `close` holds
+unfoldable pub close_line_rows : List Row
+close_line_rows =
+    (codes "status", an_object object.Status) ∷
+    (codes "stream", a_leaf (leaf.Constant constants.StreamName)) ∷
     []
 
 -- a write
@@ -300,6 +296,10 @@ value_member name = placed value_rows name
 abbrev pub has_one_member : Object → Bool
 has_one_member object.Array = true
 has_one_member object.Map = true
+has_one_member object.GetLine = true
+has_one_member object.UnlistenLine = true
+has_one_member object.OpenLine = true
+has_one_member object.TimerLine = true
 has_one_member object.Elements = true
 has_one_member object.Documents = true
 has_one_member object.Field = true
@@ -313,9 +313,12 @@ member_place object.Map name = if bytes_eq name (codes "fields") then an_object 
 member_place object.Fields name = an_object object.Value
 member_place object.Line name = placed line_rows name
 member_place object.WriteLine name = placed write_line_rows name
-member_place object.GetLine name = placed get_line_rows name
+member_place object.GetLine name = if bytes_eq name (codes "name") then a_leaf leaf.Name else Unknown
 member_place object.ListenLine name = placed listen_line_rows name
-member_place object.UnlistenLine name = placed unlisten_line_rows name
+member_place object.UnlistenLine name = if bytes_eq name (codes "id") then a_leaf leaf.ListenerId else Unknown
+member_place object.OpenLine name = if bytes_eq name (codes "stream") then a_leaf (leaf.Constant constants.StreamName) else Unknown
+member_place object.CloseLine name = placed close_line_rows name
+member_place object.TimerLine name = if bytes_eq name (codes "name") then a_leaf (leaf.Constant constants.TimerName) else Unknown
 member_place object.Write name = placed write_rows name
 member_place object.DeleteWrite name = placed delete_write_rows name
 member_place object.Update name = placed update_rows name
@@ -372,6 +375,9 @@ abbrev pub required : Object → List (List ℕ)
 required object.WriteLine = codes "at" ∷ []
 required object.GetLine = codes "name" ∷ []
 required object.ListenLine = codes "target" ∷ []
+required object.OpenLine = codes "stream" ∷ []
+required object.CloseLine = codes "stream" ∷ []
+required object.TimerLine = codes "name" ∷ []
 required object.Update = codes "name" ∷ []
 required object.Transform = codes "fieldPath" ∷ []
 required object.ArrayTransform = codes "fieldPath" ∷ []

@@ -77,6 +77,26 @@ fn is_change_type(text: &str) -> bool
     }
 }
 
+/// Whether it is the name of a stream of the backend.
+#[tactic(auto, unfolding(crate::specs::Constants::is_stream_name))]
+fn is_stream_name(text: &str) -> bool
+    ensures { result ≡ constants.is_stream_name text.now }
+{
+    match text {
+        "watch" => true,
+        "write" => true,
+        _ => false,
+    }
+}
+
+/// Whether it is the name of a timer.
+#[tactic(auto, unfolding(crate::specs::Constants::is_timer_name))]
+fn is_timer_name(text: &str) -> bool
+    ensures { result ≡ constants.is_timer_name text.now }
+{
+    text == "online"
+}
+
 /// Whether it is a test of a field that isn't supported.
 #[tactic(auto, unfolding(crate::specs::Constants::is_untaken_test))]
 fn is_untaken_test(text: &str) -> bool
@@ -112,6 +132,8 @@ pub(crate) fn is_constant(which: Constants, text: &str) -> bool
         Constants::Test => is_test(text),
         Constants::Direction => is_direction(text),
         Constants::ChangeType => is_change_type(text),
+        Constants::StreamName => is_stream_name(text),
+        Constants::TimerName => is_timer_name(text),
     }
 }
 

@@ -43,6 +43,12 @@ pub enum Object {
     ListenLine,
     /// What `unlisten` holds.
     UnlistenLine,
+    /// What `open` holds.
+    OpenLine,
+    /// What `close` holds.
+    CloseLine,
+    /// What `timer` holds.
+    TimerLine,
     /// A write: an update, or by its members a `DeleteWrite`.
     Write,
     /// A write that deletes.
@@ -192,6 +198,10 @@ pub enum Constants {
     Direction,
     /// What became of targets.
     ChangeType,
+    /// The name of a stream of the backend.
+    StreamName,
+    /// The name of a timer.
+    TimerName,
 }
 
 impl Place {

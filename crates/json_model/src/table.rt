@@ -26,21 +26,22 @@ pub fn value_member(name: &str) -> Place
     }
 }
 
-/// The lines, by the name of their only member.
+/// The lines, by the name of their only member. What the messages `watch` and `written` hold is read by the backend's side, and
+/// not with the line.
 #[tactic(auto, unfolding(crate::specs::Places::line_rows))]
 fn line_member(name: &str) -> Place
     ensures { result ≡ table.placed table.line_rows name.now }
 {
     match name {
-        "close" => Place::Unsupported,
+        "close" => Place::Object(Object::CloseLine),
         "get" => Place::Object(Object::GetLine),
         "listen" => Place::Object(Object::ListenLine),
-        "open" => Place::Unsupported,
-        "timer" => Place::Unsupported,
+        "open" => Place::Object(Object::OpenLine),
+        "timer" => Place::Object(Object::TimerLine),
         "unlisten" => Place::Object(Object::UnlistenLine),
-        "watch" => Place::Unsupported,
+        "watch" => Place::Ignored,
         "write" => Place::Object(Object::WriteLine),
-        "written" => Place::Unsupported,
+        "written" => Place::Ignored,
         _ => Place::Unknown,
     }
 }
@@ -57,17 +58,6 @@ fn write_line_member(name: &str) -> Place
     }
 }
 
-/// What `get` holds.
-#[tactic(auto, unfolding(crate::specs::Places::get_line_rows))]
-fn get_line_member(name: &str) -> Place
-    ensures { result ≡ table.placed table.get_line_rows name.now }
-{
-    match name {
-        "name" => Place::Leaf(Leaf::Name),
-        _ => Place::Unknown,
-    }
-}
-
 /// What `listen` holds.
 #[tactic(auto, unfolding(crate::specs::Places::listen_line_rows))]
 fn listen_line_member(name: &str) -> Place
@@ -80,13 +70,14 @@ fn listen_line_member(name: &str) -> Place
     }
 }
 
-/// What `unlisten` holds.
-#[tactic(auto, unfolding(crate::specs::Places::unlisten_line_rows))]
-fn unlisten_line_member(name: &str) -> Place
-    ensures { result ≡ table.placed table.unlisten_line_rows name.now }
+/// What `close` holds.
+#[tactic(auto, unfolding(crate::specs::Places::close_line_rows))]
+fn close_line_member(name: &str) -> Place
+    ensures { result ≡ table.placed table.close_line_rows name.now }
 {
     match name {
-        "id" => Place::Leaf(Leaf::ListenerId),
+        "status" => Place::Object(Object::Status),
+        "stream" => Place::Leaf(Leaf::Constant(Constants::StreamName)),
         _ => Place::Unknown,
     }
 }
@@ -453,6 +444,12 @@ fn lone_member(object: Object, name: &str) -> Place
     match object {
         Object::Array | Object::Elements if name == "values" => Place::Series(Series::Values),
         Object::Map if name == "fields" => Place::Object(Object::Fields),
+        Object::GetLine if name == "name" => Place::Leaf(Leaf::Name),
+        Object::UnlistenLine if name == "id" => Place::Leaf(Leaf::ListenerId),
+        Object::OpenLine if name == "stream" => {
+            Place::Leaf(Leaf::Constant(Constants::StreamName))
+        }
+        Object::TimerLine if name == "name" => Place::Leaf(Leaf::Constant(Constants::TimerName)),
         Object::Documents if name == "documents" => Place::Series(Series::Names),
         Object::Field if name == "fieldPath" => Place::Leaf(Leaf::QueryPath),
         _ => Place::Unknown,
@@ -465,15 +462,11 @@ pub fn member_place(object: Object, name: &str) -> Place
 {
     match object {
         Object::Value => value_member(name),
-        Object::Array | Object::Elements | Object::Map | Object::Documents | Object::Field => {
-            lone_member(object, name)
-        }
         Object::Fields => Place::Object(Object::Value),
         Object::Line => line_member(name),
         Object::WriteLine => write_line_member(name),
-        Object::GetLine => get_line_member(name),
         Object::ListenLine => listen_line_member(name),
-        Object::UnlistenLine => unlisten_line_member(name),
+        Object::CloseLine => close_line_member(name),
         Object::Write => write_member(name),
         Object::DeleteWrite => delete_write_member(name),
         Object::Update => update_member(name),
@@ -502,6 +495,7 @@ pub fn member_place(object: Object, name: &str) -> Place
         Object::WriteResponse => write_response_member(name),
         Object::WriteResult => write_result_member(name),
         Object::ListOperand => Place::Unknown,
+        _ => lone_member(object, name),
     }
 }
 
@@ -531,6 +525,9 @@ pub fn required(object: Object) -> &'static [&'static str]
         Object::WriteLine => &["at"],
         Object::GetLine => &["name"],
         Object::ListenLine => &["target"],
+        Object::OpenLine => &["stream"],
+        Object::CloseLine => &["stream"],
+        Object::TimerLine => &["name"],
         Object::Update => &["name"],
         Object::Transform => &["fieldPath"],
         Object::ArrayTransform => &["fieldPath"],

@@ -3,6 +3,7 @@ pub mod Committed
 pub mod Gathering
 pub mod Handing
 pub mod Ones
+pub mod Ordered
 pub mod Quiet
 pub mod Requests
 pub mod Sent

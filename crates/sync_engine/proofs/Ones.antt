@@ -2,7 +2,7 @@
 use Rattle.std.proofs.Common.{◌≡◌, ◌↔◌, ◌⊎◌, ⊎_elim, inl, inr, ℕ, ◌<◌, ℤ, Bool, true, false, IsTrue, nat_eq, suc, List, [], ◌∷◌, ◌++◌, length, Option, Some, None, if◌then◌else◌, refl, sym, ap, subst, ◌∙◌, arith}
 use Rattle.std.specs.List.{All, AllPairs, Contains}
 use Rattle.std.specs.Prelude.{nat_lt}
-use Rattle.std.proofs.lemmas.Bool.{eqb-true, eq-eqb, eqb-false, ltb-true, ltb-false}
+use Rattle.std.proofs.lemmas.Bool.{eqb-true, eq-eqb, eqb-false, ltb-true, ltb-false, true≢false}
 use Rattle.std.proofs.lemmas.Option.{none-some}
 use Rattle.std.proofs.lemmas.List.Elements.{All-nil, All-cons, All-head, All-tail, All-weaker, All-from_get_or}
 use Rattle.document_keys.specs.Names.{Root}
@@ -23,9 +23,24 @@ use Rattle.sync_engine.specs.Answers.{Answers, Begins, listens}
 use Rattle.sync_engine.specs.Turns.{after}
 use Rattle.sync_engine.specs.Laws.{ATurnIsOne}
 use Rattle.sync_engine.specs.Lines.{Told}
-use Rattle.sync_engine.specs.Past.{Turn, Past, listener, asked}
+use Rattle.sync_engine.specs.Past.{Turn, Past, listener, asked, steps_of}
+use Rattle.sync_engine.specs.Turns.{refused}
+use Rattle.sync_engine.specs.Writing.{IsWritten, WrittenTurn, acknowledges, fails, first_batch, is_open, member_name, settles, shakes}
+use Rattle.sync_engine.specs.declared.refusal.Refusal.TheVariants.{BadMessage}
+use Rattle.mutations.specs.declared.batch.Batch.{Batch}
+use Rattle.mutations.specs.Results.{FitsWrites}
+use Rattle.mutations.specs.declared.results.WriteResponse.{WriteResponse}
+use Rattle.mutations.specs.declared.results.WriteResult.{WriteResult}
+use Rattle.mutations.specs.declared.write.Write.{Write}
+use Rattle.value_model.specs.declared.message.StreamName.TheVariants as stream
+use Rattle.write_pipeline.specs.Order.{Steps, is_ready, outstanding}
+use Rattle.write_pipeline.specs.Standing.{Fails, Fits, HasResults, HasTransforms}
+use Rattle.write_pipeline.specs.declared.answer.Answer.{Answer}
+use Rattle.write_pipeline.specs.declared.answer.Answer.TheVariants.{Handshake, Acknowledges}
+use Rattle.write_pipeline.specs.declared.answer.WriteMember.{WriteMember}
+use Rattle.write_pipeline.specs.declared.answer.WriteMember.TheVariants.{WriteResults, CommitTime, TransformResults}
 use Rattle.sync_engine.specs.Settling.{MayStart, offline, Shows, ShowsAt, Settles, IsBelow, raised_by, told_to}
-use Rattle.sync_engine.specs.Turn.{IsTurn, Settled, SettlesAfter, with_snapshots}
+use Rattle.sync_engine.specs.Turn.{IsSettled, Settled, SettlesAfter, with_requests, with_snapshots}
 use Rattle.sync_engine.specs.declared.refusal.Refusal.{Refusal}
 
 -- ---- what is shown of one listener
@@ -127,11 +142,72 @@ begins_one : (s : State) (id : ℕ) (query : Target) (view : Option Viewed) (t u
 begins_one s id query (Some view) t u first second = first ∙ sym second
 begins_one s id query None t u first second = first.2 ∙ ap (listens s id query) (tells_one s.rows query first.0 second.0 first.1 second.1) ∙ sym second.2
 
+-- ---- a message on the stream of writes
+
+some_same : {A : Type 0} (x y : A) → Some x ≡ Some y → x ≡ y
+some_same x y same = cc
+
+fits_length : (writes : List Write) (results : List WriteResult) → FitsWrites writes results → length writes ≡ length results
+fits_length [] [] fits = refl
+fits_length [] (r ∷ results) fits = absurd fits
+fits_length (w ∷ writes) [] fits = absurd fits
+fits_length (w ∷ writes) (r ∷ results) fits = ap suc (fits_length writes results fits.1)
+
+-- a message that fits doesn't fail
+fits_or_fails : (h : Steps) (first : Option Batch) (response : WriteResponse) (answer : Answer) (member : WriteMember) → Fits h first response answer → Fails h first response member → ⊥
+fits_or_fails h first response Handshake WriteResults fits not = ⊎_elim (λ some. some.1 fits.1) (λ late. true≢false (sym late.0 ∙ fits.0)) not
+fits_or_fails h first response Handshake CommitTime fits not = true≢false (sym not.0 ∙ fits.0)
+fits_or_fails h first response Handshake TransformResults fits not = true≢false (sym not.0 ∙ fits.0)
+fits_or_fails h first response Acknowledges WriteResults fits not = ⊎_elim (λ early. true≢false (sym fits.0 ∙ early.0)) (λ late. ⊎_elim (λ none. let some = fits.1 in omega (arith, none, some)) (λ no. no (has first fits.2)) late.1) not
+  where
+    has : (found : Option Batch) → HasTransforms found response → HasResults found response
+    has None it = it
+    has (Some batch) it = sym (fits_length batch.writes response.results it)
+fits_or_fails h first response Acknowledges CommitTime fits not = fits.3 not.3
+fits_or_fails h first response Acknowledges TransformResults fits not = not.4 fits.2
+
+too_early : (h : Steps) (first : Option Batch) (response : WriteResponse) → Fails h first response WriteResults → is_ready h ≡ true → 0 < outstanding h → HasResults first response → ⊥
+too_early h first response not ready some has = ⊎_elim (λ early. true≢false (sym ready ∙ early.0)) (λ late. ⊎_elim (λ none. omega (arith, none, some)) (λ no. no has) late.1) not
+
+member_one : (h : Steps) (first : Option Batch) (response : WriteResponse) (a b : WriteMember) → Fails h first response a → Fails h first response b → a ≡ b
+member_one h first response WriteResults WriteResults one two = refl
+member_one h first response CommitTime CommitTime one two = refl
+member_one h first response TransformResults TransformResults one two = refl
+member_one h first response WriteResults CommitTime one two = absurd (too_early h first response one two.0 two.1 two.2)
+member_one h first response WriteResults TransformResults one two = absurd (too_early h first response one two.0 two.1 two.2)
+member_one h first response CommitTime WriteResults one two = absurd (too_early h first response two one.0 one.1 one.2)
+member_one h first response TransformResults WriteResults one two = absurd (too_early h first response two one.0 one.1 one.2)
+member_one h first response CommitTime TransformResults one two = absurd (two.3 one.3)
+member_one h first response TransformResults CommitTime one two = absurd (one.3 two.3)
+
+written_one : (s : State) (h : Steps) (response : WriteResponse) (t u : Turn) → IsWritten s h response t → IsWritten s h response u → t ≡ u
+written_one s h response t u (shakes fits is) (shakes fits_too is_too) = is ∙ sym is_too
+written_one s h response t u (shakes fits is) (acknowledges batch time first at fits_too is_too) = absurd (true≢false (sym fits_too.0 ∙ fits.0))
+written_one s h response t u (shakes fits is) (fails member not is_too) = absurd (fits_or_fails h (first_batch s) response Handshake member fits not)
+written_one s h response t u (acknowledges batch time first at fits is) (shakes fits_too is_too) = absurd (true≢false (sym fits.0 ∙ fits_too.0))
+written_one s h response t u (acknowledges batch time first at fits is) (acknowledges other later first_too at_too fits_too is_too) =
+    let batches : batch ≡ other = some_same batch other (sym first ∙ first_too) in
+    let times : time ≡ later = some_same time later (sym at ∙ at_too) in
+    is ∙ (λ i. settles s (batches i).id (times i) response.results) ∙ sym is_too
+written_one s h response t u (acknowledges batch time first at fits is) (fails member not is_too) = absurd (fits_or_fails h (first_batch s) response Acknowledges member fits not)
+written_one s h response t u (fails member not is) (shakes fits is_too) = absurd (fits_or_fails h (first_batch s) response Handshake member fits not)
+written_one s h response t u (fails member not is) (acknowledges batch time first at fits is_too) = absurd (fits_or_fails h (first_batch s) response Acknowledges member fits not)
+written_one s h response t u (fails member not is) (fails other not_too is_too) =
+    is ∙ ap (λ (m : WriteMember). refused (BadMessage stream.Write (member_name m))) (member_one h (first_batch s) response member other not not_too) ∙ sym is_too
+
+message_one : (s : State) (h : Steps) (response : WriteResponse) (open : Bool) (t u : Turn) → WrittenTurn s h response open t → WrittenTurn s h response open u → t ≡ u
+message_one s h response true t u first second = written_one s h response t u first second
+message_one s h response false t u first second = first ∙ sym second
+
 pub answers_one : (s : State) (past : Past) (e : Event) (t u : Turn) → Answers s past e t → Answers s past e u → t ≡ u
 answers_one s past (event.Write at writes) t u first second = first ∙ sym second
 answers_one s past (event.Get key) t u first second = first ∙ sym second
 answers_one s past (event.Listen id query) t u first second = begins_one s id query (listener id past) t u first second
 answers_one s past (event.Unlisten id) t u first second = first ∙ sym second
+answers_one s past (event.Opened name) t u first second = first ∙ sym second
+answers_one s past (event.Closed name status) t u first second = first ∙ sym second
+answers_one s past (event.Written response) t u first second = message_one s (steps_of past) response (is_open (steps_of past)) t u first second
+answers_one s past (event.BadMessage name member) t u first second = first ∙ sym second
 
 -- ---- the turn
 
@@ -143,7 +219,11 @@ after_one : (root : Root) (s : State) (past : Past) (e : Event) (answer : Turn) 
 after_one root s past e answer None t u first second = settled_one root s past e answer t u first second
 after_one root s past e answer (Some refusal) t u first second = first ∙ sym second
 
-pub a_turn_is_one : ATurnIsOne
-a_turn_is_one root s past e t u first second =
+settled_is_one : (root : Root) (s : State) (past : Past) (e : Event) (t u : Turn) → IsSettled root s past e t → IsSettled root s past e u → t ≡ u
+settled_is_one root s past e t u first second =
     let same = answers_one s past e first.answer second.answer first.answers second.answers in
     after_one root s past e second.answer second.answer.refusal t u (subst (λ (a : Turn). SettlesAfter root s past e a a.refusal t) same first.settles) second.settles
+
+pub a_turn_is_one : ATurnIsOne
+a_turn_is_one root s past e t u first second =
+    first.is ∙ ap (with_requests s past e) (settled_is_one root s past e first.settled second.settled first.is_settled second.is_settled) ∙ sym second.is

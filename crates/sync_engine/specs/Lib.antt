@@ -2,6 +2,7 @@ pub mod Answers
 pub mod Concerned
 pub mod Laws
 pub mod Lines
+pub mod Order
 pub mod Past
 pub mod Sending
 pub mod Settling

@@ -22,6 +22,6 @@ mod writing;
 
 pub use client::Client;
 pub use fault::ClientFault;
-pub use laws::a_turn_is_one;
+pub use laws::{a_turn_is_one, writes_go_in_order};
 pub use out::{Out, Outcome};
 pub use refusal::Refusal;

@@ -45,7 +45,7 @@ impl WriteStream {
     pub(crate) fn came(&mut self, answer: Answer, token: Bytes)
         ensures { GoesOn self.old self.new (λ h. step.kept token ∷ step_of answer ∷ h) }
     {
-        self.pipeline.take(answer);
+        self.pipeline.accept(answer);
         self.pipeline.keep_token(token);
     }
 }
