@@ -380,13 +380,13 @@ def shortened(lines):
 
 
 def built_items(chance, trees, count, reader):
-    """The lines of a run, one by one; each is answered by the reader before the next is built."""
+    """The lines of a run, one by one; each is answered by the reader before the next is built. In some runs few are of the stream."""
+    of_stream = chance.choice([0.05, 0.2, 0.35, 0.5])
     for _ in range(count):
-        kind = chance.random()
-        if kind < 0.35:
+        if chance.random() < of_stream:
             line = built_message(chance, reader.stream, reader.store.pending)
         else:
-            line = built_line(chance) if kind < 0.75 else random_line(chance, trees)
+            line = built_line(chance) if chance.random() < 0.6 else random_line(chance, trees)
         yield from line.split(b"\n")
 
 

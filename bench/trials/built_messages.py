@@ -60,7 +60,7 @@ def over_known(chance, value):
 
 def built_returned(chance, wrong, transform):
     """What a transform returned."""
-    if chance.random() < wrong / 3:
+    if chance.random() < wrong:
         return chance.choice([dict([chance.choice(WRONG)]), built_value(chance, wrong, 2), nested_value(chance, {"integerValue": "1"}), None, 5, {}])
     if any(transform.get(name) is not None for name in OF_ARRAYS):
         value = chance.choice([{"nullValue": None}, {"nullValue": None}, {"arrayValue": {"values": [{"integerValue": 1}]}}, {"mapValue": {}}])
