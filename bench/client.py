@@ -83,7 +83,7 @@ class Client:
         return seconds, self.used() - before, last
 
     def tell(self, line, printed):
-        """Gives the program one line, which prints so many; gives the seconds up to the last of them, those of the processor, and the last."""
+        """Feeds one line, as `ask` does, without a thread beside it."""
         before, started = self.used(), time.monotonic()
         self.process.stdin.write(line)
         self.process.stdin.flush()

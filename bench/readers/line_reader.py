@@ -7,10 +7,11 @@
 `compare` feeds the program the damaged lines of fuzz_lines.py, lines that are built with several faults at once (built_lines.py), and
 openings, closings and messages of the stream of writes, many of which fit what is outstanding by then (built_messages.py). What it prints
 must be, byte for byte, what this reader prints: the numbers of an `ok`, the printed document with the pending writes laid over it, the
-number, the member and the name of a refusal, the snapshots that a line raises, and the requests that it sends. A store has two runs, one behind the
-other; then its journal must have the targets of all listeners, with their whole lists of orders, and give the same documents. What writes make of a document is worked out here by what stands
-at each path, and not by setting one path after another; what a query answers, by who comes before each document. `answer` prints what
-this reader prints for lines over an empty store. The JSON itself is read by Python's json.
+number, the member and the name of a refusal, the snapshots that a line raises, and the requests that it sends. A store has two runs,
+one behind the other; behind each its journal must have the targets of all listeners, with their whole lists of orders, the pending
+batches, and give the same documents. What writes make of a document is worked out here by what stands at each path, and not by setting
+one path after another; what a query answers, by who comes before each document. `answer` prints what this reader prints for lines over
+an empty store. The JSON itself is read by Python's json.
 """
 import argparse
 import json
