@@ -148,11 +148,11 @@ module _ (root : Root) (number : ℕ) (s : State) (past : Past) (counted : IsCou
 
   -- ---- the stream of writes
 
-  opened_within : (name : StreamName) (open : Bool) → AnswerWithin root number s (opened_turn name open)
+  opened_within : (name : StreamName) (opening : Bool) → AnswerWithin root number s (opened_turn name opening)
   opened_within name true = refused_answer root number s (StreamState name true) few tt
   opened_within name false = record { refusal = within_nothing s.number; lines = one_answer root s.number (send the_first) (within.send_write_within s.number root the_first) }
 
-  bad_within : (name : StreamName) (member : List ℕ) (open : Bool) → AnswerWithin root number s (bad_turn name member open)
+  bad_within : (name : StreamName) (member : List ℕ) (opening : Bool) → AnswerWithin root number s (bad_turn name member opening)
   bad_within name member true = refused_answer root number s (BadMessage name member) few tt
   bad_within name member false = refused_answer root number s (StreamState name false) few tt
 
@@ -173,7 +173,7 @@ module _ (root : Root) (number : ℕ) (s : State) (past : Past) (counted : IsCou
   closes_within status small KeepsAll = nothing_said
   closes_within status small Rejects = rejects_within status small (first_batch s) counted.first
 
-  closed_within : (h : Steps) (name : StreamName) (status : RpcStatus) → status.code < 2 ^ 8 → (open : Bool) → AnswerWithin root number s (closed_turn s h name status open)
+  closed_within : (h : Steps) (name : StreamName) (status : RpcStatus) → status.code < 2 ^ 8 → (opening : Bool) → AnswerWithin root number s (closed_turn s h name status opening)
   closed_within h name status small true = closes_within status small (closing_of h status.code)
   closed_within h name status small false = refused_answer root number s (StreamState name false) few tt
 
@@ -186,7 +186,7 @@ module _ (root : Root) (number : ℕ) (s : State) (past : Past) (counted : IsCou
           record { refusal = within_nothing (s.number + 1); lines = one_answer root (s.number + 1) (result batch (s.number + 1) time) (within.result_within batch (s.number + 1) time bound (omega (arith, less))) }
       by false is = refused_answer root number s IdsSpent few tt
 
-  written_within : (h : Steps) (response : WriteResponse) (open : Bool) (t : Turn) → WrittenTurn s h response open t → AnswerWithin root number s t
+  written_within : (h : Steps) (response : WriteResponse) (opening : Bool) (t : Turn) → WrittenTurn s h response opening t → AnswerWithin root number s t
   written_within h response true t (shakes fits is) = subst (AnswerWithin root number s) (sym is) nothing_said
   written_within h response true t (acknowledges batch time first at fits is) =
       subst (AnswerWithin root number s) (sym is) (settles_within batch.id time response.results (subst (λ (b : Option Batch). IfSome b (λ x. x.id < 2 ^ 64)) first counted.first))

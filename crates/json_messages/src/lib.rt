@@ -4,7 +4,7 @@
 //! The form of such a tree is a table of `json_model`, by whose walk its faults are found. `read_listen_response` and
 //! `read_write_response` read what the backend sends, `read_status` the status of a call that ended, and each has a total reader
 //! over trees without faults (`clean_listen_response`). `print_listen_request` and `print_write_request` print what the client
-//! asks, `print_status` what its lines tell. `parts` has members that may be left out, `target_change` and `document` the kinds
+//! asks, `print_batch_request` that of a batch that is lent, `print_status` what its lines tell. `parts` has members that may be left out, `target_change` and `document` the kinds
 //! of a watch stream's message.
 #![tactic(auto)]
 
@@ -22,5 +22,5 @@ pub use laws::{a_tree_spells_one_answer, a_tree_spells_one_response, a_tree_spel
 pub use listen_request::print_listen_request;
 pub use listen_response::{clean_listen_response, read_listen_response};
 pub use status::{clean_status, print_status, read_status};
-pub use write_request::print_write_request;
+pub use write_request::{print_batch_request, print_write_request};
 pub use write_response::{clean_write_response, read_write_response};

@@ -9,6 +9,7 @@ ghost use Rattle.json_model.specs.Forms.{present, printed_each, unless_empty as 
 ghost use Rattle.json_model.specs.Trees.{one};
 ghost use Rattle.json_rpc.specs.Printed.{printed_write};
 ghost use Rattle.json_messages.specs.Printed.{printed_token, printed_write_request};
+ghost use Rattle.mutations.specs.declared.results.WriteRequest.TheVariants.{Batch};
 
 use crate::parts::token_tree;
 use document_keys::{Database, NoMemory};
@@ -56,6 +57,25 @@ fn handshake_json(alloc: Global, database: &str) -> Result<Json, AllocError>
     json!(in alloc; {"database": database})
 }
 
+/// The tree of a request with the token of the message before it and the writes of a batch, with the names of documents under
+/// the root. It has no floats.
+///
+/// # Errors
+/// `NoMemory`
+pub fn print_batch_request(
+    alloc: Global,
+    root: &Database,
+    token: &[u8],
+    writes: &[Write],
+) -> Result<Json, NoMemory>
+    ensures tree { IfOk result (λ json. view json
+        ≡ printed_write_request root.now (Batch token.now writes.now)) }
+    ensures digits { IfOk result (λ json. has_float (view json) ≡ false) }
+{
+    let members = print_batch(alloc, root, token, writes)?;
+    Ok(Json::Object(members))
+}
+
 /// The tree of a request.
 fn print_tree(alloc: Global, root: &Database, request: &WriteRequest) -> Result<Json, NoMemory>
     ensures { IfOk result (λ json. view json ≡ printed_write_request root.now request.now) }
@@ -63,8 +83,7 @@ fn print_tree(alloc: Global, root: &Database, request: &WriteRequest) -> Result<
     match request {
         WriteRequest::Handshake => Ok(handshake_json(alloc, root.as_str())?),
         WriteRequest::Batch { token, writes } => {
-            let members = print_batch(alloc, root, token.as_slice(), writes.as_slice())?;
-            Ok(Json::Object(members))
+            print_batch_request(alloc, root, token.as_slice(), writes.as_slice())
         }
     }
 }

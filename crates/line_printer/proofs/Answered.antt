@@ -22,7 +22,7 @@ ok_loud reporting IsReporting.in_rejected e = inl refl
 ok_loud reporting IsReporting.in_snapshot e = inl refl
 
 -- what is read as itself has its own commit
-has_own : (d : Data) (n : ℕ) → of_json (outline d) ≡ Some d → commit_in d ≡ Some n → HasCommit d n
+pub has_own : (d : Data) (n : ℕ) → of_json (outline d) ≡ Some d → commit_in d ≡ Some n → HasCommit d n
 has_own d n is commit e found = ap commit_in (sym (Some_inj d e (sym is ∙ found))) ∙ commit
 
 -- ---- whole numbers

@@ -24,7 +24,7 @@ fields_numbers json.no_members numbers = tt
 fields_numbers (json.member name d ms) numbers = (numbers, tt)
 
 mutual
-  value_numbers : (value : Data) → HasNumbers (outline (printed_value value))
+  pub value_numbers : (value : Data) → HasNumbers (outline (printed_value value))
   value_numbers kind.null = (tt, tt)
   value_numbers (kind.array ds) = (values_numbers (printed_items ds) (items_numbers ds), tt)
   value_numbers (kind.map ms) = (fields_numbers (printed_members ms) (members_numbers ms), tt)
@@ -34,7 +34,7 @@ mutual
   items_numbers kind.no_items = tt
   items_numbers (kind.item d ds) = (value_numbers d, items_numbers ds)
 
-  members_numbers : (ms : Members) → MembersHaveNumbers (members_outline (printed_members ms))
+  pub members_numbers : (ms : Members) → MembersHaveNumbers (members_outline (printed_members ms))
   members_numbers kind.no_members = tt
   members_numbers (kind.member name d ms) = (value_numbers d, members_numbers ms)
 

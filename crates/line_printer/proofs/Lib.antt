@@ -1,7 +1,10 @@
 pub mod Answered
 pub mod Breaks
 pub mod Documents
+pub mod Outcomes
 pub mod Parsed
+pub mod Requests
 pub mod Rows
 pub mod Snapshots
+pub mod Streams
 pub mod Within

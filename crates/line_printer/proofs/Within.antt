@@ -60,7 +60,7 @@ line_within most d within = record {
 }
 
 -- an object with one member that reports nothing
-quiet_within : (most : ℕ) (name : List ℕ) (d : json.Data) → HasNumbers (outline d) → IsQuiet name → IsWithin most (line_of (one name d))
+pub quiet_within : (most : ℕ) (name : List ℕ) (d : json.Data) → HasNumbers (outline d) → IsQuiet name → IsWithin most (line_of (one name d))
 quiet_within most name d numbers quiet = line_within most (one name d) (λ n reports. absurd (no_report name d numbers quiet n reports))
 
 -- ---- answers and snapshots
@@ -97,7 +97,7 @@ refused_quiet reporting IsReporting.in_result e = refl
 refused_quiet reporting IsReporting.in_rejected e = refl
 refused_quiet reporting IsReporting.in_snapshot e = refl
 
-refused_within : (most : ℕ) (d : json.Data) → HasNumbers (outline d) → IsWithin most (line_of (one (codes "refused") d))
+pub refused_within : (most : ℕ) (d : json.Data) → HasNumbers (outline d) → IsWithin most (line_of (one (codes "refused") d))
 refused_within most d numbers = quiet_within most (codes "refused") d numbers refused_quiet
 
 pub bad_line_within : (most line : ℕ) (name : List ℕ) → line < 2 ^ 64 → IsWithin most (line_of (bad_line_tree line name))

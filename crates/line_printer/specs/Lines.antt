@@ -1,19 +1,24 @@
 -- The lines that are written, as values and as bytes: compact JSON, members in the order of their
 -- names, each line with its newline.
-use Rattle.std.specs.Prelude.{ℕ, ℤ, true, false, List, [], ◌∷◌, ◌++◌, codes, Option, Some, None, option_map}
+use Rattle.std.specs.Prelude.{ℕ, ℤ, Bool, true, false, List, [], ◌∷◌, ◌++◌, codes, Option, Some, None, option_map}
 use Rattle.serde_json.specs.Data.{Data, boolean, number, unsigned, string, array, object, member}
 use Rattle.serde_json.specs.Find.{of_integer}
 use Rattle.serde_json.specs.Written.{compact_text}
 use Rattle.document_keys.specs.Names.{Root, name_text}
 use Rattle.value_model.specs.declared.document.DocState.{DocState}
 use Rattle.value_model.specs.declared.document.Document.{Document}
+use Rattle.value_model.specs.declared.document.RpcStatus.{RpcStatus}
 use Rattle.value_model.specs.declared.documents.DocRef.{DocRef}
+use Rattle.value_model.specs.declared.message.StreamName.{StreamName}
+use Rattle.value_model.specs.declared.message.StreamName.TheVariants.{Watch, Write}
 use Rattle.value_model.specs.declared.timestamp.Timestamp.{Timestamp}
 use Rattle.value_model.specs.Time.{time_text}
 use Rattle.json_model.specs.Forms.{present, printed_each}
 use Rattle.json_model.specs.Printed.{document_tree as body_tree, printed_document, state_text}
 use Rattle.json_model.specs.declared.fault.NamingFault.{NamingFault}
 use Rattle.json_model.specs.declared.fault.NamingFault.TheVariants.{WrongRoot, BadSegment, OddLength, BadPath, ReservedField}
+use Rattle.json_messages.specs.Printed.{printed_status, printed_write_request}
+use Rattle.mutations.specs.declared.results.WriteRequest.{WriteRequest}
 use Rattle.views.specs.Row.{Row}
 use Rattle.views.specs.declared.change.Change.{Change}
 use Rattle.views.specs.declared.change.Kind.{Kind}
@@ -116,6 +121,27 @@ abbrev pub snapshot_tree : Root → ℕ → ℕ → Option Timestamp → Raised 
 snapshot_tree root id commit read_time raised =
     one (codes "snapshot") (object (present (snapshot_members root id commit read_time raised)))
 
+-- ---- the stream of writes: what became of batches, and what is sent
+
+-- `{"result":{"batch":B,"commit":N,"commitTime":".."}}`
+abbrev pub result_tree : ℕ → ℕ → Timestamp → Data
+result_tree batch commit time =
+    one (codes "result")
+    (three (codes "batch") (count batch) (codes "commit") (count commit)
+    (codes "commitTime") (time_tree time))
+
+-- `{"rejected":{"batch":B,"commit":N,"status":{..}}}`
+abbrev pub rejected_tree : ℕ → ℕ → RpcStatus → Data
+rejected_tree batch commit status =
+    one (codes "rejected")
+    (three (codes "batch") (count batch) (codes "commit") (count commit)
+    (codes "status") (printed_status status))
+
+-- `{"send":{"write":{..}}}`
+abbrev pub send_write_tree : Root → WriteRequest → Data
+send_write_tree root request =
+    one (codes "send") (one (codes "write") (printed_write_request root request))
+
 -- ---- refusals, each with the number of its line in the run, from 1
 
 -- number 1
@@ -182,6 +208,27 @@ listener_taken_tree line id = listener_tree (codes "ListenerTaken") line id 7
 -- number 8
 abbrev pub no_listener_tree : ℕ → ℕ → Data
 no_listener_tree line id = listener_tree (codes "NoListener") line id 8
+
+-- how the name of a stream is printed
+abbrev pub stream_text : StreamName → List ℕ
+stream_text Watch = codes "watch"
+stream_text Write = codes "write"
+
+-- number 9, and whether the stream was open
+abbrev pub stream_state_tree : ℕ → StreamName → Bool → Data
+stream_state_tree line stream is_open =
+    one (codes "refused")
+    (five (codes "cause") (string (codes "StreamState"))
+    (codes "line") (count line) (codes "number") (count 9)
+    (codes "open") (boolean is_open) (codes "stream") (string (stream_text stream)))
+
+-- number 10
+abbrev pub bad_message_tree : ℕ → StreamName → List ℕ → Data
+bad_message_tree line stream name =
+    one (codes "refused")
+    (five (codes "cause") (string (codes "BadMessage"))
+    (codes "line") (count line) (codes "member") (string name) (codes "number") (count 10)
+    (codes "stream") (string (stream_text stream)))
 
 -- number 11
 abbrev pub too_long_tree : ℕ → Data

@@ -6,12 +6,13 @@ use Rattle.serde_json.specs.Find.{get, as_number, as_u64}
 use Rattle.serde_json.specs.Read.{read}
 use Rattle.serde_json.specs.Written.{compact_text}
 use Rattle.document_keys.specs.Names.{Root}
+use Rattle.value_model.specs.declared.document.RpcStatus.{RpcStatus}
 use Rattle.value_model.specs.declared.timestamp.Timestamp.{Timestamp}
 use Rattle.value_model.specs.Data.{entries_depth}
 use Rattle.json_model.specs.Faults.{max_nesting}
 use Rattle.views.specs.Row.{Row}
 use Rattle.views.specs.declared.raised.Raised.{Raised}
-use Rattle.line_printer.specs.Lines.{ok_tree, listening_tree, unlistened_tree, snapshot_tree}
+use Rattle.line_printer.specs.Lines.{ok_tree, listening_tree, unlistened_tree, snapshot_tree, result_tree, rejected_tree}
 
 -- the whole lines of a text without their newlines, where `line` is what the first one begins with
 abbrev pub lines_on : List ℕ → List ℕ → List (List ℕ)
@@ -87,3 +88,14 @@ abbrev pub SnapshotReports : Type 0
 SnapshotReports = (root : Root) (id n : ℕ) (read_time : Option Timestamp) (raised : Raised)
     → id < 2 ^ 64 → n < 2 ^ 64 → All IsShallow raised.rows
     → Reports (compact_text (snapshot_tree root id n read_time raised)) n
+
+-- what is printed where a batch was committed reports the commit that it names
+abbrev pub ResultReports : Type 0
+ResultReports = (batch n : ℕ) (time : Timestamp) → batch < 2 ^ 64 → n < 2 ^ 64
+    → Reports (compact_text (result_tree batch n time)) n
+
+-- what is printed where a batch was rejected reports the commit that it names
+abbrev pub RejectedReports : Type 0
+RejectedReports = (batch n : ℕ) (status : RpcStatus)
+    → batch < 2 ^ 64 → n < 2 ^ 64 → status.code < 2 ^ 64
+    → Reports (compact_text (rejected_tree batch n status)) n

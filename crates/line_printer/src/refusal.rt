@@ -2,14 +2,17 @@
 
 ghost use Rattle.std.specs.Prelude.{◌≡◌, codes, IfOk};
 ghost use Rattle.std.specs.String.{string_bytes};
+ghost use Rattle.serde_json.specs.Data.{boolean, string};
 ghost use Rattle.serde_json.specs.View.{view};
-ghost use Rattle.line_printer.specs.Lines.{line_of, naming_text as naming_text_of, bad_line_tree, bad_name_tree, unsupported_tree, too_deep_tree, bad_writes_tree, bad_query_tree, listener_tree, listener_taken_tree, no_listener_tree, too_long_tree, ids_spent_tree};
+ghost use Rattle.line_printer.specs.Lines.{line_of, count, naming_text as naming_text_of, bad_line_tree, bad_name_tree, unsupported_tree, too_deep_tree, bad_writes_tree, bad_query_tree, listener_tree, listener_taken_tree, no_listener_tree, stream_text as stream_text_of, stream_state_tree, bad_message_tree, too_long_tree, ids_spent_tree};
+ghost use Rattle.line_printer.specs.Trees.{one, five};
 
 use crate::line::print_line;
 use document_keys::NoMemory;
 use json_model::NamingFault;
 use serde_json::{Value as Json, json};
 use std::alloc::{AllocError, Global};
+use value_model::StreamName;
 
 fn bad_line_json(alloc: Global, line: u64, member: &str) -> Result<Json, AllocError>
     ensures { IfOk result (λ json. view json ≡ bad_line_tree line member.now) }
@@ -163,6 +166,77 @@ pub fn print_no_listener(alloc: Global, line: u64, id: u32) -> Result<String, No
     ensures { IfOk result (λ text. string_bytes text ≡ line_of (no_listener_tree line id)) }
 {
     let json = listener_json(alloc, "NoListener", line, id, 8)?;
+    print_line(alloc, &json)
+}
+
+fn stream_text(stream: StreamName) -> &'static str
+    ensures { result.now ≡ stream_text_of stream }
+{
+    match stream {
+        StreamName::Watch => "watch",
+        StreamName::Write => "write",
+    }
+}
+
+fn stream_state_json(
+    alloc: Global,
+    line: u64,
+    stream: &str,
+    is_open: bool,
+) -> Result<Json, AllocError>
+    ensures { IfOk result (λ json. view json ≡ one (codes "refused")
+        (five (codes "cause") (string (codes "StreamState"))
+        (codes "line") (count line) (codes "number") (count 9)
+        (codes "open") (boolean is_open) (codes "stream") (string stream.now))) }
+{
+    json!(in alloc; {"refused": {"cause": "StreamState", "line": line, "number": 9u64, "open": is_open, "stream": stream}})
+}
+
+/// Number 9: the line needs the stream in another state; it was open or not.
+///
+/// # Errors
+/// `NoMemory`
+pub fn print_stream_state(
+    alloc: Global,
+    line: u64,
+    stream: StreamName,
+    is_open: bool,
+) -> Result<String, NoMemory>
+    ensures { IfOk result (λ text. string_bytes text
+        ≡ line_of (stream_state_tree line stream is_open)) }
+{
+    let json = stream_state_json(alloc, line, stream_text(stream), is_open)?;
+    print_line(alloc, &json)
+}
+
+fn bad_message_json(
+    alloc: Global,
+    line: u64,
+    stream: &str,
+    member: &str,
+) -> Result<Json, AllocError>
+    ensures { IfOk result (λ json. view json ≡ one (codes "refused")
+        (five (codes "cause") (string (codes "BadMessage"))
+        (codes "line") (count line) (codes "member") (string member.now)
+        (codes "number") (count 10) (codes "stream") (string stream.now))) }
+{
+    json!(in alloc; {"refused": {"cause": "BadMessage", "line": line, "member": member, "number": 10u64, "stream": stream}})
+}
+
+/// Number 10: the backend's message has a fault, or can't come next on the stream, by this member.
+///
+/// # Errors
+/// `NoMemory`
+pub fn print_bad_message(
+    alloc: Global,
+    line: u64,
+    stream: StreamName,
+    member: &str,
+) -> Result<String, NoMemory>
+    ensures { IfOk result (λ text. string_bytes text
+        ≡ line_of (bad_message_tree line stream member.now)) }
+{
+    let json = bad_message_json(alloc, line, stream_text(stream), member)?;
     print_line(alloc, &json)
 }
 

@@ -1,21 +1,27 @@
--- What the trees of lines without faults spell. The form of these trees is said by their faults. A
--- member whose value is null counts as left out.
-use Rattle.std.specs.Prelude.{◌≡◌, ℕ, List, Bool, true, false, codes, Option, Some, None}
-use Rattle.serde_json.specs.Data.{Data, Members}
+-- What the trees of lines without faults spell. The form of these trees is said by their faults, but
+-- that of a message, which has faults of its own. A member whose value is null counts as left out.
+use Rattle.std.specs.Prelude.{◌≡◌, ℕ, List, [], codes, Option, Some, None}
+use Rattle.serde_json.specs.Data.{Data, Members, string}
 use Rattle.document_keys.specs.Names.{Root}
+use Rattle.value_model.specs.declared.document.RpcStatus.{RpcStatus}
+use Rattle.value_model.specs.declared.message.StreamName.{StreamName}
+use Rattle.value_model.specs.declared.message.StreamName.TheVariants as stream
 use Rattle.value_model.specs.declared.timestamp.Timestamp.{Timestamp}
-use Rattle.json_model.specs.declared.place.Place.{Place}
-use Rattle.json_model.specs.declared.place.Place.TheVariants as place
 use Rattle.json_model.specs.declared.place.Object.TheVariants as object
+use Rattle.json_model.specs.declared.fault.JsonFault.{JsonFault}
+use Rattle.json_model.specs.declared.fault.JsonFault.TheVariants as json_fault
+use Rattle.json_model.specs.Faults.{FirstOf}
 use Rattle.json_model.specs.Forms.{IsGiven, InObject, ByChoice, SpellsEach}
 use Rattle.json_model.specs.Grammar.{SpellsName, SpellsTime}
 use Rattle.json_model.specs.Members.{given}
 use Rattle.json_model.specs.Numbers.{SpellsUpTo, max_listener_id}
-use Rattle.json_model.specs.Places.{member_place}
+use Rattle.mutations.specs.declared.results.WriteResponse.{WriteResponse}
 use Rattle.mutations.specs.declared.write.Write.{Write}
 use Rattle.json_rpc.specs.Grammar.{SpellsWrite}
 use Rattle.queries.specs.declared.raw.RawQuery.{RawQuery}
 use Rattle.json_queries.specs.Grammar.{SpellsQuery}
+use Rattle.json_messages.specs.Faults.{WriteResponseFaults}
+use Rattle.json_messages.specs.Grammar.{SpellsStatus, SpellsWriteResponse}
 use Rattle.line_reader.specs.declared.raw_event.RawEvent.{RawEvent}
 use Rattle.line_reader.specs.declared.raw_event.RawEvent.TheVariants as raw
 
@@ -43,29 +49,73 @@ pub record SpellsListenLine (root : Root) (ms : Members) (id : ℕ) (query : Raw
 abbrev pub SpellsUnlistenLine : Members → ℕ → Type 0
 SpellsUnlistenLine ms id = SpellsListenerId (given (codes "id") ms) id
 
--- the places of the lines that are built
-abbrev pub is_line : Place → Bool
-is_line (place.Object object.WriteLine) = true
-is_line (place.Object object.GetLine) = true
-is_line (place.Object object.ListenLine) = true
-is_line (place.Object object.UnlistenLine) = true
-is_line _ = false
+-- ---- what comes on a stream
 
--- what the only member of a line spells, by its place: `{"at":"..","writes":[..]}`, `{"name":".."}`,
--- `{"id":7,"target":{..}}` or `{"id":7}`
-abbrev pub SpellsNamed : Place → Root → Data → RawEvent → Type 0
-SpellsNamed (place.Object object.WriteLine) root d (raw.Write at writes) =
-    InObject d (λ ms. SpellsWriteLine root ms at writes)
-SpellsNamed (place.Object object.GetLine) root d (raw.Get key) =
-    InObject d (λ ms. SpellsGetLine root ms key)
-SpellsNamed (place.Object object.ListenLine) root d (raw.Listen id query) =
-    InObject d (λ ms. SpellsListenLine root ms id query)
-SpellsNamed (place.Object object.UnlistenLine) root d (raw.Unlisten id) =
-    InObject d (λ ms. SpellsUnlistenLine ms id)
-SpellsNamed _ root d e = ⊥
+-- the name of a stream of the backend
+abbrev pub stream_text : StreamName → List ℕ
+stream_text stream.Watch = codes "watch"
+stream_text stream.Write = codes "write"
+
+-- the members of what `open` holds: the name of a stream
+abbrev pub SpellsOpenLine : Members → StreamName → Type 0
+SpellsOpenLine ms name = given (codes "stream") ms ≡ Some (string (stream_text name))
+
+-- a status; where it is left out its code is 0 and its message is empty
+abbrev pub SpellsClosingStatus : Option Data → RpcStatus → Type 0
+SpellsClosingStatus None status = (status.code ≡ 0) × (status.message ≡ [])
+SpellsClosingStatus (Some d) status = SpellsStatus d status
+
+-- the members of what `close` holds: the name of a stream, and with which status it was closed
+pub record SpellsCloseLine (ms : Members) (name : StreamName) (status : RpcStatus) : Type 0 where
+  pub of : SpellsOpenLine ms name
+  pub why : SpellsClosingStatus (given (codes "status") ms) status
+
+-- what `written` holds, where it has no faults: a message of the stream of writes
+pub record SpellsMessage (root : Root) (d : Data) (response : WriteResponse) : Type 0 where
+  pub clean : WriteResponseFaults root d []
+  pub spells : SpellsWriteResponse d response
+
+-- the member that a fault of a message is told by; want of memory is no fault of it
+abbrev pub member_of : JsonFault → Option (List ℕ)
+member_of (json_fault.BadShape member) = Some member
+member_of (json_fault.BadTime member) = Some member
+member_of (json_fault.BadBytes member) = Some member
+member_of json_fault.TooDeep = Some (codes "value")
+member_of (json_fault.Unsupported member) = Some member
+member_of (json_fault.BadName bad) = Some (codes "name")
+member_of json_fault.NoMemory = None
+
+-- what `written` holds, where it has faults: the first of the least kind is told by this member
+pub record IsBadMessage (root : Root) (d : Data) (member : List ℕ) : Type 0 where
+  pub fault : JsonFault
+  pub first : FirstOf (WriteResponseFaults root d) (Some fault)
+  pub told : member_of fault ≡ Some member
+
+-- ---- lines
+
+-- What the only member of a line spells, by its name: `{"at":"..","writes":[..]}`, `{"name":".."}`,
+-- `{"id":7,"target":{..}}`, `{"id":7}`, `{"stream":"write"}`, `{"status":{..},"stream":"write"}` or
+-- a message. What `watch` and `timer` hold is told by none yet.
+abbrev pub SpellsNamed : Root → List ℕ → Data → RawEvent → Type 0
+SpellsNamed root name d (raw.Write at writes) =
+    (name ≡ codes "write") × InObject d (λ ms. SpellsWriteLine root ms at writes)
+SpellsNamed root name d (raw.Get key) =
+    (name ≡ codes "get") × InObject d (λ ms. SpellsGetLine root ms key)
+SpellsNamed root name d (raw.Listen id query) =
+    (name ≡ codes "listen") × InObject d (λ ms. SpellsListenLine root ms id query)
+SpellsNamed root name d (raw.Unlisten id) =
+    (name ≡ codes "unlisten") × InObject d (λ ms. SpellsUnlistenLine ms id)
+SpellsNamed root name d (raw.Opened of) =
+    (name ≡ codes "open") × InObject d (λ ms. SpellsOpenLine ms of)
+SpellsNamed root name d (raw.Closed of status) =
+    (name ≡ codes "close") × InObject d (λ ms. SpellsCloseLine ms of status)
+SpellsNamed root name d (raw.Written response) =
+    (name ≡ codes "written") × SpellsMessage root d response
+SpellsNamed root name d (raw.BadWritten member) =
+    (name ≡ codes "written") × IsBadMessage root d member
+SpellsNamed root name d raw.Watched = name ≡ codes "watch"
+SpellsNamed root name d raw.Timer = name ≡ codes "timer"
 
 -- the tree of a line spells the event
 abbrev pub Spells : Root → Data → RawEvent → Type 0
-Spells root d e =
-    ByChoice object.Line d
-    (λ ms name inner. SpellsNamed (member_place object.Line name) root inner e)
+Spells root d e = ByChoice object.Line d (λ ms name inner. SpellsNamed root name inner e)

@@ -5,6 +5,7 @@ use Rattle.value_model.specs.Storable.{IsCountable}
 use Rattle.value_model.specs.Time.{IsMoment}
 use Rattle.json_rpc.specs.Storable.{IsStorableWrite}
 use Rattle.json_queries.specs.Storable.{IsStorableRawQuery}
+use Rattle.json_messages.specs.Storable.{IsStorableAnswer}
 use Rattle.queries.specs.declared.target.Target.{Target}
 use Rattle.queries.specs.declared.target.Target.TheVariants.{Document, Collection}
 use Rattle.client_events.specs.Spelled.{IsSpelledEvent}
@@ -19,6 +20,7 @@ use Rattle.line_reader.specs.declared.reading.Reading.TheVariants.{Line, Refused
 abbrev pub HoldsStorable : RawEvent → Type 0
 HoldsStorable (raw.Write at writes) = IsMoment at × All IsStorableWrite writes
 HoldsStorable (raw.Listen id query) = IsStorableRawQuery query
+HoldsStorable (raw.Written response) = IsStorableAnswer response
 HoldsStorable _ = Unit {0}
 
 -- eight bytes have the number of a query's orders

@@ -1,9 +1,11 @@
 ghost use Rattle.std.specs.Prelude.{◌≡◌, Some, IfOk};
+ghost use Rattle.line_reader.specs.Grammar.{member_of as member_of_fault};
 ghost use Rattle.line_reader.specs.Reading.{refusal_of as refusal_of_fault};
 
 use document_keys::{NoMemory, Text};
 use json_model::{BadName, JsonFault};
 use queries::QueryRule;
+use std::alloc::Global;
 
 /// Why a line is refused by itself, whatever the client did before. A refused line changes nothing.
 #[derive(Debug, Drop)]
@@ -36,6 +38,21 @@ pub(crate) fn refusal_of(fault: JsonFault) -> Result<Refusal, NoMemory>
         JsonFault::TooDeep => Ok(Refusal::TooDeep),
         JsonFault::Unsupported(member) => Ok(Refusal::Unsupported(member)),
         JsonFault::BadName(bad) => Ok(Refusal::BadName(bad)),
+        JsonFault::NoMemory => Err(NoMemory),
+    }
+}
+
+/// The member that a fault of a message is told by: `value` where something nests too deep, and `name` of a bad name.
+pub(crate) fn member_of(alloc: Global, fault: JsonFault) -> Result<Text, NoMemory>
+    ensures { IfOk result (λ member. member_of_fault fault ≡ Some member) }
+{
+    match fault {
+        JsonFault::BadShape(member) => Ok(member),
+        JsonFault::BadTime(member) => Ok(member),
+        JsonFault::BadBytes(member) => Ok(member),
+        JsonFault::TooDeep => Text::from_str(alloc, "value"),
+        JsonFault::Unsupported(member) => Ok(member),
+        JsonFault::BadName(_) => Text::from_str(alloc, "name"),
         JsonFault::NoMemory => Err(NoMemory),
     }
 }

@@ -1,9 +1,11 @@
 //! What the tree of a line spells, or its first fault.
 
-ghost use Rattle.std.specs.Prelude.{◌≡◌, [], true, IfOk, IfErr, IfSome, codes, option_map};
+ghost use Rattle.std.specs.Prelude.{◌≡◌, [], false, IfOk, IfErr, IfSome, IsSome, codes, option_map};
 ghost use Rattle.std.specs.List.{All};
+ghost use Rattle.serde_json.specs.Data.{string};
 ghost use Rattle.serde_json.specs.View.{view, members_view};
 ghost use Rattle.value_model.specs.Time.{IsMoment};
+ghost use Rattle.json_model.specs.declared.place.Constants.TheVariants as constants;
 ghost use Rattle.json_model.specs.declared.place.Leaf.TheVariants as leaves;
 ghost use Rattle.json_model.specs.declared.place.Object.TheVariants as objects;
 ghost use Rattle.json_model.specs.declared.place.Place.TheVariants as places;
@@ -12,19 +14,22 @@ ghost use Rattle.json_model.specs.Faults.{IsFault};
 ghost use Rattle.json_model.specs.Forms.{IsGiven, SpellsEach};
 ghost use Rattle.json_model.specs.Grammar.{SpellsTime};
 ghost use Rattle.json_model.specs.Members.{given};
+ghost use Rattle.json_model.specs.Places.{is_unknown, member_place};
 ghost use Rattle.json_queries.specs.Grammar.{SpellsQuery};
 ghost use Rattle.json_queries.specs.Storable.{IsStorableRawQuery};
 ghost use Rattle.json_rpc.specs.Grammar.{SpellsWrite};
 ghost use Rattle.json_rpc.specs.Storable.{IsStorableWrite};
 ghost use Rattle.line_reader.specs.Faults.{LineFaults};
-ghost use Rattle.line_reader.specs.Grammar.{SpellsListenerId, SpellsNamed, Spells, is_line};
+ghost use Rattle.line_reader.specs.Grammar.{SpellsListenerId, SpellsNamed, SpellsClosingStatus, Spells, stream_text};
 ghost use Rattle.line_reader.specs.Spelled.{HoldsStorable};
 
 use crate::raw_event::RawEvent;
-use document_keys::{Database, NoMemory};
+use crate::refusal::member_of;
+use document_keys::{Database, NoMemory, Text};
+use json_messages::{clean_status, read_write_response};
 use json_model::{
-    JsonFault, MAX_NESTING, Object, Place, Setting, Side, check, clean_choice, clean_listener_id,
-    clean_member, clean_name, clean_object, clean_time, member_place,
+    Constants, JsonFault, MAX_NESTING, Object, Place, Setting, Side, check, clean_choice,
+    clean_constant, clean_listener_id, clean_member, clean_name, clean_object, clean_time,
 };
 use json_queries::clean_query;
 use json_rpc::clean_writes;
@@ -32,7 +37,7 @@ use mutations::Writes;
 use queries::RawQuery;
 use serde_json::{Map, Value as Json};
 use std::alloc::Global;
-use value_model::Timestamp;
+use value_model::{RpcStatus, StreamName, Timestamp};
 
 /// The writes under `writes`, none where it is left out.
 #[tactic(auto, unfolding(json_model::specs::Places::write_line_rows))]
@@ -70,8 +75,8 @@ fn build_time(setting: &Setting<'_>, members: &Map<String, Json>) -> Timestamp
 /// What `write` holds.
 fn build_write_line(alloc: Global, setting: &Setting<'_>, json: &Json) -> Result<RawEvent, NoMemory>
     requires { IsClean setting.now (places.Object objects.WriteLine) (view json.now) }
-    ensures event { IfOk result (λ event. SpellsNamed (places.Object objects.WriteLine)
-        setting.now.root (view json.now) event) }
+    ensures event { IfOk result (λ event. SpellsNamed setting.now.root (codes "write")
+        (view json.now) event) }
     ensures storable { IfOk result HoldsStorable }
 {
     let members = clean_object(setting, Object::WriteLine, json);
@@ -81,11 +86,10 @@ fn build_write_line(alloc: Global, setting: &Setting<'_>, json: &Json) -> Result
 }
 
 /// What `get` holds.
-#[tactic(auto, unfolding(json_model::specs::Places::get_line_rows))]
 fn build_get_line(alloc: Global, setting: &Setting<'_>, json: &Json) -> Result<RawEvent, NoMemory>
     requires { IsClean setting.now (places.Object objects.GetLine) (view json.now) }
-    ensures event { IfOk result (λ event. SpellsNamed (places.Object objects.GetLine)
-        setting.now.root (view json.now) event) }
+    ensures event { IfOk result (λ event. SpellsNamed setting.now.root (codes "get")
+        (view json.now) event) }
     ensures storable { IfOk result HoldsStorable }
 {
     let members = clean_object(setting, Object::GetLine, json);
@@ -135,8 +139,8 @@ fn build_listen_line(
     json: &Json,
 ) -> Result<RawEvent, NoMemory>
     requires { IsClean setting.now (places.Object objects.ListenLine) (view json.now) }
-    ensures event { IfOk result (λ event. SpellsNamed (places.Object objects.ListenLine)
-        setting.now.root (view json.now) event) }
+    ensures event { IfOk result (λ event. SpellsNamed setting.now.root (codes "listen")
+        (view json.now) event) }
     ensures storable { IfOk result HoldsStorable }
 {
     let members = clean_object(setting, Object::ListenLine, json);
@@ -147,15 +151,14 @@ fn build_listen_line(
 }
 
 /// What `unlisten` holds.
-#[tactic(auto, unfolding(json_model::specs::Places::unlisten_line_rows))]
 fn build_unlisten_line(
     alloc: Global,
     setting: &Setting<'_>,
     json: &Json,
 ) -> Result<RawEvent, NoMemory>
     requires { IsClean setting.now (places.Object objects.UnlistenLine) (view json.now) }
-    ensures event { IfOk result (λ event. SpellsNamed (places.Object objects.UnlistenLine)
-        setting.now.root (view json.now) event) }
+    ensures event { IfOk result (λ event. SpellsNamed setting.now.root (codes "unlisten")
+        (view json.now) event) }
     ensures storable { IfOk result HoldsStorable }
 {
     let members = clean_object(setting, Object::UnlistenLine, json);
@@ -163,24 +166,110 @@ fn build_unlisten_line(
     Ok(RawEvent::Unlisten(build_id(alloc, setting, found)?))
 }
 
-/// What the only member of a line holds, by its place.
-fn build_line(
+/// The stream of a name.
+#[tactic(auto, unfolding(json_model::specs::Constants::is_stream_name))]
+fn build_stream(setting: &Setting<'_>, found: Option<&Json>) -> StreamName
+    requires there { IsSome found }
+    requires clean { IfSome found (λ json. IsClean setting.now
+        (places.Leaf (leaves.Constant constants.StreamName)) (view json.now)) }
+    ensures { option_map (λ json. view json.now) found.entry ≡ Some (string (stream_text result)) }
+{
+    let Some(json) = found else {
+        unreachable!();
+    };
+    match clean_constant(setting, Constants::StreamName, json) {
+        "watch" => StreamName::Watch,
+        "write" => StreamName::Write,
+        _ => unreachable!(),
+    }
+}
+
+/// What `open` holds.
+fn build_open_line(setting: &Setting<'_>, json: &Json) -> RawEvent
+    requires { IsClean setting.now (places.Object objects.OpenLine) (view json.now) }
+    ensures event { SpellsNamed setting.now.root (codes "open") (view json.now) result }
+    ensures storable { HoldsStorable result }
+{
+    let members = clean_object(setting, Object::OpenLine, json);
+    let found = clean_member(setting, Object::OpenLine, members, "stream");
+    RawEvent::Opened(build_stream(setting, found))
+}
+
+/// A status, that of a call that ended well where it is left out.
+fn build_status(
     alloc: Global,
     setting: &Setting<'_>,
-    object: Object,
-    json: &Json,
-) -> Result<RawEvent, NoMemory>
-    requires line { is_line (places.Object object) ≡ true }
-    requires clean { IsClean setting.now (places.Object object) (view json.now) }
-    ensures event { IfOk result (λ event. SpellsNamed (places.Object object) setting.now.root
+    found: Option<&Json>,
+) -> Result<RpcStatus, NoMemory>
+    requires { IfSome found (λ json. IsClean setting.now (places.Object objects.Status)
+        (view json.now)) }
+    ensures { IfOk result (λ status. SpellsClosingStatus
+        (option_map (λ json. view json.now) found.entry) status) }
+{
+    match found {
+        Some(json) => clean_status(alloc, setting, json),
+        None => {
+            let message = Text::from_str(alloc, "")?;
+            Ok(RpcStatus { code: 0, message })
+        }
+    }
+}
+
+/// What `close` holds.
+#[tactic(auto, unfolding(json_model::specs::Places::close_line_rows))]
+fn build_close_line(alloc: Global, setting: &Setting<'_>, json: &Json) -> Result<RawEvent, NoMemory>
+    requires { IsClean setting.now (places.Object objects.CloseLine) (view json.now) }
+    ensures event { IfOk result (λ event. SpellsNamed setting.now.root (codes "close")
         (view json.now) event) }
     ensures storable { IfOk result HoldsStorable }
 {
-    match object {
-        Object::WriteLine => build_write_line(alloc, setting, json),
-        Object::GetLine => build_get_line(alloc, setting, json),
-        Object::ListenLine => build_listen_line(alloc, setting, json),
-        Object::UnlistenLine => build_unlisten_line(alloc, setting, json),
+    let members = clean_object(setting, Object::CloseLine, json);
+    let found = clean_member(setting, Object::CloseLine, members, "stream");
+    let name = build_stream(setting, found);
+    let found = clean_member(setting, Object::CloseLine, members, "status");
+    let status = build_status(alloc, setting, found)?;
+    Ok(RawEvent::Closed(name, status))
+}
+
+/// What `written` holds, by the backend's side: a message, or the member that its first fault of the least kind is told by.
+fn build_message(alloc: Global, root: &Database, json: &Json) -> Result<RawEvent, NoMemory>
+    ensures event { IfOk result (λ event. SpellsNamed root.now (codes "written")
+        (view json.now) event) }
+    ensures storable { IfOk result HoldsStorable }
+{
+    match read_write_response(alloc, root, json) {
+        Ok(response) => Ok(RawEvent::Written(response)),
+        Err(fault) => {
+            let member = member_of(alloc, fault)?;
+            Ok(RawEvent::BadWritten(member))
+        }
+    }
+}
+
+/// What the only member of a line holds, by its name.
+#[tactic(auto, unfolding(json_model::specs::Places::line_rows))]
+fn build_named(
+    alloc: Global,
+    setting: &Setting<'_>,
+    name: &str,
+    json: &Json,
+) -> Result<RawEvent, NoMemory>
+    requires known { is_unknown (member_place objects.Line name.now) ≡ false }
+    requires clean { IsClean setting.now (member_place objects.Line name.now) (view json.now) }
+    ensures event { IfOk result (λ event. SpellsNamed setting.now.root name.now
+        (view json.now) event) }
+    ensures storable { IfOk result HoldsStorable }
+{
+    match name {
+        "write" => build_write_line(alloc, setting, json),
+        "get" => build_get_line(alloc, setting, json),
+        "listen" => build_listen_line(alloc, setting, json),
+        "unlisten" => build_unlisten_line(alloc, setting, json),
+        "open" => Ok(build_open_line(setting, json)),
+        "close" => build_close_line(alloc, setting, json),
+        "written" => build_message(alloc, setting.root, json),
+        "watch" => Ok(RawEvent::Watched),
+        "timer" => Ok(RawEvent::Timer),
         _ => unreachable!(),
     }
 }
@@ -193,13 +282,11 @@ fn build_event(alloc: Global, setting: &Setting<'_>, json: &Json) -> Result<RawE
 {
     let members = clean_object(setting, Object::Line, json);
     let (name, inner) = clean_choice(setting, Object::Line, members);
-    match member_place(Object::Line, name) {
-        Place::Object(object) => build_line(alloc, setting, object, inner),
-        _ => unreachable!(),
-    }
+    build_named(alloc, setting, name, inner)
 }
 
-/// What the tree of a line spells, with however many writes and whatever query. An unsupported member's value isn't read.
+/// What the tree of a line spells, with however many writes and whatever query. An unsupported member's value isn't read, and a
+/// message of the backend's has its own faults, which are none of the line.
 ///
 /// # Errors
 /// The first fault of the least kind, in the walk through the tree; `BadShape` of the empty name where the tree isn't an object

@@ -10,7 +10,8 @@ use Rattle.durable_state.specs.Cached.{first_writes}
 use Rattle.host_api.specs.Host.{View}
 use Rattle.listeners.specs.Table.{Table, viewed}
 use Rattle.local_store.specs.Files.{Moves}
-use Rattle.local_store.specs.State.{State, committed, most_commits}
+use Rattle.durable_state.specs.State.{IsAnswered}
+use Rattle.local_store.specs.State.{Fits as FitsState, State, committed, most_commits}
 use Rattle.local_store.specs.Store.{Store}
 use Rattle.mutation_queue.specs.Queue.{written_key}
 use Rattle.mutations.specs.declared.batch.Batch.{Batch}
@@ -23,10 +24,11 @@ use Rattle.record_codec.specs.declared.commit.Commit.TheVariants.{Acknowledge, R
 use Rattle.value_model.specs.declared.document.RpcStatus.{RpcStatus}
 use Rattle.value_model.specs.declared.message.StreamName.{StreamName}
 use Rattle.value_model.specs.declared.message.StreamName.TheVariants as stream
+use Rattle.value_model.specs.Time.{IsMoment}
 use Rattle.value_model.specs.declared.timestamp.Timestamp.{Timestamp}
 use Rattle.views.specs.Viewed.{Viewed}
 use Rattle.write_pipeline.specs.Order.{Steps, acknowledged, closed, is_ready, kept, opened, outstanding, shaken}
-use Rattle.write_pipeline.specs.Standing.{Fails, Fits, closing_of}
+use Rattle.write_pipeline.specs.Standing.{Fails, Fits, HasTransforms, closing_of}
 use Rattle.write_pipeline.specs.declared.answer.Answer.TheVariants.{Handshake, Acknowledges}
 use Rattle.write_pipeline.specs.declared.answer.Closing.{Closing}
 use Rattle.write_pipeline.specs.declared.answer.Closing.TheVariants.{Kept as KeepsAll, Rejects}
@@ -63,24 +65,24 @@ pub record KeepsButStream (old new : Kept) : Type 0 where
 abbrev IsOfStream : Event → Type 0
 IsOfStream e = (id : ℕ) (v : Option Viewed) → asked id e v ≡ v
 
-module _ (old new : Kept) (s : State) (past : Past) (e : Event) (turn : Turn) (stands : StandsFor old s past) (kept : KeepsButStream old new)
+module _ (old new : Kept) (s : State) (past : Past) (e : Event) (turn : Turn) (stands : StandsFor old s past) (rest : KeepsButStream old new)
     (plain : IsOfStream e) (unsaid : (id : ℕ) → raised_in id turn.lines ≡ None) (unsent : (h : Steps) → sent_in turn.lines h ≡ h) (unmade : turn.commit ≡ None)
     (writes : StandsOn new.writes (steps_by e turn.refusal (steps_of past))) (answers : Answers s past e turn) where
-  entry : Entry
+  abbrev entry : Entry
   entry = record { state = s; event = e; turn = turn }
 
   listeners : (id : ℕ) → viewed new.listeners id ≡ listener id (entry ∷ past)
   listeners id =
-      ap (λ (t : Table). viewed t id) kept.listeners ∙ stands.listeners id ∙ sym (plain id (listener id past))
+      ap (λ (t : Table). viewed t id) rest.listeners ∙ stands.listeners id ∙ sym (plain id (listener id past))
       ∙ ap (λ r. Rattle.sync_engine.specs.Past.told r (asked id e (listener id past))) (sym (unsaid id))
 
   pub stands_then : StandsFor new s (entry ∷ past)
   stands_then = record {
-    state = ap (λ (x : Store). x.state) kept.store ∙ stands.state;
+    state = ap (λ (x : Store). x.state) rest.store ∙ stands.state;
     listeners = listeners;
     quiet = λ id.
-        subst (λ (v : Option Viewed). IfSome v (IsQuiet new.root s)) (sym (stands.listeners id) ∙ sym (ap (λ (t : Table). viewed t id) kept.listeners) ∙ listeners id)
-        (subst (λ (r : Root). IfSome (listener id past) (IsQuiet r s)) (sym kept.root) (stands.quiet id));
+        subst (λ (v : Option Viewed). IfSome v (IsQuiet new.root s)) (sym (stands.listeners id) ∙ sym (ap (λ (t : Table). viewed t id) rest.listeners) ∙ listeners id)
+        (subst (λ (r : Root). IfSome (listener id past) (IsQuiet r s)) (sym rest.root) (stands.quiet id));
     writes = subst (StandsOn new.writes) (sym (unsent (steps_by e turn.refusal (steps_of past)))) writes;
     pending = subst (λ (h : Steps). outstanding h ≤ length s.batches) (sym (unsent (steps_by e turn.refusal (steps_of past))))
         (subst (λ (c : Option Commit). outstanding (steps_by e turn.refusal (steps_of past)) ≤ length (after s c).batches) unmade (few_by s past e turn answers stands.pending));
@@ -89,9 +91,9 @@ module _ (old new : Kept) (s : State) (past : Past) (e : Event) (turn : Turn) (s
 -- lines alone answer the event
 pub hands_plain : {old new : Kept} {s : State} {past : Past} {vec : Vec Out Global} (e : Event) (lines : List Line) → StandsFor old s past → KeepsButStream old new → IsOfStream e → ((id : ℕ) → raised_in id lines ≡ None) → ((h : Steps) → sent_in lines h ≡ h)
     → StandsOn new.writes (steps_by e None (steps_of past)) → Answers s past e (answered lines) → AllZip (IsShown new) vec.items lines → HandsSettled s past e (Done vec) new
-hands_plain {old} {new} {s} {past} {vec} e lines stands kept plain unsaid unsent writes answers shown =
+hands_plain {old} {new} {s} {past} {vec} e lines stands rest plain unsaid unsent writes answers shown =
     let same : lines ++ [] ≡ lines = append-nil lines in
-    let then_it = stands_then old new s past e (answered lines) stands kept plain unsaid unsent refl writes answers in
+    let then_it = stands_then old new s past e (answered lines) stands rest plain unsaid unsent refl writes answers in
     record {
       turn = with_snapshots s (answered lines) [];
       is_settled = record {
@@ -99,7 +101,7 @@ hands_plain {old} {new} {s} {past} {vec} e lines stands kept plain unsaid unsent
         answers = answers;
         settles = record {
           told = [];
-          settles = settles_none new.root s (λ id. asked id e (listener id past)) (λ id. subst (λ (v : Option Viewed). IfSome v (IsQuiet new.root s)) (sym (plain id (listener id past))) (subst (λ (r : Root). IfSome (listener id past) (IsQuiet r s)) (sym kept.root) (stands.quiet id)));
+          settles = settles_none new.root s (λ id. asked id e (listener id past)) (λ id. subst (λ (v : Option Viewed). IfSome v (IsQuiet new.root s)) (sym (plain id (listener id past))) (subst (λ (r : Root). IfSome (listener id past) (IsQuiet r s)) (sym rest.root) (stands.quiet id)));
           is = refl;
         };
       };
@@ -110,20 +112,32 @@ hands_plain {old} {new} {s} {past} {vec} e lines stands kept plain unsaid unsent
 -- a bad message closes the stream
 pub hands_closed : {old new : Kept} {s : State} {past : Past} (e : Event) (refusal : Refusal) → is_heard (Some refusal) ≡ true → StandsFor old s past → KeepsButStream old new → IsOfStream e
     → StandsOn new.writes (steps_by e (Some refusal) (steps_of past)) → Answers s past e (refused refusal) → HandsSettled s past e (Refused refusal) new
-hands_closed {old} {new} {s} {past} e refusal heard stands kept plain writes answers =
+hands_closed {old} {new} {s} {past} e refusal heard stands rest plain writes answers =
     let entry : Entry = record { state = s; event = e; turn = refused refusal } in
     record {
       turn = refused refusal;
       is_settled = record { answer = refused refusal; answers = answers; settles = refl };
-      stands = subst (λ (b : Bool). StandsFor new s (if b then entry ∷ past else past)) (sym heard) (stands_then old new s past e (refused refusal) stands kept plain (λ id. refl) (λ h. refl) refl writes answers);
+      stands = subst (λ (b : Bool). StandsFor new s (if b then entry ∷ past else past)) (sym heard) (stands_then old new s past e (refused refusal) stands rest plain (λ id. refl) (λ h. refl) refl writes answers);
       outcome = (refl, refl);
     }
+
+-- the stream is opened by the first request
+pub hands_opened : {old new : Kept} {s : State} {past : Past} {vec : Vec Out Global} (name : StreamName) → StandsFor old s past → KeepsButStream old new → StandsOn new.writes (opened ∷ steps_of past) → Answers s past (event.Opened name) (answered (send the_first ∷ []))
+    → vec.items ≡ SendHandshake ∷ [] → HandsSettled s past (event.Opened name) (Done vec) new
+hands_opened {old} {new} {s} {past} {vec} name stands rest writes answers is =
+    hands_plain (event.Opened name) (send the_first ∷ []) stands rest (λ id v. refl) (λ id. refl) (λ h. refl) writes answers (subst (λ (os : List Out). AllZip (IsShown new) os (send the_first ∷ [])) (sym is) (refl, tt))
+
+-- nothing is handed out
+pub hands_nothing : {old new : Kept} {s : State} {past : Past} {vec : Vec Out Global} (e : Event) → StandsFor old s past → KeepsButStream old new → IsOfStream e → StandsOn new.writes (steps_by e None (steps_of past)) → Answers s past e (answered [])
+    → vec.items ≡ [] → HandsSettled s past e (Done vec) new
+hands_nothing {old} {new} {s} {past} {vec} e stands rest plain writes answers is =
+    hands_plain e [] stands rest plain (λ id. refl) (λ h. refl) writes answers (subst (λ (os : List Out). AllZip (IsShown new) os []) (sym is) tt)
 
 -- ---- what the events come to
 
 module _ {client : Kept} {s : State} {past : Past} (stands : StandsFor client s past) where
   open_is : (b : Bool) → client.writes.is_open ≡ b → is_open (steps_of past) ≡ b
-  open_is b is = sym stands.writes.open ∙ is
+  open_is b is = sym stands.writes.opening ∙ is
 
   pub opened_twice : (name : StreamName) → client.writes.is_open ≡ true → Answers s past (event.Opened name) (refused (StreamState name true))
   opened_twice name is = sym (ap (opened_turn name) (open_is true is))
@@ -141,19 +155,38 @@ module _ {client : Kept} {s : State} {past : Past} (stands : StandsFor client s 
   closed_unopened name status is = sym (ap (closed_turn s (steps_of past) name status) (open_is false is))
 
   closed_as : (name : StreamName) (status : RpcStatus) (closing : Closing) → client.writes.is_open ≡ true → closing_of (steps_of past) status.code ≡ closing → closes s status closing ≡ closed_turn s (steps_of past) name status (is_open (steps_of past))
-  closed_as name status closing is as = ap (closes s status) (sym as) ∙ sym (ap (closed_turn s (steps_of past) name status) (open_is true is))
+  closed_as name status closing is such = ap (closes s status) (sym such) ∙ sym (ap (closed_turn s (steps_of past) name status) (open_is true is))
 
   pub closed_kept : (name : StreamName) (status : RpcStatus) → client.writes.is_open ≡ true → closing_of (steps_of past) status.code ≡ KeepsAll → Answers s past (event.Closed name status) (answered [])
-  closed_kept name status is as = closed_as name status KeepsAll is as
+  closed_kept name status is such = closed_as name status KeepsAll is such
 
   pub closed_rejects : (name : StreamName) (status : RpcStatus) → client.writes.is_open ≡ true → closing_of (steps_of past) status.code ≡ Rejects → Answers s past (event.Closed name status) (rejects s (first_batch s) status)
-  closed_rejects name status is as = closed_as name status Rejects is as
+  closed_rejects name status is such = closed_as name status Rejects is such
 
   pub written_unopened : (response : WriteResponse) → client.writes.is_open ≡ false → Answers s past (event.Written response) (refused (StreamState stream.Write false))
   written_unopened response is = subst (λ (b : Bool). WrittenTurn s (steps_of past) response b (refused (StreamState stream.Write false))) (sym (open_is false is)) refl
 
   pub written_as : (response : WriteResponse) (t : Turn) → client.writes.is_open ≡ true → IsWritten s (steps_of past) response t → Answers s past (event.Written response) t
   written_as response t is it = subst (λ (b : Bool). WrittenTurn s (steps_of past) response b t) (sym (open_is true is)) it
+
+-- ---- the handshake, and a message that doesn't fit
+
+pub shaken_stands : {writes : WriteStream} {h : Steps} {token : List ℕ} → is_ready h ≡ false → StandsOn writes (kept token ∷ shaken ∷ h) → StandsOn writes (kept token ∷ (if is_ready h then acknowledged else shaken) ∷ h)
+shaken_stands {writes} {h} {token} not stands = subst (λ (b : Bool). StandsOn writes (kept token ∷ (if b then acknowledged else shaken) ∷ h)) (sym not) stands
+
+-- what holds of the state that the client keeps holds of the one that it stands for
+module _ {client : Kept} {s : State} {past : Past} (stands : StandsFor client s past) where
+  first_same : first_batch client.store.state ≡ first_batch s
+  first_same = ap first_batch stands.state
+
+  pub shaken_is : {response : WriteResponse} → Fits (steps_of past) (first_batch client.store.state) response Handshake → IsWritten s (steps_of past) response (answered [])
+  shaken_is {response} fits = shakes (subst (λ (b : Option Batch). Fits (steps_of past) b response Handshake) first_same fits) refl
+
+  unfit_so : {response : WriteResponse} (member : WriteMember) → Fails (steps_of past) (first_batch client.store.state) response member → IsWritten s (steps_of past) response (refused (BadMessage stream.Write (member_name member)))
+  unfit_so {response} member not = fails member (subst (λ (b : Option Batch). Fails (steps_of past) b response member) first_same not) refl
+
+pub unfit_is : {client : Kept} {s : State} {past : Past} {response : WriteResponse} {text : List ℕ} (member : WriteMember) → text ≡ member_name member → StandsFor client s past → Fails (steps_of past) (first_batch client.store.state) response member → IsWritten s (steps_of past) response (refused (BadMessage stream.Write text))
+unfit_is {client} {s} {past} {response} {text} member is stands not = subst (λ (t : List ℕ). IsWritten s (steps_of past) response (refused (BadMessage stream.Write t))) (sym is) (unfit_so stands member not)
 
 -- ---- the first batch leaves
 
@@ -201,31 +234,78 @@ pub settles_not : (s : State) (batch : ℕ) (time : Timestamp) (results : List W
 settles_not s batch time results many = ap (λ b. if b then commits (Acknowledge batch time results) (result batch (s.number + 1) time ∷ []) else refused IdsSpent) (le-ltb s.number most_commits many)
 
 -- a batch is rejected
-pub hands_rejected : {old new : Kept} (mid : Kept) {past : Past} {before : List Out} {vec : Vec Out Global} (batch : Batch) (name : StreamName) (status : RpcStatus) (ids : List ℕ) → StandsFor old old.store.state past → AreConcerned old.listeners batch.writes ids
+pub hands_rejected : {old new : Kept} (mid : Kept) {past : Past} {before : List Out} {vec : Vec Out Global} {given : List ℕ} (batch : Batch) (name : StreamName) (status : RpcStatus) (ids : List ℕ) → StandsFor old old.store.state past → AreConcerned old.listeners batch.writes ids
     → old.store.state.number < most_commits → first_batch old.store.state ≡ Some batch → old.writes.is_open ≡ true → closing_of (steps_of past) status.code ≡ Rejects
     → mid.root ≡ old.root → mid.listeners ≡ old.listeners → GoesOn old.writes mid.writes (λ h. closed ∷ h) → mid.store.state ≡ committed old.store.state (Reject batch.id)
-    → KeepsRest mid new → (IsQuietOrAmong ids mid → Raises mid new before vec.items) → before ≡ Rejected batch.id (old.store.state.number + 1) status ∷ []
+    → KeepsRest mid new → given ≡ ids → (IsQuietOrAmong given mid → Raises mid new before vec.items) → before ≡ Rejected batch.id (old.store.state.number + 1) status ∷ []
     → HandsSettled old.store.state past (event.Closed name status) (Done vec) new
-hands_rejected {old} {new} mid {past} {before} {vec} batch name status ids stands concerned few first open as root listeners goes state rest raises begins =
+hands_rejected {old} {new} mid {past} {before} {vec} {given} batch name status ids stands concerned few first opening such root listeners goes state rest same raises begins =
     hands_settled old.store.state past (event.Closed name status) (commits (Reject batch.id) (rejected batch.id (old.store.state.number + 1) status ∷ [])) mid new before vec
-    (sym (rejects_is old.store.state batch status few first) ∙ closed_rejects stands name status open as) state
+    (sym (rejects_is old.store.state batch status few first) ∙ closed_rejects stands name status opening such) state
     (λ id. ap (λ (t : Table). viewed t id) listeners ∙ stands.listeners id) rest
-    (raises (quiet_or_first mid batch ids (Reject batch.id) stands concerned first root listeners state (λ view never quiet. quiet_rejected old.root old.store.state batch.id view never quiet)))
+    (raises (subst (λ (l : List ℕ). IsQuietOrAmong l mid) (sym same) (quiet_or_first mid batch ids (Reject batch.id) stands concerned first root listeners state (λ view never quiet. quiet_rejected old.root old.store.state batch.id view never quiet))))
     (goes (steps_of past) stands.writes) stands.pending
     refl (λ id. refl) (λ h. refl)
     (subst (λ (os : List Out). AllZip (IsShown new) os (rejected batch.id (old.store.state.number + 1) status ∷ [])) (sym begins) (refl, tt))
 
 -- a batch is acknowledged
-pub hands_acknowledged : {old new : Kept} (mid : Kept) {past : Past} {before : List Out} {vec : Vec Out Global} (batch : Batch) (time : Timestamp) (response : WriteResponse) (ids : List ℕ) → StandsFor old old.store.state past → AreConcerned old.listeners batch.writes ids
+pub hands_acknowledged : {old new : Kept} (mid : Kept) {past : Past} {before : List Out} {vec : Vec Out Global} {given : List ℕ} (batch : Batch) (time : Timestamp) (response : WriteResponse) (ids : List ℕ) → StandsFor old old.store.state past → AreConcerned old.listeners batch.writes ids
     → old.store.state.number < most_commits → first_batch old.store.state ≡ Some batch → response.commit_time ≡ Some time → old.writes.is_open ≡ true → Fits (steps_of past) (first_batch old.store.state) response Acknowledges
     → mid.root ≡ old.root → mid.listeners ≡ old.listeners → GoesOn old.writes mid.writes (λ h. kept response.token ∷ acknowledged ∷ h) → mid.store.state ≡ committed old.store.state (Acknowledge batch.id time response.results)
-    → KeepsRest mid new → (IsQuietOrAmong ids mid → Raises mid new before vec.items) → before ≡ Result batch.id (old.store.state.number + 1) time ∷ []
+    → KeepsRest mid new → given ≡ ids → (IsQuietOrAmong given mid → Raises mid new before vec.items) → before ≡ Result batch.id (old.store.state.number + 1) time ∷ []
     → HandsSettled old.store.state past (event.Written response) (Done vec) new
-hands_acknowledged {old} {new} mid {past} {before} {vec} batch time response ids stands concerned few first at open fits root listeners goes state rest raises begins =
+hands_acknowledged {old} {new} mid {past} {before} {vec} {given} batch time response ids stands concerned few first at opening fits root listeners goes state rest same raises begins =
     hands_settled old.store.state past (event.Written response) (commits (Acknowledge batch.id time response.results) (result batch.id (old.store.state.number + 1) time ∷ [])) mid new before vec
-    (written_as stands response _ open (acknowledges batch time first at fits (sym (settles_is old.store.state batch.id time response.results few)))) state
+    (written_as stands response _ opening (acknowledges batch time first at fits (sym (settles_is old.store.state batch.id time response.results few)))) state
     (λ id. ap (λ (t : Table). viewed t id) listeners ∙ stands.listeners id) rest
-    (raises (quiet_or_first mid batch ids (Acknowledge batch.id time response.results) stands concerned first root listeners state (λ view never quiet. quiet_acknowledged old.root old.store.state batch.id time response.results view never quiet)))
+    (raises (subst (λ (l : List ℕ). IsQuietOrAmong l mid) (sym same) (quiet_or_first mid batch ids (Acknowledge batch.id time response.results) stands concerned first root listeners state (λ view never quiet. quiet_acknowledged old.root old.store.state batch.id time response.results view never quiet))))
     (subst (λ (b : Bool). StandsOn mid.writes (kept response.token ∷ (if b then acknowledged else shaken) ∷ steps_of past)) (sym fits.0) (goes (steps_of past) stands.writes)) stands.pending
     refl (λ id. refl) (λ h. refl)
     (subst (λ (os : List Out). AllZip (IsShown new) os (result batch.id (old.store.state.number + 1) time ∷ [])) (sym begins) (refl, tt))
+
+pub some_moment : {found : Option Timestamp} {time : Timestamp} → found ≡ Some time → IfSome found IsMoment → IsMoment time
+some_moment {found} {time} is of_it = subst (λ (t : Option Timestamp). IfSome t IsMoment) is of_it
+
+-- ---- what a crash finds
+
+-- the first batch is one that the commit may take
+fits_first : (bs : List Batch) (batch : Batch) (response : WriteResponse) → slice_get bs 0 ≡ Some batch → HasTransforms (slice_get bs 0) response → IsAnswered bs batch.id response.results
+fits_first [] batch response is has = absurd (none-some batch is)
+fits_first (b ∷ bs) batch response is has = record { first = ap (λ (x : Batch). x.id) (some_one b batch is); fit = has }
+  where
+    some_one : (x y : Batch) → Some x ≡ Some y → x ≡ y
+    some_one x y same = cc
+
+pub acknowledge_fits : (s : State) (batch : Batch) (id : ℕ) (time : Timestamp) (response : WriteResponse) → id ≡ batch.id → first_batch s ≡ Some batch → s.number < most_commits → HasTransforms (first_batch s) response → FitsState s (Acknowledge id time response.results)
+acknowledge_fits s batch id time response same first few has =
+    (subst (λ (n : ℕ). IsAnswered s.batches n response.results) (sym same) (fits_first s.batches batch response first has), few)
+
+pub moves_rejected : {old : Kept} {past : Past} {before later : View} (batch : Batch) (name : StreamName) (status : RpcStatus) → StandsFor old old.store.state past → old.store.state.number < most_commits → first_batch old.store.state ≡ Some batch → old.writes.is_open ≡ true → closing_of (steps_of past) status.code ≡ Rejects
+    → Moves old.store.state (committed old.store.state (Reject batch.id)) before later → MovesBy old.store.state past (event.Closed name status) before later
+moves_rejected {old} {past} batch name status stands few first opening such moves = record {
+  answer = commits (Reject batch.id) (rejected batch.id (old.store.state.number + 1) status ∷ []);
+  answers = sym (rejects_is old.store.state batch status few first) ∙ closed_rejects stands name status opening such;
+  moves = moves;
+}
+
+pub moves_acknowledged : {old : Kept} {past : Past} {before later : View} (batch : Batch) (time : Timestamp) (response : WriteResponse) → StandsFor old old.store.state past → old.store.state.number < most_commits → first_batch old.store.state ≡ Some batch → response.commit_time ≡ Some time → old.writes.is_open ≡ true
+    → Fits (steps_of past) (first_batch old.store.state) response Acknowledges → Moves old.store.state (committed old.store.state (Acknowledge batch.id time response.results)) before later → MovesBy old.store.state past (event.Written response) before later
+moves_acknowledged {old} {past} batch time response stands few first at opening fits moves = record {
+  answer = commits (Acknowledge batch.id time response.results) (result batch.id (old.store.state.number + 1) time ∷ []);
+  answers = written_as stands response _ opening (acknowledges batch time first at fits (sym (settles_is old.store.state batch.id time response.results few)));
+  moves = moves;
+}
+
+-- no number is left
+pub spent_rejects : {client : Kept} {past : Past} (batch : Batch) (name : StreamName) (status : RpcStatus) → StandsFor client client.store.state past → most_commits ≤ client.store.state.number → first_batch client.store.state ≡ Some batch → client.writes.is_open ≡ true → closing_of (steps_of past) status.code ≡ Rejects
+    → Answers client.store.state past (event.Closed name status) (refused IdsSpent)
+spent_rejects {client} {past} batch name status stands many first opening such = sym (rejects_not client.store.state batch status many first) ∙ closed_rejects stands name status opening such
+
+pub spent_acknowledges : {client : Kept} {past : Past} (response : WriteResponse) → StandsFor client client.store.state past → most_commits ≤ client.store.state.number → client.writes.is_open ≡ true → Fits (steps_of past) (first_batch client.store.state) response Acknowledges
+    → Answers client.store.state past (event.Written response) (refused IdsSpent)
+spent_acknowledges {client} {past} response stands many opening fits = by (first_batch client.store.state) refl response.commit_time refl
+  where
+    by : (found : Option Batch) → first_batch client.store.state ≡ found → (at : Option Timestamp) → response.commit_time ≡ at → Answers client.store.state past (event.Written response) (refused IdsSpent)
+    by None first at is = absurd (subst (λ (b : Option Batch). HasTransforms b response) first fits.2)
+    by (Some batch) first None is = absurd (fits.3 is)
+    by (Some batch) first (Some time) is = written_as stands response _ opening (acknowledges batch time first is fits (sym (settles_not client.store.state batch.id time response.results many)))

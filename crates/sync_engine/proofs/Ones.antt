@@ -195,7 +195,7 @@ written_one s h response t u (fails member not is) (acknowledges batch time firs
 written_one s h response t u (fails member not is) (fails other not_too is_too) =
     is ∙ ap (λ (m : WriteMember). refused (BadMessage stream.Write (member_name m))) (member_one h (first_batch s) response member other not not_too) ∙ sym is_too
 
-message_one : (s : State) (h : Steps) (response : WriteResponse) (open : Bool) (t u : Turn) → WrittenTurn s h response open t → WrittenTurn s h response open u → t ≡ u
+message_one : (s : State) (h : Steps) (response : WriteResponse) (opening : Bool) (t u : Turn) → WrittenTurn s h response opening t → WrittenTurn s h response opening u → t ≡ u
 message_one s h response true t u first second = written_one s h response t u first second
 message_one s h response false t u first second = first ∙ sym second
 

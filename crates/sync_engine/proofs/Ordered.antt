@@ -1,5 +1,5 @@
 -- the pending batches go out in order
-use Rattle.std.proofs.Common.{◌≡◌, ◌⊎◌, ⊎_elim, inl, inr, ℕ, ◌+◌, ◌-◌, ◌≤◌, ◌<◌, suc, zero, Bool, true, false, nat_lt, List, [], ◌∷◌, ◌++◌, map as each, length, drop, take, Option, Some, None, if◌then◌else◌, refl, sym, ap, subst, ◌∙◌, append-nil, arith}
+use Rattle.std.proofs.Common.{◌≡◌, ◌⊎◌, ⊎_elim, inl, inr, ℕ, ◌+◌, ◌-◌, ◌≤◌, ◌<◌, suc, zero, Bool, true, false, nat_lt, List, [], ◌∷◌, ◌++◌, map as each, length, drop, take, Option, Some, None, if◌then◌else◌, refl, sym, ap, subst, ◌∙◌, append-nil, arith, length-append}
 use Rattle.std.proofs.lemmas.Bool.{true≢false}
 use Rattle.std.proofs.lemmas.List.{append_assoc, drop-append-le, length-drop, length-map, take-append-drop}
 use Rattle.std.proofs.lemmas.Option.{none-some}
@@ -39,14 +39,24 @@ use Rattle.sync_engine.proofs.Steps.{length_more, sent_behind}
 
 -- ---- lists
 
+zero_plus : (n : ℕ) → 0 + n ≡ n
+zero_plus n = omega arith
+
+suc_plus : (m n : ℕ) → suc m + n ≡ suc (m + n)
+suc_plus m n = omega arith
+
+take_none : {X : Type 0} (n : ℕ) → take {A = X} n [] ≡ []
+take_none zero = refl
+take_none (suc n) = refl
+
+drop_none : {X : Type 0} (n : ℕ) → drop {A = X} n [] ≡ []
+drop_none zero = refl
+drop_none (suc n) = refl
+
 take_more_of : {X : Type 0} (a b : ℕ) (xs : List X) → take (a + b) xs ≡ take a xs ++ take b (drop a xs)
-take_more_of zero b xs = refl
-take_more_of (suc a) b [] = by b
-  where
-    by : (n : ℕ) → [] ≡ take n (drop (suc a) [])
-    by zero = refl
-    by (suc n) = refl
-take_more_of (suc a) b (x ∷ xs) = ap (λ l. x ∷ l) (take_more_of a b xs)
+take_more_of zero b xs = ap (λ n. take n xs) (zero_plus b)
+take_more_of (suc a) b [] = take_none (suc a + b) ∙ sym (take_none b)
+take_more_of (suc a) b (x ∷ xs) = ap (λ n. take n (x ∷ xs)) (suc_plus a b) ∙ ap (λ l. x ∷ l) (take_more_of a b xs)
 
 take_own : {X : Type 0} (n : ℕ) (xs : List X) → take (length (take n xs)) xs ≡ take n xs
 take_own zero xs = refl
@@ -65,10 +75,9 @@ take_front (suc n) [] ys less = absurd (omega (arith, less))
 take_front (suc n) (x ∷ xs) ys less = ap (λ l. x ∷ l) (take_front n xs ys (omega (arith, less)))
 
 drop_twice : {X : Type 0} (n m : ℕ) (xs : List X) → drop n (drop m xs) ≡ drop (m + n) xs
-drop_twice n zero xs = refl
-drop_twice zero (suc m) [] = refl
-drop_twice (suc n) (suc m) [] = refl
-drop_twice n (suc m) (x ∷ xs) = drop_twice n m xs
+drop_twice n zero xs = ap (λ k. drop k xs) (sym (zero_plus n))
+drop_twice n (suc m) [] = drop_none n ∙ sym (drop_none (suc m + n))
+drop_twice n (suc m) (x ∷ xs) = drop_twice n m xs ∙ ap (λ k. drop k (x ∷ xs)) (sym (suc_plus m n))
 
 length_taken : {X : Type 0} (n : ℕ) (xs : List X) → length (take n xs) ≤ length xs
 length_taken zero xs = omega arith
@@ -90,10 +99,6 @@ map_append : {X Y : Type 0} (f : X → Y) (xs ys : List X) → each f (xs ++ ys)
 map_append f [] ys = refl
 map_append f (x ∷ xs) ys = ap (λ l. f x ∷ l) (map_append f xs ys)
 
-length_added : {X : Type 0} (xs ys : List X) → length (xs ++ ys) ≡ length xs + length ys
-length_added [] ys = refl
-length_added (x ∷ xs) ys = let rest = length_added xs ys in omega (arith, rest)
-
 abbrev writes_of : Batch → List Write
 writes_of batch = batch.writes
 
@@ -104,13 +109,13 @@ pub record Ordered (out : List (List Write)) (queue : List Batch) (left : ℕ) (
   pub sent : out ≡ each writes_of (take (length out) queue)
   pub pending : batches ≡ drop left queue
   pub within : left ≤ length queue
-  pub outstanding : is_open h ≡ true → left + outstanding h ≡ length out
+  pub counts : is_open h ≡ true → left + outstanding h ≡ length out
   pub few : outstanding h ≤ 10
-  pub open : is_ready h ≡ true → is_open h ≡ true
+  pub opening : is_ready h ≡ true → is_open h ≡ true
 
 not_more : {out : List (List Write)} {queue : List Batch} {left : ℕ} {h : Steps} {batches : List Batch} → Ordered out queue left h batches → length out ≤ length queue
 not_more {out} {queue} it =
-    let same : length out ≡ length (take (length out) queue) = ap (λ (l : List (List Write)). length l) it.sent ∙ length-map writes_of (take (length out) queue) in
+    let same : length out ≡ length (take (length out) queue) = ap (λ (l : List (List Write)). length l) it.sent ∙ length-map (take (length out) queue) writes_of in
     let low = length_taken (length out) queue in
     omega (arith, same, low)
 
@@ -119,7 +124,7 @@ behind : (out : List (List Write)) (queue : List Batch) (left : ℕ) (h : Steps)
 behind out queue left h batches it = by (is_ready h) refl
   where
     ready_still : (n : ℕ) → is_ready (sent_times n h) ≡ true → is_open (sent_times n h) ≡ true
-    ready_still n ready = sent_open n h ∙ it.open (sym (sent_ready n h) ∙ ready)
+    ready_still n ready = sent_open n h ∙ it.opening (sym (sent_ready n h) ∙ ready)
 
     after_it : (xs : List Batch) → Ordered (out ++ each writes_of xs) queue left (sent_times (length xs) h) batches → to_send h batches ≡ xs → Ordered (out ++ each writes_of (to_send h batches)) queue left (sent_times (length (to_send h batches)) h) batches
     after_it xs done same = subst (λ (l : List Batch). Ordered (out ++ each writes_of l) queue left (sent_times (length l) h) batches) (sym same) done
@@ -134,11 +139,11 @@ behind out queue left h batches it = by (is_ready h) refl
         xs : List Batch
         xs = drop n (take 10 batches)
 
-        open : is_open h ≡ true
-        open = it.open ready
+        opening : is_open h ≡ true
+        opening = it.opening ready
 
         count : left + n ≡ length out
-        count = it.outstanding open
+        count = it.counts opening
 
         -- what was sent is as many as have left, the outstanding ones, and those that go out
         whole : take (length out) queue ++ xs ≡ take (left + 10) queue
@@ -154,10 +159,10 @@ behind out queue left h batches it = by (is_ready h) refl
         all = ap (λ (l : List (List Write)). l ++ each writes_of xs) it.sent ∙ sym (map_append writes_of (take (length out) queue) xs) ∙ ap (each writes_of) whole
 
         size : length (out ++ each writes_of xs) ≡ length (take (left + 10) queue)
-        size = ap (λ (l : List (List Write)). length l) all ∙ length-map writes_of (take (left + 10) queue)
+        size = ap (λ (l : List (List Write)). length l) all ∙ length-map (take (left + 10) queue) writes_of
 
         more : length (out ++ each writes_of xs) ≡ length out + length xs
-        more = length_added out (each writes_of xs) ∙ ap (λ m. length out + m) (length-map writes_of xs)
+        more = length-append out (each writes_of xs) ∙ ap (λ m. length out + m) (length-map xs writes_of)
 
         few_more : length xs ≤ 10 - n
         few_more =
@@ -170,9 +175,9 @@ behind out queue left h batches it = by (is_ready h) refl
           sent = all ∙ ap (each writes_of) (sym (take_own (left + 10) queue) ∙ ap (λ m. take m queue) (sym size));
           pending = it.pending;
           within = it.within;
-          outstanding = λ still. let c = sent_count (length xs) h in let m = more in omega (arith, c, m, count);
+          counts = λ still. let c = sent_count (length xs) h in let m = more in omega (arith, c, m, count);
           few = let c = sent_count (length xs) h in let f = few_more in let few = it.few in omega (arith, c, f, few);
-          open = ready_still (length xs);
+          opening = ready_still (length xs);
         }
 
 -- ---- an event's answer
@@ -188,7 +193,7 @@ same_again {out} {queue} {left} {h} {batches} it =
 
 -- the stream is closed
 ended : {out : List (List Write)} {queue : List Batch} {left : ℕ} {h : Steps} {batches : List Batch} → Ordered out queue left h batches → Ordered out queue left (closed ∷ h) batches
-ended it = record { sent = it.sent; pending = it.pending; within = it.within; outstanding = λ open. absurd (true≢false (sym open)); few = omega arith; open = λ ready. absurd (true≢false (sym ready)) }
+ended it = record { sent = it.sent; pending = it.pending; within = it.within; counts = λ opening. absurd (true≢false (sym opening)); few = omega arith; opening = λ ready. absurd (true≢false (sym ready)) }
 
 -- a batch joins
 joins : {out : List (List Write)} {queue : List Batch} {left : ℕ} {h : Steps} {batches : List Batch} (batch : Batch) → Ordered out queue left h batches → Ordered out (queue ++ batch ∷ []) (left + 0) h (batches ++ batch ∷ [])
@@ -196,9 +201,9 @@ joins {out} {queue} {left} {h} {batches} batch it = record {
   sent = it.sent ∙ ap (each writes_of) (sym (take_front (length out) queue (batch ∷ []) (not_more it)));
   pending = ap (λ (l : List Batch). l ++ batch ∷ []) it.pending ∙ sym (drop-append-le left queue (batch ∷ []) it.within) ∙ ap (λ m. drop m (queue ++ batch ∷ [])) zero_more;
   within = let long = length_more queue batch in let low = it.within in omega (arith, long, low);
-  outstanding = λ open. let all = it.outstanding open in omega (arith, all);
+  counts = λ opening. let all = it.counts opening in omega (arith, all);
   few = it.few;
-  open = it.open;
+  opening = it.opening;
 }
   where
     zero_more : left ≡ left + 0
@@ -207,13 +212,13 @@ joins {out} {queue} {left} {h} {batches} batch it = record {
 -- the first batch leaves
 leaves : {out : List (List Write)} {queue : List Batch} {left : ℕ} {h g : Steps} {batches : List Batch} (first : Batch) → slice_get batches 0 ≡ Some first → Ordered out queue left h batches → (is_open g ≡ true → left + 1 + outstanding g ≡ length out) → outstanding g ≤ 10 → (is_ready g ≡ true → is_open g ≡ true)
     → Ordered out (queue ++ []) (left + 1) g (drop 1 batches)
-leaves {out} {queue} {left} {h} {g} {batches} first there it counts few open = subst (λ (q : List Batch). Ordered out q (left + 1) g (drop 1 batches)) (sym (append-nil queue)) (record {
+leaves {out} {queue} {left} {h} {g} {batches} first there it counts few opening = subst (λ (q : List Batch). Ordered out q (left + 1) g (drop 1 batches)) (sym (append-nil queue)) (record {
   sent = it.sent;
   pending = ap (drop 1) it.pending ∙ drop_twice 1 left queue;
   within = let less = some_dropped left queue first (subst (λ (l : List Batch). slice_get l 0 ≡ Some first) it.pending there) in omega (arith, less);
-  outstanding = counts;
+  counts = counts;
   few = few;
-  open = open;
+  opening = opening;
 })
 
 -- ---- events, one by one
@@ -252,48 +257,48 @@ module _ (first : State) (past : Past) (s : State) (state : s ≡ now first past
   stands_ends id None = λ heard. unheard heard
   stands_ends id (Some view) = λ heard. same_again it
 
-  stands_opened : (name : StreamName) (open : Bool) → Stands (event.Opened name) (opened_turn name open)
+  stands_opened : (name : StreamName) (opening : Bool) → Stands (event.Opened name) (opened_turn name opening)
   stands_opened name true = λ heard. unheard heard
   stands_opened name false = λ heard. record {
     sent = refl;
     pending = sym (append-nil s.batches);
     within = omega arith;
-    outstanding = λ open. omega arith;
+    counts = λ opening. omega arith;
     few = omega arith;
-    open = λ ready. refl;
+    opening = λ ready. refl;
   }
 
   stands_rejects : (name : StreamName) (status : RpcStatus) (found : Option Batch) → first_batch s ≡ found → Stands (event.Closed name status) (rejects s found status)
   stands_rejects name status None is = λ heard. same_again (ended it)
   stands_rejects name status (Some batch) is = stands_if (event.Closed name status) (nat_lt s.number most_commits) (commits (Reject batch.id) (rejected batch.id (s.number + 1) status ∷ [])) (refused IdsSpent)
-      (λ heard. leaves batch is it (λ open. absurd (true≢false (sym open))) (omega arith) (λ ready. absurd (true≢false (sym ready))))
+      (λ heard. leaves batch is it (λ opening. absurd (true≢false (sym opening))) (omega arith) (λ ready. absurd (true≢false (sym ready))))
       (λ heard. unheard heard)
 
   stands_closes : (name : StreamName) (status : RpcStatus) (closing : Closing) → Stands (event.Closed name status) (closes s status closing)
   stands_closes name status KeepsAll = λ heard. same_again (ended it)
   stands_closes name status Rejects = stands_rejects name status (first_batch s) refl
 
-  stands_closed : (name : StreamName) (status : RpcStatus) (open : Bool) → Stands (event.Closed name status) (closed_turn s h name status open)
+  stands_closed : (name : StreamName) (status : RpcStatus) (opening : Bool) → Stands (event.Closed name status) (closed_turn s h name status opening)
   stands_closed name status true = stands_closes name status (closing_of h status.code)
   stands_closed name status false = λ heard. unheard heard
 
-  stands_bad : (name : StreamName) (member : List ℕ) (open : Bool) → Stands (event.BadMessage name member) (bad_turn name member open)
+  stands_bad : (name : StreamName) (member : List ℕ) (opening : Bool) → Stands (event.BadMessage name member) (bad_turn name member opening)
   stands_bad name member true = λ heard. same_again (ended it)
   stands_bad name member false = λ heard. unheard heard
 
   shaken_now : (response : WriteResponse) → is_open h ≡ true → Ordered (sent_since past) (queue_since first past) (left_since past) (kept_token response.token ∷ shaken ∷ h) s.batches
-  shaken_now response open = record { sent = it.sent; pending = it.pending; within = it.within; outstanding = it.outstanding; few = it.few; open = λ ready. open }
+  shaken_now response opening = record { sent = it.sent; pending = it.pending; within = it.within; counts = it.counts; few = it.few; opening = λ ready. opening }
 
-  stands_written : (response : WriteResponse) (open : Bool) → is_open h ≡ open → (t : Turn) → WrittenTurn s h response open t → Stands (event.Written response) t
-  stands_written response true open t (shakes fits is) = subst (Stands (event.Written response)) (sym is)
-      (λ heard. subst (λ (b : Bool). Ordered (sent_since past) (queue_since first past ++ []) (left_since past + 0) (kept_token response.token ∷ (if b then acknowledged else shaken) ∷ h) s.batches) (sym fits.0) (same_again (shaken_now response open)))
-  stands_written response true open t (acknowledges batch time there at fits is) = subst (Stands (event.Written response)) (sym is)
+  stands_written : (response : WriteResponse) (opening : Bool) → is_open h ≡ opening → (t : Turn) → WrittenTurn s h response opening t → Stands (event.Written response) t
+  stands_written response true opening t (shakes fits is) = subst (Stands (event.Written response)) (sym is)
+      (λ heard. subst (λ (b : Bool). Ordered (sent_since past) (queue_since first past ++ []) (left_since past + 0) (kept_token response.token ∷ (if b then acknowledged else shaken) ∷ h) s.batches) (sym fits.0) (same_again (shaken_now response opening)))
+  stands_written response true opening t (acknowledges batch time there at fits is) = subst (Stands (event.Written response)) (sym is)
       (stands_if (event.Written response) (nat_lt s.number most_commits) (commits (Acknowledge batch.id time response.results) (result batch.id (s.number + 1) time ∷ [])) (refused IdsSpent)
       (λ heard. subst (λ (b : Bool). Ordered (sent_since past) (queue_since first past ++ []) (left_since past + 1) (kept_token response.token ∷ (if b then acknowledged else shaken) ∷ h) (drop 1 s.batches)) (sym fits.0)
-      (leaves batch there it (λ still. let all = it.outstanding open in let some = fits.1 in omega (arith, all, some)) (let few = it.few in omega (arith, few)) (λ ready. open)))
+      (leaves batch there it (λ still. let all = it.counts opening in let some = fits.1 in omega (arith, all, some)) (let few = it.few in omega (arith, few)) (λ ready. opening)))
       (λ heard. unheard heard))
-  stands_written response true open t (fails member not is) = subst (Stands (event.Written response)) (sym is) (λ heard. same_again (ended it))
-  stands_written response false open t is = subst (Stands (event.Written response)) (sym is) (λ heard. unheard heard)
+  stands_written response true opening t (fails member not is) = subst (Stands (event.Written response)) (sym is) (λ heard. same_again (ended it))
+  stands_written response false opening t is = subst (Stands (event.Written response)) (sym is) (λ heard. unheard heard)
 
   stands_answered : (e : Event) (t : Turn) → Answers s past e t → Stands e t
   stands_answered (event.Write at writes) t is = subst (Stands (event.Write at writes)) (sym is)
@@ -396,7 +401,7 @@ module _ (root : Root) (first : State) (past : Past) (s : State) (e : Event) (se
       (subst (λ l. Ordered l (queue_since first (entry_with (Some refusal) [])) (left_since (entry_with (Some refusal) [])) g bs) (sym (append-nil (unless_opened e (sent_since past)))) before))
 
 ordered_all : (root : Root) (first : State) (past : Past) → AreHeard root first past → Ordered (sent_since past) (queue_since first past) (left_since past) (steps_of past) (now first past).batches
-ordered_all root first [] heard = record { sent = refl; pending = refl; within = omega arith; outstanding = λ open. absurd (true≢false (sym open)); few = omega arith; open = λ ready. absurd (true≢false (sym ready)) }
+ordered_all root first [] heard = record { sent = refl; pending = refl; within = omega arith; counts = λ opening. absurd (true≢false (sym opening)); few = omega arith; opening = λ ready. absurd (true≢false (sym ready)) }
 ordered_all root first (entry ∷ past) heard =
     let next = heard.1 in
     let it = subst (λ (x : State). Ordered (sent_since past) (queue_since first past) (left_since past) (steps_of past) x.batches) (sym next.state) (ordered_all root first past heard.0) in
@@ -409,4 +414,4 @@ ordered_all root first (entry ∷ past) heard =
 pub writes_go_in_order : WritesGoInOrder
 writes_go_in_order root first past heard =
     let it = ordered_all root first past heard in
-    record { sent = it.sent; pending = it.pending; outstanding = it.outstanding; few = it.few }
+    record { sent = it.sent; pending = it.pending; counts = it.counts; few = it.few }

@@ -134,7 +134,7 @@ unnamed_stays s batch key none =
     or_none false = refl
 
 module _ (target : Target) where
-  Apart : List (List ℕ) → Type 0
+  abbrev Apart : List (List ℕ) → Type 0
   Apart key = Concerns target key → ⊥
 
   all_keys : (ws : List Write) → All (λ (w : Write). Apart (written_key w)) ws → All Apart (keys_of ws)

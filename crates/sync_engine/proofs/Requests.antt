@@ -238,7 +238,7 @@ module _ (mid new : Kept) (s : State) (past : Past) (e : Event) (commit : Option
     quiet = λ id.
         subst (λ (v : Option Viewed). IfSome v (IsQuiet new.root (after s commit))) (ap (λ r. told r (asked id e (listener id past))) (sym (unsaid id)))
         (subst (λ (r : Root). IfSome (told (raised_in id lines) (asked id e (listener id past))) (IsQuiet r (after s commit))) (sym kept.root) (stands.quiet id));
-    writes = subst (StandsOn new.writes) (sym steps) (record { open = kept.open ∙ on.open ∙ sym (sent_open sends.count h); pipeline = sends.stands h on.pipeline });
+    writes = subst (StandsOn new.writes) (sym steps) (record { opening = kept.opening ∙ on.opening ∙ sym (sent_open sends.count h); pipeline = sends.stands h on.pipeline });
     pending = subst (λ (g : Steps). outstanding g ≤ length batches) (sym steps)
         (within h batches sends.count all (subst (λ (g : Steps). outstanding g ≤ length batches) (silent h) stands.pending));
   }

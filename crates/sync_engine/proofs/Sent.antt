@@ -6,15 +6,25 @@ use Rattle.std.proofs.lemmas.Option.{none-some}
 use Rattle.std.specs.List.{AllZip, slice_get}
 use Rattle.mutations.specs.declared.batch.Batch.{Batch}
 use Rattle.write_pipeline.specs.Order.{Steps, is_ready, latest_token, may_send, next_place, outstanding, sent}
-use Rattle.write_pipeline.specs.Standing.{StandsFor as PipelineStandsFor}
+use Rattle.write_pipeline.proofs.Some.{stands_for_some}
+use Rattle.write_pipeline.specs.Standing.{MaySend, StandsFor as PipelineStandsFor, step_of}
+use Rattle.write_pipeline.specs.declared.pipeline.WritePipeline.{WritePipeline}
+use Rattle.write_pipeline.specs.declared.answer.Answer.{Answer}
+use Rattle.write_pipeline.specs.declared.answer.Answer.TheVariants.{Handshake, Acknowledges}
 use Rattle.sync_engine.specs.Lines.{Line}
 use Rattle.sync_engine.specs.Past.{sent_in}
-use Rattle.sync_engine.specs.Sending.{KeepsButPipeline, Sends, from_place, sent_times}
+use Rattle.local_store.specs.Store.{Store}
+use Rattle.sync_engine.specs.Sending.{KeepsButPipeline, Sends, from_place, sent_times, then_sent}
 use Rattle.sync_engine.specs.Standing.{ComesAs, Kept}
+use Rattle.sync_engine.specs.declared.write_stream.WriteStream.{WriteStream}
 use Rattle.sync_engine.specs.Telling.{IsShown}
 use Rattle.sync_engine.specs.Writing.{is_open, request_of, to_send}
 use Rattle.sync_engine.specs.declared.out.Out.{Out}
 use Rattle.sync_engine.specs.declared.out.Out.TheVariants.{SendBatch}
+
+-- what holds of whatever a stream stands for holds of something
+pub comes_some : {P : Steps → Type 0} (writes : WriteStream) → ComesAs writes P → (h : Steps) × P h
+comes_some writes comes = let it = stands_for_some writes.pipeline in (it.0, comes it.0 it.1)
 
 -- ---- what stays where batches are sent
 
@@ -33,6 +43,11 @@ sent_token (suc n) h = sent_token n h
 pub sent_count : (n : ℕ) (h : Steps) → outstanding (sent_times n h) ≡ outstanding h + n
 sent_count zero h = omega arith
 sent_count (suc n) h = let less = sent_count n h in omega (arith, less)
+
+-- a message that fits leaves it open
+pub answered_open : (answer : Answer) (h : Steps) → is_open h ≡ is_open (step_of answer ∷ h)
+answered_open Handshake h = refl
+answered_open Acknowledges h = refl
 
 -- ---- how many are sent
 
@@ -79,6 +94,11 @@ next_not h pending is = go (is_ready h) refl (nat_lt (outstanding h) 10) refl (n
 
 pub may_from : (h : Steps) (pending place : ℕ) → next_place h pending ≡ Some place → may_send h ≡ true
 may_from h pending place is = let next = next_is h pending place is in ap (λ b. b && nat_lt (outstanding h) 10) next.ready ∙ lt-ltb (outstanding h) 10 next.few
+
+pub may_send_by : {p : WritePipeline} {result : Option ℕ} (pending place : ℕ) → ((h : Steps) → PipelineStandsFor p h → result ≡ next_place h pending) → result ≡ Some place → MaySend p
+may_send_by {p} {result} pending place next some =
+    let it = stands_for_some p in
+    record { steps = it.0; stands = it.1; may = may_from it.0 pending place (sym (next it.0 it.1) ∙ some) }
 
 -- one more is sent
 more_to_send : (h : Steps) (bs : List Batch) (i place : ℕ) → next_place (sent_times i h) (length bs) ≡ Some place → i + 1 ≤ length (to_send h bs)
@@ -133,7 +153,7 @@ within h bs count all pending = let more = sent_count count h in by (is_ready h)
 
 -- ---- the places of those that are sent
 
-pub from_more : (place n : ℕ) → from_place place n ++ SendBatch (place + n) ∷ [] ≡ from_place place (n + 1)
+pub from_more : (place n : ℕ) → from_place place n ++ SendBatch (place + n) ∷ [] ≡ from_place place (suc n)
 from_more place zero = ap (λ p. SendBatch p ∷ []) (zero_more place)
   where
     zero_more : (p : ℕ) → p + 0 ≡ p
@@ -149,40 +169,62 @@ pub record Sending (old now : Kept) (before outs : List Out) (i : ℕ) : Type 0 
   pub rest : KeepsButPipeline old now
   pub stands : ComesAs old.writes (λ h. PipelineStandsFor now.writes.pipeline (sent_times i h))
   pub some : ComesAs old.writes (λ h. i ≤ length (to_send h old.store.state.batches))
-  pub outs : ComesAs old.writes (λ h. outs ≡ before ++ from_place (outstanding h) i)
+  pub told : ComesAs old.writes (λ h. outs ≡ before ++ from_place (outstanding h) i)
 
 pub none_sent : (old : Kept) (outs : List Out) → Sending old old outs outs 0
 none_sent old outs = record {
-  rest = record { root = refl; store = refl; listeners = refl; open = refl; spent = refl };
+  rest = record { root = refl; store = refl; listeners = refl; opening = refl; spent = refl };
   stands = λ h stands. stands;
   some = λ h stands. omega arith;
-  outs = λ h stands. sym (append-nil outs);
+  told = λ h stands. sym (append-nil outs);
 }
 
-pub sent_all : {old now : Kept} {before outs : List Out} {i : ℕ} → ComesAs now.writes (λ h. next_place h (length old.store.state.batches) ≡ None) ⊎ (i ≡ 10) → Sending old now before outs i → Sends old now before outs
-sent_all {old} {now} {before} {outs} {i} ends it = record {
+keeps_then : {old mid new : Kept} → KeepsButPipeline old mid → KeepsButPipeline mid new → KeepsButPipeline old new
+keeps_then first second = record { root = second.root ∙ first.root; store = second.store ∙ first.store; listeners = second.listeners ∙ first.listeners; opening = second.opening ∙ first.opening; spent = second.spent ∙ first.spent }
+
+pub sent_rest : {old now new : Kept} {before outs : List Out} {i : ℕ} → Sending old now before outs i → KeepsButPipeline now new → KeepsButPipeline old new
+sent_rest it more = keeps_then it.rest more
+
+same_batches : {old now : Kept} → KeepsButPipeline old now → now.store.state.batches ≡ old.store.state.batches
+same_batches rest = ap (λ (x : Store). x.state.batches) rest.store
+
+-- no more may be sent
+pub sent_none : {old now new : Kept} {before outs : List Out} {i : ℕ} {result : Option ℕ} → ComesAs now.writes (λ h. result ≡ next_place h (length now.store.state.batches)) → result ≡ None
+    → ComesAs now.writes (λ h. PipelineStandsFor new.writes.pipeline (then_sent result h)) → Sending old now before outs i → Sends old new before outs
+sent_none {old} {now} {new} {before} {outs} {i} {result} next none stands it = record {
+  count = i;
+  stands = λ h on. subst (λ (r : Option ℕ). PipelineStandsFor new.writes.pipeline (then_sent r (sent_times i h))) none (stands (sent_times i h) (it.stands h on));
+  all = λ h on. all_sent h old.store.state.batches i
+      (ap (λ (bs : List Batch). next_place (sent_times i h) (length bs)) (sym (same_batches it.rest)) ∙ sym (next (sent_times i h) (it.stands h on)) ∙ none) (it.some h on);
+  outs = it.told;
+}
+
+-- ten were sent
+pub sent_ten : {old now : Kept} {before outs : List Out} {i : ℕ} → i ≡ 10 → Sending old now before outs i → Sends old now before outs
+sent_ten {old} {now} {before} {outs} {i} ten it = record {
   count = i;
   stands = it.stands;
-  all = λ h stands. ⊎_elim
-      (λ none. all_sent h old.store.state.batches i (none (sent_times i h) (it.stands h stands)) (it.some h stands))
-      (λ ten. ten_sent h old.store.state.batches i ten (it.some h stands)) ends;
-  outs = it.outs;
+  all = λ h on. ten_sent h old.store.state.batches i ten (it.some h on);
+  outs = it.told;
 }
 
-pub sent_more : {old now new : Kept} {before outs more : List Out} {i place : ℕ} → ComesAs now.writes (λ h. next_place h (length old.store.state.batches) ≡ Some place) → KeepsButPipeline now new
-    → ((h : Steps) → PipelineStandsFor now.writes.pipeline h → PipelineStandsFor new.writes.pipeline (sent ∷ h)) → more ≡ outs ++ SendBatch place ∷ [] → Sending old now before outs i → Sending old new before more (i + 1)
-sent_more {old} {now} {new} {before} {outs} {more} {i} {place} next kept takes pushed it = record {
-  rest = record { root = kept.root ∙ it.rest.root; store = kept.store ∙ it.rest.store; listeners = kept.listeners ∙ it.rest.listeners; open = kept.open ∙ it.rest.open; spent = kept.spent ∙ it.rest.spent };
-  stands = λ h stands. subst (λ n. PipelineStandsFor new.writes.pipeline (sent_times n h)) one_more (takes (sent_times i h) (it.stands h stands));
-  some = λ h stands. more_to_send h old.store.state.batches i place (next (sent_times i h) (it.stands h stands));
-  outs = λ h stands.
-      pushed ∙ ap (λ (l : List Out). l ++ SendBatch place ∷ []) (it.outs h stands) ∙ append_assoc before (from_place (outstanding h) i) (SendBatch place ∷ [])
-      ∙ ap (λ p. before ++ (from_place (outstanding h) i ++ SendBatch p ∷ [])) (place_is h old.store.state.batches i place (next (sent_times i h) (it.stands h stands)))
-      ∙ ap (λ l. before ++ l) (from_more (outstanding h) i);
+pub sent_more : {old now new : Kept} {before outs more : List Out} {i place : ℕ} {result : Option ℕ} → KeepsButPipeline now new → ComesAs now.writes (λ h. result ≡ next_place h (length now.store.state.batches)) → result ≡ Some place
+    → ComesAs now.writes (λ h. PipelineStandsFor new.writes.pipeline (then_sent result h)) → more ≡ outs ++ SendBatch place ∷ [] → Sending old now before outs i → Sending old new before more (i + 1)
+sent_more {old} {now} {new} {before} {outs} {more} {i} {place} {result} rest next some stands pushed it = record {
+  rest = keeps_then it.rest rest;
+  stands = λ h on. subst (λ n. PipelineStandsFor new.writes.pipeline (sent_times n h)) one_more (subst (λ (r : Option ℕ). PipelineStandsFor new.writes.pipeline (then_sent r (sent_times i h))) some (stands (sent_times i h) (it.stands h on)));
+  some = λ h on. more_to_send h old.store.state.batches i place (is_next h on);
+  told = λ h on.
+      pushed ∙ ap (λ (l : List Out). l ++ SendBatch place ∷ []) (it.told h on) ∙ append_assoc before (from_place (outstanding h) i) (SendBatch place ∷ [])
+      ∙ ap (λ p. before ++ (from_place (outstanding h) i ++ SendBatch p ∷ [])) (place_is h old.store.state.batches i place (is_next h on))
+      ∙ ap (λ l. before ++ l) (from_more (outstanding h) i ∙ ap (from_place (outstanding h)) one_more);
 }
   where
     one_more : suc i ≡ i + 1
     one_more = omega arith
+
+    is_next : ComesAs old.writes (λ h. next_place (sent_times i h) (length old.store.state.batches) ≡ Some place)
+    is_next h on = ap (λ (bs : List Batch). next_place (sent_times i h) (length bs)) (sym (same_batches it.rest)) ∙ sym (next (sent_times i h) (it.stands h on)) ∙ some
 
 -- ---- the lines of those that are sent
 
@@ -199,12 +241,18 @@ abbrev StandFrom : List Batch → ℕ → List Batch → Type 0
 StandFrom bs place xs = (j : ℕ) (x : Batch) → slice_get xs j ≡ Some x → slice_get bs (place + j) ≡ Some x
 
 get_drop : (n : ℕ) (xs : List Batch) → StandFrom xs n (drop n xs)
-get_drop zero xs j x is = is
+get_drop zero xs j x is = subst (λ k. slice_get xs k ≡ Some x) (zero_before j) is
+  where
+    zero_before : (k : ℕ) → k ≡ 0 + k
+    zero_before k = omega arith
 get_drop (suc n) [] j x is = absurd (none-some x (sym (nothing_there j) ∙ is))
   where
-    nothing_there : (k : ℕ) → slice_get {Batch} [] k ≡ None
+    nothing_there : (k : ℕ) → slice_get {X = Batch} [] k ≡ None
     nothing_there k = refl
-get_drop (suc n) (y ∷ xs) j x is = get_drop n xs j x is
+get_drop (suc n) (y ∷ xs) j x is = subst (λ k. slice_get (y ∷ xs) k ≡ Some x) (suc_before n j) (get_drop n xs j x is)
+  where
+    suc_before : (m k : ℕ) → suc (m + k) ≡ suc m + k
+    suc_before m k = omega arith
 
 get_take : (n : ℕ) (xs : List Batch) (k : ℕ) (x : Batch) → slice_get (take n xs) k ≡ Some x → slice_get xs k ≡ Some x
 get_take zero xs k x is = absurd (none-some x is)

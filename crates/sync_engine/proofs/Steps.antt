@@ -1,5 +1,5 @@
 -- what is done on the stream of writes
-use Rattle.std.proofs.Common.{◌≡◌, ℕ, ◌+◌, ◌-◌, ◌≤◌, suc, zero, Bool, true, false, List, [], ◌∷◌, ◌++◌, map as each, length, drop, nat_lt, Option, Some, None, if◌then◌else◌, refl, sym, ap, subst, ◌∙◌, arith}
+use Rattle.std.proofs.Common.{◌≡◌, ℕ, ◌+◌, ◌-◌, ◌≤◌, suc, zero, Bool, true, false, List, [], ◌∷◌, ◌++◌, map as each, length, drop, nat_lt, Option, Some, None, if◌then◌else◌, refl, sym, ap, subst, ◌∙◌, arith, length-append}
 use Rattle.client_events.specs.declared.event.Event.{Event}
 use Rattle.client_events.specs.declared.event.Event.TheVariants as event
 use Rattle.local_store.specs.State.{State, most_commits}
@@ -39,13 +39,12 @@ sent_told s (t ∷ ts) h = sent_told s ts h
 
 -- ---- what is outstanding is pending
 
-length_more : (bs : List Batch) (b : Batch) → length (bs ++ b ∷ []) ≡ length bs + 1
-length_more [] b = refl
-length_more (x ∷ bs) b = ap suc (length_more bs b)
+pub length_more : (bs : List Batch) (b : Batch) → length (bs ++ b ∷ []) ≡ length bs + 1
+length_more bs b = length-append bs (b ∷ [])
 
 length_behind : (bs : List Batch) → length (drop 1 bs) ≡ length bs - 1
 length_behind [] = refl
-length_behind (b ∷ bs) = refl
+length_behind (b ∷ bs) = omega arith
 
 -- at most as many are outstanding as the state after the turn has pending
 abbrev Few : State → Event → Steps → Turn → Type 0
@@ -68,7 +67,7 @@ few_written s h response t (acknowledges batch time first at fits is) few =
     (omega arith))
 few_written s h response t (fails member not is) few = subst (Few s (event.Written response) h) (sym is) (omega arith)
 
-few_message : (s : State) (h : Steps) (response : WriteResponse) (open : Bool) (t : Turn) → WrittenTurn s h response open t → outstanding h ≤ length s.batches → Few s (event.Written response) h t
+few_message : (s : State) (h : Steps) (response : WriteResponse) (opening : Bool) (t : Turn) → WrittenTurn s h response opening t → outstanding h ≤ length s.batches → Few s (event.Written response) h t
 few_message s h response true t is few = few_written s h response t is few
 few_message s h response false t is few = subst (Few s (event.Written response) h) (sym is) (omega arith)
 

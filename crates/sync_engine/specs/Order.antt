@@ -87,7 +87,7 @@ left_since (entry ∷ past) = kept entry.event (left_since past) + taken entry.t
 pub record IsInOrder (first : State) (past : Past) : Type 0 where
   pub sent : sent_since past ≡ each (λ (b : Batch). b.writes) (take (length (sent_since past)) (queue_since first past))
   pub pending : (now first past).batches ≡ drop (left_since past) (queue_since first past)
-  pub outstanding : is_open (steps_of past) ≡ true → left_since past + outstanding (steps_of past) ≡ length (sent_since past)
+  pub counts : is_open (steps_of past) ≡ true → left_since past + outstanding (steps_of past) ≡ length (sent_since past)
   pub few : outstanding (steps_of past) ≤ 10
 
 -- whatever was heard, the batches went out in order

@@ -1,5 +1,5 @@
 -- What is handed out where batches go out.
-use Rattle.std.specs.Prelude.{◌≡◌, ℕ, List, [], ◌∷◌, ◌++◌, length, zero, suc}
+use Rattle.std.specs.Prelude.{◌≡◌, ℕ, List, [], ◌∷◌, ◌++◌, length, Option, Some, None, zero, suc}
 use Rattle.write_pipeline.specs.Order.{Steps, outstanding, sent}
 use Rattle.write_pipeline.specs.Standing.{StandsFor as PipelineStandsFor}
 use Rattle.sync_engine.specs.Standing.{ComesAs, Kept}
@@ -12,13 +12,18 @@ pub record KeepsButPipeline (old new : Kept) : Type 0 where
   pub root : new.root ≡ old.root
   pub store : new.store ≡ old.store
   pub listeners : new.listeners ≡ old.listeners
-  pub open : new.writes.is_open ≡ old.writes.is_open
+  pub opening : new.writes.is_open ≡ old.writes.is_open
   pub spent : new.spent ≡ old.spent
 
 -- so many batches were sent
 abbrev pub sent_times : ℕ → Steps → Steps
 sent_times zero h = h
 sent_times (suc n) h = sent ∷ sent_times n h
+
+-- a batch was sent, or none
+abbrev pub then_sent : Option ℕ → Steps → Steps
+then_sent None h = h
+then_sent (Some place) h = sent ∷ h
 
 -- so many pending batches, from this place on
 abbrev pub from_place : ℕ → ℕ → List Out

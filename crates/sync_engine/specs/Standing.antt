@@ -55,7 +55,7 @@ pub record IsQuiet (root : Root) (s : State) (view : Viewed) : Type 0 where
 
 -- a stream of writes stands for what was done on it
 pub record StandsOn (writes : WriteStream) (h : Steps) : Type 0 where
-  pub open : writes.is_open ≡ is_open h
+  pub opening : writes.is_open ≡ is_open h
   pub pipeline : PipelineStandsFor writes.pipeline h
 
 -- what stood for steps stands then for what is made of them

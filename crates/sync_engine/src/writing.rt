@@ -1,6 +1,6 @@
 //! The turns of what comes on the stream of writes.
 
-ghost use Rattle.std.specs.Prelude.{◌≡◌, IsTrue, true, IfErr, IfOk, OnOk, IsErrOf};
+ghost use Rattle.std.specs.Prelude.{◌≡◌, IsTrue, true, IfErr, IfOk, OnOk, IsErrOf, option_map};
 ghost use Rattle.host_api.specs.Counts.{RisesAt};
 ghost use Rattle.host_api.specs.Host.{KeepsOut};
 ghost use Rattle.client_events.specs.Spelled.{IsSpelledResponse};
@@ -22,7 +22,7 @@ use crate::refusal::Refusal;
 use document_keys::Text;
 use host_api::Host;
 use local_store::MOST_COMMITS;
-use mutations::WriteResponse;
+use mutations::{Batch, WriteResponse};
 use record_codec::Commit;
 use std::alloc::Global;
 use value_model::{RpcStatus, StreamName};
@@ -39,7 +39,21 @@ fn member_name(member: WriteMember) -> &'static str
     }
 }
 
+/// The id of the batch.
+fn id_of(batch: &Batch) -> u64
+    ensures { result ≡ batch.now.id }
+{
+    batch.id
+}
+
 impl Client {
+    /// The first pending batch, if there is one.
+    fn first_pending(&self) -> Option<&Batch>
+        ensures { option_map (λ batch. batch.now) result ≡ first_batch self.now.store.state }
+    {
+        self.store.pending().first()
+    }
+
     /// The turn of the stream of writes that was opened.
     pub(crate) fn open_stream(
         &mut self,
@@ -96,7 +110,7 @@ impl Client {
         requires stored { IsTrue H.tells_files → IsStored self.old.store (H.view host.old) }
         requires whole { ¬ (IsStoreSpent self.old.store) }
         requires poised { self.old.spent ≡ true }
-        requires open { self.old.writes.is_open ≡ true }
+        requires opening { self.old.writes.is_open ≡ true }
         requires rejects { ComesAs self.old.writes (λ h. closing_of h status.code ≡ Rejects) }
         ensures turn { IfOk result (λ outcome. (s : State) (past : Past) → StandsFor self.old s past
             → HandsSettled s past (event.Closed name status) outcome self.new) }
@@ -112,14 +126,14 @@ impl Client {
     {
         let number = self.store.number();
         let mut outs = Vec::new(alloc);
-        let Some(first) = self.store.pending().first() else {
+        let Some(first) = self.first_pending() else {
             self.writes.closed();
             return Ok(Outcome::Done(outs));
         };
         if number >= MOST_COMMITS {
             return Ok(Outcome::Refused(Refusal::IdsSpent));
         }
-        let batch = first.id;
+        let batch = id_of(first);
         let ids = self.concerned(alloc, first.writes.as_slice())?;
         let commit = number + 1;
         outs.push(Out::Rejected {
@@ -187,7 +201,7 @@ impl Client {
 
     /// The handshake of the stream came: batches may be sent from now on.
     fn shaken(&mut self, alloc: Global, response: WriteResponse) -> Outcome
-        requires open { self.old.writes.is_open ≡ true }
+        requires opening { self.old.writes.is_open ≡ true }
         requires fits { ComesAs self.old.writes
             (λ h. Fits h (first_batch self.old.store.state) response Handshake) }
         ensures turn { (s : State) (past : Past) → StandsFor self.old s past
@@ -202,7 +216,7 @@ impl Client {
     /// A message came that doesn't fit, by this member: it closes the stream.
     fn unfit(&mut self, alloc: Global, response: &WriteResponse, member: WriteMember)
         -> Result<Outcome, ClientFault>
-        requires open { self.old.writes.is_open ≡ true }
+        requires opening { self.old.writes.is_open ≡ true }
         requires fails { ComesAs self.old.writes
             (λ h. Fails h (first_batch self.old.store.state) response.now member) }
         ensures turn { IfOk result (λ outcome. (s : State) (past : Past) → StandsFor self.old s past
@@ -231,7 +245,7 @@ impl Client {
         requires whole { ¬ (IsStoreSpent self.old.store) }
         requires poised { self.old.spent ≡ true }
         requires spelled { IsSpelledResponse response }
-        requires open { self.old.writes.is_open ≡ true }
+        requires opening { self.old.writes.is_open ≡ true }
         requires fits { ComesAs self.old.writes
             (λ h. Fits h (first_batch self.old.store.state) response Acknowledges) }
         ensures turn { IfOk result (λ outcome. (s : State) (past : Past) → StandsFor self.old s past
@@ -250,10 +264,13 @@ impl Client {
         if number >= MOST_COMMITS {
             return Ok(Outcome::Refused(Refusal::IdsSpent));
         }
-        let (Some(first), Some(time)) = (self.store.pending().first(), response.commit_time) else {
+        let Some(first) = self.first_pending() else {
             unreachable!();
         };
-        let batch = first.id;
+        let Some(time) = response.commit_time else {
+            unreachable!();
+        };
+        let batch = id_of(first);
         let ids = self.concerned(alloc, first.writes.as_slice())?;
         let commit = number + 1;
         let mut outs = Vec::new(alloc);

@@ -5,11 +5,11 @@ use Rattle.write_pipeline.specs.Standing.{StandsFor}
 use Rattle.write_pipeline.specs.declared.pipeline.WritePipeline.{WritePipeline}
 
 -- the stream was opened, and perhaps its handshake was done; this token came, and so many batches were sent
-begun : Bool → Steps
+abbrev begun : Bool → Steps
 begun true = shaken ∷ opened ∷ []
 begun false = opened ∷ []
 
-some_steps : Bool → List ℕ → ℕ → Steps
+abbrev some_steps : Bool → List ℕ → ℕ → Steps
 some_steps ready token zero = kept token ∷ begun ready
 some_steps ready token (suc n) = sent ∷ some_steps ready token n
 

@@ -1,4 +1,5 @@
 use Rattle.line_printer.proofs.Answered.{ok_reports, listening_reports, unlistened_reports}
+use Rattle.line_printer.proofs.Outcomes.{result_reports, rejected_reports}
 use Rattle.line_printer.proofs.Parsed.{a_line_reports_once}
 use Rattle.line_printer.proofs.Snapshots.{snapshot_reports}
 use Rattle.line_printer.proofs.laws.a_line_reports_once.Goals as goal
@@ -17,3 +18,9 @@ returns-clause-unlistened c = unlistened_reports
 
 pub returns-clause-snapshot : goal.returns-clause-snapshot
 returns-clause-snapshot c = snapshot_reports
+
+pub returns-clause-acknowledged : goal.returns-clause-acknowledged
+returns-clause-acknowledged c = result_reports
+
+pub returns-clause-rejected : goal.returns-clause-rejected
+returns-clause-rejected c = rejected_reports

@@ -1,0 +1,17 @@
+use Rattle.std.proofs.Common.{false, refl, sym, ap, subst, ◌∙◌}
+use Rattle.client_events.specs.declared.event.Event.TheVariants as event
+use Rattle.sync_engine.specs.Past.{steps_of}
+use Rattle.sync_engine.specs.Standing.{Kept, StandsFor}
+use Rattle.sync_engine.specs.declared.refusal.Refusal.TheVariants.{BadMessage, StreamState}
+use Rattle.sync_engine.proofs.Closed.{bad_now, bad_unopened, hands_closed}
+use Rattle.sync_engine.proofs.Handing.{hands_refused}
+use Rattle.sync_engine.proofs.client.Client.bad_message.Goals as goal
+
+pub returns-then-not-self-clause-turn : goal.returns-then-not-self-clause-turn
+returns-then-not-self-clause-turn c = λ s past stands. hands_refused (StreamState c.args.name false) refl stands (bad_unopened stands c.args.name c.args.member (ap (λ (k : Kept). k.writes.is_open) (sym c.self.view_is) ∙ c.if-not-self.true))
+
+pub returns-clause-turn : goal.returns-clause-turn
+returns-clause-turn c = λ s past stands.
+    let as_kept = subst (λ (k : Kept). StandsFor k s past) (sym c.self.view_is) stands in
+    hands_closed (event.BadMessage c.args.name c.args.member) (BadMessage c.args.name c.args.member) refl as_kept (record { root = refl; store = refl; listeners = refl }) (λ id v. refl) (c.closed.ensures (steps_of past) as_kept.writes)
+    (bad_now as_kept c.args.name c.args.member c.if-not-self.false)

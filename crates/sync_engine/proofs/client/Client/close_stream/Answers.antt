@@ -1,0 +1,40 @@
+use Rattle.std.proofs.Common.{true, false, ℕ, ◌+◌, ◌<◌, ◌≤◌, List, [], ◌∷◌, ◌++◌, Option, Some, None, option_map, refl, sym, ap, subst, ◌∙◌, arith}
+use Rattle.client_events.specs.declared.event.Event.TheVariants as event
+use Rattle.value_model.specs.declared.message.StreamName.TheVariants as stream
+use Rattle.local_store.specs.State.{State, committed, most_commits}
+use Rattle.mutations.specs.declared.batch.Batch.{Batch}
+use Rattle.mutations.specs.declared.write.Write.{Write}
+use Rattle.record_codec.specs.declared.commit.Commit.TheVariants.{Acknowledge, Reject}
+use Rattle.write_pipeline.specs.Order.{Steps, acknowledged, closed, kept}
+use Rattle.sync_engine.specs.Concerned.{AreConcerned}
+use Rattle.sync_engine.specs.Past.{Past, steps_of}
+use Rattle.sync_engine.specs.Standing.{GoesOn, Kept, StandsFor}
+use Rattle.sync_engine.specs.Telling.{HandsSettled, IsQuietOrAmong, MovesBy}
+use Rattle.sync_engine.specs.Turns.{answered, refused}
+use Rattle.sync_engine.specs.Writing.{first_batch, member_name}
+use Rattle.sync_engine.specs.declared.out.Out.{Out}
+use Rattle.sync_engine.specs.declared.out.Out.TheVariants.{Rejected, Result}
+use Rattle.sync_engine.specs.declared.out.Outcome.TheVariants.{Done, Refused}
+use Rattle.sync_engine.specs.declared.refusal.Refusal.TheVariants.{BadMessage, IdsSpent, StreamState}
+use Rattle.sync_engine.specs.declared.write_stream.WriteStream.{WriteStream}
+use Rattle.sync_engine.proofs.Closed.{acknowledge_fits, closed_kept, closed_unopened, hands_acknowledged, hands_nothing, hands_rejected, moves_acknowledged, moves_rejected, shaken_is, spent_acknowledges, spent_rejects, unfit_is, written_as, written_unopened}
+use Rattle.sync_engine.proofs.Committed.{nothing_moves}
+use Rattle.sync_engine.proofs.Handing.{hands_refused}
+use Rattle.sync_engine.proofs.Sent.{comes_some}
+use Rattle.sync_engine.proofs.Turning.{by_state, moves_none}
+use Rattle.sync_engine.proofs.client.Client.close_stream.Goals as goal
+
+pub returns-then-not-self-clause-turn : goal.returns-then-not-self-clause-turn
+returns-then-not-self-clause-turn g c = λ s past stands. hands_refused (StreamState c.args.name false) refl stands (closed_unopened stands c.args.name c.args.status (ap (λ (k : Kept). k.writes.is_open) (sym c.self.view_is) ∙ c.if-not-self.true))
+
+pub returns-then-not-self-clause-files : goal.returns-then-not-self-clause-files
+returns-then-not-self-clause-files g c = λ told s past stands. by_state (λ (t : State). MovesBy t past (event.Closed c.args.name c.args.status) (g.H.Host.view c.args.host.now) (g.H.Host.view c.args.host.now)) stands (λ st. moves_none (event.Closed c.args.name c.args.status) (refused (StreamState c.args.name false)) (closed_unopened st c.args.name c.args.status (ap (λ (k : Kept). k.writes.is_open) (sym c.self.view_is) ∙ c.if-not-self.true)) refl (nothing_moves _ c.requires.whole (c.requires.stored told)))
+
+pub returns-in-Kept-clause-turn : goal.returns-in-Kept-clause-turn
+returns-in-Kept-clause-turn g c = λ s past stands.
+    let as_kept = subst (λ (k : Kept). StandsFor k s past) (sym c.self.view_is) stands in
+    hands_nothing (event.Closed c.args.name c.args.status) as_kept (record { root = refl; store = refl; listeners = refl }) (λ id v. refl) (c.closed.ensures (steps_of past) as_kept.writes)
+    (closed_kept as_kept c.args.name c.args.status c.if-not-self.false (sym (c.closing.ensures (steps_of past) as_kept.writes.pipeline) ∙ c.in-Kept.is)) c.new.ensures.items
+
+pub returns-in-Kept-clause-files : goal.returns-in-Kept-clause-files
+returns-in-Kept-clause-files g c = λ told s past stands. by_state (λ (t : State). MovesBy t past (event.Closed c.args.name c.args.status) (g.H.Host.view c.args.host.now) (g.H.Host.view c.args.host.now)) stands (λ st. let as_kept = subst (λ (k : Kept). StandsFor k c.args.self.now.store.state past) (sym c.self.view_is) st in moves_none (event.Closed c.args.name c.args.status) (answered []) (closed_kept st c.args.name c.args.status (ap (λ (k : Kept). k.writes.is_open) (sym c.self.view_is) ∙ c.if-not-self.false) (sym (c.closing.ensures (steps_of past) as_kept.writes.pipeline) ∙ c.in-Kept.is)) refl (nothing_moves _ c.requires.whole (c.requires.stored told)))

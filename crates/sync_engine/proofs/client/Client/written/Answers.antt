@@ -1,0 +1,39 @@
+use Rattle.std.proofs.Common.{true, false, ℕ, ◌+◌, ◌<◌, ◌≤◌, List, [], ◌∷◌, ◌++◌, Option, Some, None, option_map, refl, sym, ap, subst, ◌∙◌, arith}
+use Rattle.client_events.specs.declared.event.Event.TheVariants as event
+use Rattle.value_model.specs.declared.message.StreamName.TheVariants as stream
+use Rattle.local_store.specs.State.{State, committed, most_commits}
+use Rattle.mutations.specs.declared.batch.Batch.{Batch}
+use Rattle.mutations.specs.declared.write.Write.{Write}
+use Rattle.record_codec.specs.declared.commit.Commit.TheVariants.{Acknowledge, Reject}
+use Rattle.write_pipeline.specs.Order.{Steps, acknowledged, closed, kept}
+use Rattle.sync_engine.specs.Concerned.{AreConcerned}
+use Rattle.sync_engine.specs.Past.{Past, steps_of}
+use Rattle.sync_engine.specs.Standing.{GoesOn, Kept, StandsFor}
+use Rattle.sync_engine.specs.Telling.{HandsSettled, IsQuietOrAmong, MovesBy}
+use Rattle.sync_engine.specs.Turns.{answered, refused}
+use Rattle.sync_engine.specs.Writing.{first_batch, member_name}
+use Rattle.sync_engine.specs.declared.out.Out.{Out}
+use Rattle.sync_engine.specs.declared.out.Out.TheVariants.{Rejected, Result}
+use Rattle.sync_engine.specs.declared.out.Outcome.TheVariants.{Done, Refused}
+use Rattle.sync_engine.specs.declared.refusal.Refusal.TheVariants.{BadMessage, IdsSpent, StreamState}
+use Rattle.sync_engine.specs.declared.write_stream.WriteStream.{WriteStream}
+use Rattle.sync_engine.proofs.Closed.{acknowledge_fits, closed_kept, closed_unopened, hands_acknowledged, hands_nothing, hands_rejected, moves_acknowledged, moves_rejected, shaken_is, spent_acknowledges, spent_rejects, unfit_is, written_as, written_unopened}
+use Rattle.sync_engine.proofs.Committed.{nothing_moves}
+use Rattle.sync_engine.proofs.Handing.{hands_refused}
+use Rattle.sync_engine.proofs.Sent.{comes_some}
+use Rattle.sync_engine.proofs.Turning.{by_state, moves_none}
+use Rattle.write_pipeline.specs.Standing.{Fits}
+use Rattle.write_pipeline.specs.declared.answer.Answer.{Answer}
+use Rattle.sync_engine.proofs.client.Client.written.Goals as goal
+
+pub returns-then-not-self-clause-turn : goal.returns-then-not-self-clause-turn
+returns-then-not-self-clause-turn g c = λ s past stands. hands_refused (StreamState stream.Write false) refl stands (written_unopened stands c.args.response (ap (λ (k : Kept). k.writes.is_open) (sym c.self.view_is) ∙ c.if-not-self.true))
+
+pub returns-then-not-self-clause-files : goal.returns-then-not-self-clause-files
+returns-then-not-self-clause-files g c = λ told s past stands. by_state (λ (t : State). MovesBy t past (event.Written c.args.response) (g.H.Host.view c.args.host.now) (g.H.Host.view c.args.host.now)) stands (λ st. moves_none (event.Written c.args.response) (refused (StreamState stream.Write false)) (written_unopened st c.args.response (ap (λ (k : Kept). k.writes.is_open) (sym c.self.view_is) ∙ c.if-not-self.true)) refl (nothing_moves _ c.requires.whole (c.requires.stored told)))
+
+pub returns-in-Ok-Handshake-clause-files : goal.returns-in-Ok-Handshake-clause-files
+returns-in-Ok-Handshake-clause-files g c = λ told s past stands. by_state (λ (t : State). MovesBy t past (event.Written c.args.response) (g.H.Host.view c.args.host.now) (g.H.Host.view c.args.host.now)) stands (λ st. let as_kept = subst (λ (k : Kept). StandsFor k c.args.self.now.store.state past) (sym c.self.view_is) st in moves_none (event.Written c.args.response) (answered []) (written_as as_kept c.args.response (answered []) c.if-not-self.false (shaken_is as_kept (subst (λ (a : Answer). Fits (steps_of past) (first_batch _) c.args.response a) c.in-Ok-Handshake.field-0-is (c.in-Ok-Handshake.ensures.fits (steps_of past) as_kept.writes.pipeline)))) refl (nothing_moves _ c.requires.whole (c.requires.stored told)))
+
+pub returns-in-Err-clause-files : goal.returns-in-Err-clause-files
+returns-in-Err-clause-files g c = λ told s past stands. by_state (λ (t : State). MovesBy t past (event.Written c.args.response) (g.H.Host.view c.args.host.now) (g.H.Host.view c.args.host.now)) stands (λ st. let as_kept = subst (λ (k : Kept). StandsFor k c.args.self.now.store.state past) (sym c.self.view_is) st in moves_none (event.Written c.args.response) (refused (BadMessage stream.Write (member_name c.in-Err.member))) (written_as as_kept c.args.response _ c.if-not-self.false (unfit_is c.in-Err.member refl as_kept (c.in-Err.ensures.fails (steps_of past) as_kept.writes.pipeline))) refl (nothing_moves _ c.requires.whole (c.requires.stored told)))
