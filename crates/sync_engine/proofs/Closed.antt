@@ -266,6 +266,14 @@ hands_acknowledged {old} {new} mid {past} {before} {vec} {given} batch time resp
 pub some_moment : {found : Option Timestamp} {time : Timestamp} → found ≡ Some time → IfSome found IsMoment → IsMoment time
 some_moment {found} {time} is of_it = subst (λ (t : Option Timestamp). IfSome t IsMoment) is of_it
 
+pub opened_none : (name : StreamName) (opening : Bool) → (opened_turn name opening).commit ≡ None
+opened_none name true = refl
+opened_none name false = refl
+
+pub bad_none : (name : StreamName) (member : List ℕ) (opening : Bool) → (bad_turn name member opening).commit ≡ None
+bad_none name member true = refl
+bad_none name member false = refl
+
 -- ---- what a crash finds
 
 -- the first batch is one that the commit may take

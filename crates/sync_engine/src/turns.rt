@@ -168,7 +168,8 @@ impl Client {
         ensures counts { RisesAt (IsErrOf result ClientFault.DiskFault)
             (H.view host.old).disk_faults (H.view host.new).disk_faults }
     {
-        match self.answer(alloc, host, event)? {
+        let outcome = self.answer(alloc, host, event)?;
+        match outcome {
             Outcome::Refused(refusal) => Ok(Outcome::Refused(refusal)),
             Outcome::Done(outs) => {
                 let mut outs = outs;

@@ -1,24 +1,13 @@
-use Rattle.std.proofs.Common.{[], ◌∷◌, refl}
-use Rattle.client_events.specs.declared.event.Event.TheVariants as event
-use Rattle.local_store.specs.Documents.{document_of, standing_of}
-use Rattle.local_store.specs.State.{State}
-use Rattle.sync_engine.specs.Answers.{ends}
-use Rattle.sync_engine.specs.Turns.{answered}
-use Rattle.sync_engine.specs.Lines.{document}
-use Rattle.sync_engine.specs.Past.{listener}
-use Rattle.sync_engine.specs.Telling.{MovesBy}
-use Rattle.sync_engine.proofs.Committed.{nothing_moves}
-use Rattle.sync_engine.proofs.Turning.{by_state, ends_none, moves_none}
+use Rattle.std.proofs.Common.{subst}
+use Rattle.sync_engine.specs.Telling.{HandsSettled}
+use Rattle.sync_engine.specs.declared.out.Outcome.{Outcome}
+use Rattle.sync_engine.proofs.Requests.{hands_sent, hands_unsent}
 use Rattle.sync_engine.proofs.client.Client.turn.Goals as goal
 
-pub returns-in-Get-clause-files : goal.returns-in-Get-clause-files
-returns-in-Get-clause-files g c = λ told s past stands. rw (c.in-Get.is)
-    (by_state (λ (t : State). MovesBy t past (event.Get c.in-Get.key) (g.H.Host.view c.args.host.now) (g.H.Host.view c.args.host.now)) stands (λ st.
-    moves_none (event.Get c.in-Get.key) (answered (document c.in-Get.key (document_of c.args.self.now.store.state c.in-Get.key) (standing_of c.args.self.now.store.state c.in-Get.key) ∷ [])) refl refl
-    (nothing_moves _ c.requires.whole (c.requires.stored told))))
+pub returns-in-Refused-clause-turn : goal.returns-in-Refused-clause-turn
+returns-in-Refused-clause-turn g c = λ s past stands.
+    hands_unsent c.in-Refused.refusal (subst (λ (o : Outcome). HandsSettled s past c.args.event o c.answer.new.self) c.in-Refused.is (c.in_ok-outcome.ensures.turn s past stands))
 
-pub returns-in-Unlisten-clause-files : goal.returns-in-Unlisten-clause-files
-returns-in-Unlisten-clause-files g c = λ told s past stands. rw (c.in-Unlisten.is)
-    (by_state (λ (t : State). MovesBy t past (event.Unlisten c.in-Unlisten.id) (g.H.Host.view c.args.host.now) (g.H.Host.view c.args.host.now)) stands (λ st.
-    moves_none (event.Unlisten c.in-Unlisten.id) (ends c.args.self.now.store.state c.in-Unlisten.id (listener c.in-Unlisten.id past)) refl (ends_none c.args.self.now.store.state c.in-Unlisten.id (listener c.in-Unlisten.id past))
-    (nothing_moves _ c.requires.whole (c.requires.stored told))))
+pub returns-in_ok-send-in-Done-clause-turn : goal.returns-in_ok-send-in-Done-clause-turn
+returns-in_ok-send-in-Done-clause-turn g c = λ s past stands.
+    hands_sent (subst (λ (o : Outcome). HandsSettled s past c.args.event o c.answer.new.self) c.in-Done.is (c.in_ok-outcome.ensures.turn s past stands)) c.send.ensures.rest c.in_ok-send-in-Done.ensures.sends

@@ -33,7 +33,7 @@ pub returns-then-not-self-clause-files : goal.returns-then-not-self-clause-files
 returns-then-not-self-clause-files g c = λ told s past stands. by_state (λ (t : State). MovesBy t past (event.Written c.args.response) (g.H.Host.view c.args.host.now) (g.H.Host.view c.args.host.now)) stands (λ st. moves_none (event.Written c.args.response) (refused (StreamState stream.Write false)) (written_unopened st c.args.response (ap (λ (k : Kept). k.writes.is_open) (sym c.self.view_is) ∙ c.if-not-self.true)) refl (nothing_moves _ c.requires.whole (c.requires.stored told)))
 
 pub returns-in-Ok-Handshake-clause-files : goal.returns-in-Ok-Handshake-clause-files
-returns-in-Ok-Handshake-clause-files g c = λ told s past stands. by_state (λ (t : State). MovesBy t past (event.Written c.args.response) (g.H.Host.view c.args.host.now) (g.H.Host.view c.args.host.now)) stands (λ st. let as_kept = subst (λ (k : Kept). StandsFor k c.args.self.now.store.state past) (sym c.self.view_is) st in moves_none (event.Written c.args.response) (answered []) (written_as as_kept c.args.response (answered []) c.if-not-self.false (shaken_is as_kept (subst (λ (a : Answer). Fits (steps_of past) (first_batch _) c.args.response a) c.in-Ok-Handshake.field-0-is (c.in-Ok-Handshake.ensures.fits (steps_of past) as_kept.writes.pipeline)))) refl (nothing_moves _ c.requires.whole (c.requires.stored told)))
+returns-in-Ok-Handshake-clause-files g c = λ told s past stands. by_state (λ (t : State). MovesBy t past (event.Written c.args.response) (g.H.Host.view c.args.host.now) (g.H.Host.view c.args.host.now)) stands (λ st. moves_none (event.Written c.args.response) (answered []) (written_as st c.args.response (answered []) (ap (λ (k : Kept). k.writes.is_open) (sym c.self.view_is) ∙ c.if-not-self.false) (shaken_is st (subst (λ (a : Answer). Fits (steps_of past) (first_batch c.args.self.now.store.state) c.args.response a) c.in-Ok-Handshake.field-0-is (c.in-Ok-Handshake.ensures.fits (steps_of past) st.writes.pipeline)))) refl (nothing_moves _ c.requires.whole (c.requires.stored told)))
 
 pub returns-in-Err-clause-files : goal.returns-in-Err-clause-files
-returns-in-Err-clause-files g c = λ told s past stands. by_state (λ (t : State). MovesBy t past (event.Written c.args.response) (g.H.Host.view c.args.host.now) (g.H.Host.view c.args.host.now)) stands (λ st. let as_kept = subst (λ (k : Kept). StandsFor k c.args.self.now.store.state past) (sym c.self.view_is) st in moves_none (event.Written c.args.response) (refused (BadMessage stream.Write (member_name c.in-Err.member))) (written_as as_kept c.args.response _ c.if-not-self.false (unfit_is c.in-Err.member refl as_kept (c.in-Err.ensures.fails (steps_of past) as_kept.writes.pipeline))) refl (nothing_moves _ c.requires.whole (c.requires.stored told)))
+returns-in-Err-clause-files g c = λ told s past stands. by_state (λ (t : State). MovesBy t past (event.Written c.args.response) (g.H.Host.view c.args.host.now) (g.H.Host.view c.args.host.now)) stands (λ st. moves_none (event.Written c.args.response) (refused (BadMessage stream.Write (member_name c.in-Err.member))) (written_as st c.args.response _ (ap (λ (k : Kept). k.writes.is_open) (sym c.self.view_is) ∙ c.if-not-self.false) (unfit_is c.in-Err.member refl st (c.in-Err.ensures.fails (steps_of past) st.writes.pipeline))) refl (nothing_moves _ c.requires.whole (c.requires.stored told)))
