@@ -1,5 +1,5 @@
 -- what is handed out for what comes on the stream of writes
-use Rattle.std.proofs.Common.{◌≡◌, ◌⊎◌, ⊎_elim, inl, inr, ℕ, ◌+◌, ◌≤◌, ◌<◌, Bool, true, false, nat_lt, List, [], ◌∷◌, ◌++◌, map as each, length, Option, Some, None, if◌then◌else◌, IfSome, Vec, Global, refl, sym, ap, subst, ◌∙◌, append-nil, arith}
+use Rattle.std.proofs.Common.{◌≡◌, ⊎_elim, inl, inr, ℕ, ◌+◌, ◌≤◌, ◌<◌, Bool, true, false, List, [], ◌∷◌, ◌++◌, length, Option, Some, None, if◌then◌else◌, IfSome, Vec, Global, refl, sym, ap, subst, ◌∙◌, append-nil}
 use Rattle.std.proofs.lemmas.Bool.{lt-ltb, le-ltb}
 use Rattle.std.proofs.lemmas.Option.{none-some}
 use Rattle.std.specs.List.{AllZip, Contains, slice_get}
@@ -51,7 +51,7 @@ use Rattle.sync_engine.specs.declared.write_stream.WriteStream.{WriteStream}
 use Rattle.sync_engine.proofs.Handing.{hands_settled}
 use Rattle.sync_engine.proofs.Quiet.{quiet_acknowledged, quiet_rejected, settles_none}
 use Rattle.sync_engine.proofs.Steps.{few_by}
-use Rattle.sync_engine.proofs.Turning.{among_or_not, moves_none, quiet_at, stays_on}
+use Rattle.sync_engine.proofs.Turning.{among_or_not, quiet_at}
 
 -- ---- nothing but the stream changes
 

@@ -1,20 +1,19 @@
 -- what is handed out for an event
-use Rattle.std.proofs.Common.{◌≡◌, ◌≢◌, ◌⊎◌, ⊎_elim, inl, inr, ℕ, ◌≤◌, ◌<◌, suc, zero, Bool, true, false, not, IsTrue, nat_eq, List, [], ◌∷◌, ◌++◌, map as each, length, Option, Some, None, option_map, is_some, IfSome, if◌then◌else◌, Vec, Global, refl, sym, ap, subst, ◌∙◌, arith}
+use Rattle.std.proofs.Common.{◌≡◌, ℕ, ◌≤◌, ◌<◌, Bool, true, false, not, nat_eq, List, [], ◌∷◌, ◌++◌, map as each, length, Option, Some, None, option_map, is_some, IfSome, if◌then◌else◌, Vec, Global, refl, sym, ap, subst, ◌∙◌, arith}
 use Rattle.std.specs.List.{All, AllPairs, AllZip}
-use Rattle.std.proofs.lemmas.Bool.{eqb-true, eq-eqb, eqb-false, true≢false}
+use Rattle.std.proofs.lemmas.Bool.{eqb-true, eqb-false, true≢false}
 use Rattle.std.proofs.lemmas.Option.{none-some}
 use Rattle.std.proofs.lemmas.List.Elements.{All-nil, All-cons, All-head, All-tail, All-weaker}
 use Rattle.document_keys.specs.Names.{Root}
 use Rattle.client_events.specs.declared.event.Event.{Event}
 use Rattle.client_events.specs.declared.event.Event.TheVariants as event
 use Rattle.listeners.proofs.Ids.{one_id, other_ids}
-use Rattle.listeners.specs.Table.{Changes, Table, is_id, viewed}
+use Rattle.listeners.specs.Table.{Changes, is_id, viewed}
 use Rattle.local_store.specs.Documents.{document_of, standing_of}
 use Rattle.local_store.specs.State.{State}
 use Rattle.local_store.specs.Store.{Store}
-use Rattle.queries.proofs.Counting.{pairs_tail, pairs_head}
+use Rattle.queries.proofs.Counting.{pairs_tail}
 use Rattle.views.specs.Viewed.{Viewed}
-use Rattle.views.specs.declared.raised.Raised.{Raised}
 use Rattle.sync_engine.specs.Answers.{Answers, ends}
 use Rattle.sync_engine.specs.Turns.{after, answered, refused}
 use Rattle.sync_engine.specs.Lines.{Line, Told, wrote, listening, unlistened, document, result, rejected, snapshot, send}
@@ -22,8 +21,8 @@ use Rattle.write_pipeline.specs.Order.{Steps, outstanding}
 use Rattle.sync_engine.specs.Past.{Turn, Past, asked, listener, raised_in, sent_in, steps_by, steps_of, told}
 use Rattle.sync_engine.specs.Settling.{IsBelow, Settles, ShowsAt, told_to}
 use Rattle.sync_engine.specs.Standing.{Kept, IsQuiet, StandsFor, StandsOn}
-use Rattle.sync_engine.specs.Telling.{HandsOut, HandsSettled, IsOutcome, IsRaised, IsSent, IsShown, KeepsRest, Raises}
-use Rattle.sync_engine.specs.Turn.{Settled, SettlesAfter, heard_then, is_heard, snapshot_line, with_snapshots}
+use Rattle.sync_engine.specs.Telling.{HandsOut, HandsSettled, IsOutcome, IsRaised, IsShown, KeepsRest, Raises}
+use Rattle.sync_engine.specs.Turn.{SettlesAfter, is_heard, snapshot_line, with_snapshots}
 use Rattle.sync_engine.specs.declared.out.Out.{Out}
 use Rattle.sync_engine.specs.declared.out.Out.TheVariants.{Document, Listening, Unlistened, Wrote, Result, Rejected, Raised as RaisedBy, SendHandshake, SendBatch}
 use Rattle.sync_engine.specs.declared.out.Outcome.{Outcome}

@@ -1,18 +1,18 @@
 -- an event has one turn
-use Rattle.std.proofs.Common.{◌≡◌, ◌↔◌, ◌⊎◌, ⊎_elim, inl, inr, ℕ, ◌<◌, ℤ, Bool, true, false, IsTrue, nat_eq, suc, List, [], ◌∷◌, ◌++◌, length, Option, Some, None, if◌then◌else◌, refl, sym, ap, subst, ◌∙◌, arith}
-use Rattle.std.specs.List.{All, AllPairs, Contains}
+use Rattle.std.proofs.Common.{◌≡◌, ◌↔◌, ⊎_elim, ℕ, ◌<◌, ℤ, Bool, true, false, IsTrue, nat_eq, suc, List, [], ◌∷◌, length, Option, Some, None, if◌then◌else◌, refl, sym, ap, subst, ◌∙◌, arith}
+use Rattle.std.specs.List.{All, AllPairs}
 use Rattle.std.specs.Prelude.{nat_lt}
 use Rattle.std.proofs.lemmas.Bool.{eqb-true, eq-eqb, eqb-false, ltb-true, ltb-false, true≢false}
 use Rattle.std.proofs.lemmas.Option.{none-some}
-use Rattle.std.proofs.lemmas.List.Elements.{All-nil, All-cons, All-head, All-tail, All-weaker, All-from_get_or}
+use Rattle.std.proofs.lemmas.List.Elements.{All-cons, All-head, All-tail, All-weaker, All-from_get_or}
 use Rattle.document_keys.specs.Names.{Root}
 use Rattle.client_events.specs.declared.event.Event.{Event}
 use Rattle.client_events.specs.declared.event.Event.TheVariants as event
 use Rattle.listeners.proofs.Outcomes.{refresh_is_one}
 use Rattle.local_store.specs.State.{State}
-use Rattle.queries.proofs.Counting.{pairs_tail, pairs_head}
+use Rattle.queries.proofs.Counting.{pairs_tail}
 use Rattle.queries.specs.declared.target.Target.{Target}
-use Rattle.target_cache.specs.Cache.{TellsId, HasTarget}
+use Rattle.target_cache.specs.Cache.{TellsId}
 use Rattle.target_cache.specs.declared.row.Row.{Row}
 use Rattle.local_store.specs.Documents.{documents_of, touched_keys_of}
 use Rattle.views.specs.Refresh.{Refreshes}
@@ -39,7 +39,7 @@ use Rattle.write_pipeline.specs.declared.answer.Answer.{Answer}
 use Rattle.write_pipeline.specs.declared.answer.Answer.TheVariants.{Handshake, Acknowledges}
 use Rattle.write_pipeline.specs.declared.answer.WriteMember.{WriteMember}
 use Rattle.write_pipeline.specs.declared.answer.WriteMember.TheVariants.{WriteResults, CommitTime, TransformResults}
-use Rattle.sync_engine.specs.Settling.{MayStart, offline, Shows, ShowsAt, Settles, IsBelow, raised_by, told_to}
+use Rattle.sync_engine.specs.Settling.{offline, Shows, ShowsAt, Settles, IsBelow, raised_by, told_to}
 use Rattle.sync_engine.specs.Turn.{IsSettled, Settled, SettlesAfter, with_requests, with_snapshots}
 use Rattle.sync_engine.specs.declared.refusal.Refusal.{Refusal}
 

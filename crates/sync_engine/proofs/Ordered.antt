@@ -1,5 +1,5 @@
 -- the pending batches go out in order
-use Rattle.std.proofs.Common.{◌≡◌, ◌⊎◌, ⊎_elim, inl, inr, ℕ, ◌+◌, ◌-◌, ◌≤◌, ◌<◌, suc, zero, Bool, true, false, nat_lt, List, [], ◌∷◌, ◌++◌, map as each, length, drop, take, Option, Some, None, if◌then◌else◌, refl, sym, ap, subst, ◌∙◌, append-nil, arith, length-append}
+use Rattle.std.proofs.Common.{◌≡◌, ℕ, ◌+◌, ◌-◌, ◌≤◌, ◌<◌, suc, zero, Bool, true, false, nat_lt, List, [], ◌∷◌, ◌++◌, map as each, length, drop, take, Option, Some, None, if◌then◌else◌, refl, sym, ap, subst, ◌∙◌, append-nil, arith, length-append}
 use Rattle.std.proofs.lemmas.Bool.{true≢false}
 use Rattle.std.proofs.lemmas.List.{append_assoc, drop-append-le, length-drop, length-map, take-append-drop}
 use Rattle.std.proofs.lemmas.Option.{none-some}
@@ -19,20 +19,20 @@ use Rattle.target_cache.specs.Cache.{id_at}
 use Rattle.value_model.specs.declared.document.RpcStatus.{RpcStatus}
 use Rattle.value_model.specs.declared.message.StreamName.{StreamName}
 use Rattle.views.specs.Viewed.{Viewed}
-use Rattle.write_pipeline.specs.Order.{Steps, acknowledged, closed, is_ready, kept as kept_token, latest_token, opened, outstanding, sent, shaken}
+use Rattle.write_pipeline.specs.Order.{Steps, acknowledged, closed, is_ready, kept as kept_token, latest_token, outstanding, sent, shaken}
 use Rattle.write_pipeline.specs.Standing.{closing_of}
 use Rattle.write_pipeline.specs.declared.answer.Closing.{Closing}
 use Rattle.write_pipeline.specs.declared.answer.Closing.TheVariants.{Kept as KeepsAll, Rejects}
 use Rattle.sync_engine.specs.Answers.{Answers, Begins, are_left, ends, listens}
 use Rattle.sync_engine.specs.Lines.{Line, document, listening, rejected, result, send, snapshot, unlistened, wrote}
-use Rattle.sync_engine.specs.Order.{AreHeard, IsHeardNext, IsInOrder, WritesGoInOrder, joined, left_since, now, queue_since, sent_since, taken, unless_opened, writes_in}
-use Rattle.sync_engine.specs.Past.{Entry, Past, Turn, listener, sent_in, steps_by, steps_of}
+use Rattle.sync_engine.specs.Order.{AreHeard, WritesGoInOrder, left_since, now, queue_since, sent_since, unless_opened, writes_in}
+use Rattle.sync_engine.specs.Past.{Past, Turn, listener, sent_in, steps_by, steps_of}
 use Rattle.sync_engine.specs.Sending.{sent_times}
 use Rattle.sync_engine.specs.Turn.{IsSettled, IsTurn, SettlesAfter, is_heard, requests_behind, with_requests}
-use Rattle.sync_engine.specs.Turns.{after, answered, commits, refused}
-use Rattle.sync_engine.specs.Writing.{IsWritten, WrittenTurn, acknowledges, bad_turn, closed_turn, closes, fails, first_batch, is_open, opened_turn, rejects, request_of, requests, settles, shakes, to_send}
+use Rattle.sync_engine.specs.Turns.{after, commits, refused}
+use Rattle.sync_engine.specs.Writing.{WrittenTurn, acknowledges, bad_turn, closed_turn, closes, fails, first_batch, is_open, opened_turn, rejects, request_of, requests, shakes, to_send}
 use Rattle.sync_engine.specs.declared.refusal.Refusal.{Refusal}
-use Rattle.sync_engine.specs.declared.refusal.Refusal.TheVariants.{BadMessage, IdsSpent, ListenerTaken, NoListener, StreamState}
+use Rattle.sync_engine.specs.declared.refusal.Refusal.TheVariants.{IdsSpent}
 use Rattle.sync_engine.proofs.Requests.{settled_silent}
 use Rattle.sync_engine.proofs.Sent.{requests_sent, sent_count, sent_open, sent_ready}
 use Rattle.sync_engine.proofs.Steps.{length_more, sent_behind}

@@ -1,9 +1,9 @@
 -- listeners that are quiet, and stay so
-use Rattle.std.proofs.Common.{◌≡◌, ◌↔◌, ◌⊎◌, ⊎_elim, inl, inr, ℕ, ◌+◌, ◌<◌, ℤ, pos, Bool, true, false, ◌||◌, IsTrue, List, [], ◌∷◌, ◌++◌, map as each, drop, cond, length, Option, Some, None, IfSome, if◌then◌else◌, refl, sym, ap, subst, ◌∙◌, arith, get_or, suc, zero}
+use Rattle.std.proofs.Common.{◌≡◌, ◌↔◌, ◌⊎◌, ⊎_elim, inl, inr, ℕ, Bool, true, false, ◌||◌, List, [], ◌∷◌, ◌++◌, map as each, drop, cond, Option, Some, None, IfSome, if◌then◌else◌, refl, sym, ap, subst, ◌∙◌, arith, suc, zero}
 use Rattle.std.proofs.lemmas.List.Elements.{All-nil, All-cons, All-head, All-tail, All-weaker, All-contains, All-contains_itself}
 use Rattle.std.proofs.lemmas.Option.{none-some}
 use Rattle.std.specs.FinMap as map
-use Rattle.std.specs.List.{All, AllPairs, Contains, cons_option, filter_map, slice_get}
+use Rattle.std.specs.List.{All, Contains, cons_option, filter_map, slice_get}
 use Rattle.std.specs.Option.{IsSome, option_map}
 use Rattle.document_keys.specs.Names.{Root}
 use Rattle.mutation_queue.specs.Queue.{keys_of, named_keys, written_key}
@@ -25,23 +25,21 @@ use Rattle.value_model.specs.declared.timestamp.Timestamp.{Timestamp}
 use Rattle.durable_state.proofs.Local.{documents_local}
 use Rattle.durable_state.specs.Documents.{documents_of, is_among, is_named, sealed_entry_of, standing_by, stored}
 use Rattle.value_model.specs.declared.document.DocState.TheVariants as stands
-use Rattle.local_store.specs.Documents.{document_of, entry_of, standing_of, touched_keys_of}
+use Rattle.local_store.specs.Documents.{document_of, entry_of, touched_keys_of}
 use Rattle.local_store.specs.State.{State, committed}
 use Rattle.overlays.specs.LocalDocument.{base_of, local_document}
 use Rattle.record_codec.specs.declared.commit.Commit.TheVariants.{Enqueue, Acknowledge, Allocate, Reject}
 use Rattle.queries.specs.declared.target.Target.{Target}
-use Rattle.target_cache.specs.Cache.{IsRow, blank, id_at}
+use Rattle.target_cache.specs.Cache.{blank}
 use Rattle.target_cache.specs.declared.row.Row.{Row}
 use Rattle.listeners.specs.Concerns.{Concerns}
-use Rattle.listeners.specs.Laws.{IsSettled}
-use Rattle.listeners.specs.Table.{Table, viewed}
+use Rattle.listeners.specs.Table.{viewed}
 use Rattle.listeners.proofs.Settling.{refresh_settles, settled_stays}
 use Rattle.views.proofs.Refreshing.{is_over}
 use Rattle.views.specs.Refresh.{IsOver, Refreshes}
 use Rattle.views.specs.Viewed.{Viewed}
-use Rattle.views.specs.declared.raised.Raised.{Raised}
 use Rattle.views.specs.declared.view.Refresh.{Refresh}
-use Rattle.sync_engine.specs.Settling.{IsHeldTarget, MayStart, offline, Shows, ShowsAt, Settles, raised_by, told_to}
+use Rattle.sync_engine.specs.Settling.{IsHeldTarget, MayStart, offline, Shows, ShowsAt, Settles}
 use Rattle.sync_engine.specs.Past.{Past}
 use Rattle.sync_engine.specs.Standing.{IsQuiet, Kept, StandsFor}
 
@@ -199,9 +197,9 @@ quiet_rejected root s id view never = quiet_stays root s (committed s (Reject id
 pub quiet_acknowledged : (root : Root) (s : State) (id : ℕ) (at : Timestamp) (results : List WriteResult) (view : Viewed) → ((write : Write) → Contains (first_writes s.batches) write → Concerns view.target (written_key write) → ⊥) → IsQuiet root s view → IsQuiet root (committed s (Acknowledge id at results)) view
 quiet_acknowledged root s id at results view never = quiet_stays root s (committed s (Acknowledge id at results)) view
     (λ key concerns.
-        let none = apart_from (first_writes s.batches) view.target never key concerns in
-        first_stays s (committed s (Acknowledge id at results)) key refl
-        (get_all s.entries (acknowledged_keys s.entries (first_writes s.batches) results at) key (apart s.entries (first_writes s.batches) results at (keys_of (first_writes s.batches)) key none)) none)
+    let none = apart_from (first_writes s.batches) view.target never key concerns in
+    first_stays s (committed s (Acknowledge id at results)) key refl
+    (get_all s.entries (acknowledged_keys s.entries (first_writes s.batches) results at) key (apart s.entries (first_writes s.batches) results at (keys_of (first_writes s.batches)) key none)) none)
     ((λ it. it), (λ it. it))
 
 -- ---- what a quiet listener has raised

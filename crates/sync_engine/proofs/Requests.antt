@@ -1,5 +1,5 @@
 -- the requests behind an event's turn
-use Rattle.std.proofs.Common.{◌≡◌, ◌⊎◌, ⊎_elim, inl, inr, ℕ, ◌+◌, ◌≤◌, Bool, true, false, nat_lt, nat_eq, List, [], ◌∷◌, ◌++◌, map as each, length, drop, take, Option, Some, None, if◌then◌else◌, IfSome, Vec, Global, refl, sym, ap, subst, ◌∙◌, arith}
+use Rattle.std.proofs.Common.{◌≡◌, ℕ, ◌+◌, ◌≤◌, Bool, true, false, nat_lt, nat_eq, List, [], ◌∷◌, ◌++◌, map as each, length, Option, Some, None, if◌then◌else◌, IfSome, Vec, Global, refl, sym, ap, subst, ◌∙◌}
 use Rattle.std.proofs.lemmas.Option.{none-some}
 use Rattle.std.specs.List.{AllZip, slice_get}
 use Rattle.document_keys.specs.Names.{Root}
@@ -17,21 +17,21 @@ use Rattle.target_cache.specs.Cache.{id_at}
 use Rattle.value_model.specs.declared.document.RpcStatus.{RpcStatus}
 use Rattle.value_model.specs.declared.message.StreamName.{StreamName}
 use Rattle.views.specs.Viewed.{Viewed}
-use Rattle.write_pipeline.specs.Order.{Steps, is_ready, latest_token, outstanding, sent}
+use Rattle.write_pipeline.specs.Order.{Steps, latest_token, outstanding}
 use Rattle.write_pipeline.specs.Standing.{StandsFor as PipelineStandsFor, closing_of}
 use Rattle.write_pipeline.specs.declared.answer.Closing.{Closing}
 use Rattle.write_pipeline.specs.declared.answer.Closing.TheVariants.{Kept as KeepsAll, Rejects}
 use Rattle.sync_engine.specs.Answers.{Answers, Begins, are_left, ends, listens}
 use Rattle.local_store.specs.Documents.{document_of, standing_of}
 use Rattle.mutations.specs.declared.results.WriteRequest.TheVariants.{Handshake as the_first}
-use Rattle.sync_engine.specs.Lines.{Line, Told, document, listening, rejected, result, send, snapshot, unlistened, wrote}
-use Rattle.sync_engine.specs.Past.{Entry, Past, Turn, asked, listener, raised_in, sent_in, steps_by, steps_of, told}
+use Rattle.sync_engine.specs.Lines.{Line, document, listening, rejected, result, send, snapshot, unlistened, wrote}
+use Rattle.sync_engine.specs.Past.{Past, Turn, asked, listener, raised_in, sent_in, steps_by, steps_of, told}
 use Rattle.sync_engine.specs.Sending.{KeepsButPipeline, Sends, from_place, sent_times}
 use Rattle.sync_engine.specs.Standing.{ComesAs, IsQuiet, Kept, StandsFor, StandsOn}
-use Rattle.sync_engine.specs.Telling.{HandsOut, HandsSettled, IsSent, IsShown}
-use Rattle.sync_engine.specs.Turn.{IsSettled, IsTurn, Settled, SettlesAfter, heard_then, snapshot_line}
+use Rattle.sync_engine.specs.Telling.{HandsOut, HandsSettled, IsShown}
+use Rattle.sync_engine.specs.Turn.{IsSettled, IsTurn, SettlesAfter, heard_then, snapshot_line}
 use Rattle.sync_engine.specs.Turns.{after, answered, commits, refused}
-use Rattle.sync_engine.specs.Writing.{IsWritten, WrittenTurn, acknowledges, bad_turn, closed_turn, closes, fails, first_batch, is_open, member_name, opened_turn, rejects, request_of, requests, settles, shakes, to_send}
+use Rattle.sync_engine.specs.Writing.{WrittenTurn, acknowledges, bad_turn, closed_turn, closes, fails, first_batch, is_open, member_name, opened_turn, rejects, request_of, requests, shakes, to_send}
 use Rattle.sync_engine.specs.declared.out.Out.{Out}
 use Rattle.sync_engine.specs.declared.out.Out.TheVariants.{Wrote, Listening, Unlistened, Document, Result, Rejected, Raised as RaisedBy, SendHandshake, SendBatch}
 use Rattle.sync_engine.specs.declared.out.Outcome.TheVariants.{Done, Refused}
@@ -39,7 +39,7 @@ use Rattle.sync_engine.specs.declared.refusal.Refusal.{Refusal}
 use Rattle.sync_engine.specs.declared.refusal.Refusal.TheVariants.{BadMessage, IdsSpent, ListenerTaken, NoListener, StreamState}
 use Rattle.value_model.specs.declared.message.StreamName.TheVariants as stream
 use Rattle.sync_engine.proofs.Handing.{zip_append}
-use Rattle.sync_engine.proofs.Sent.{requests_sent, sent_count, sent_open, sent_token, shown_sent, within}
+use Rattle.sync_engine.proofs.Sent.{requests_sent, sent_open, sent_token, shown_sent, within}
 use Rattle.sync_engine.proofs.Steps.{sent_behind, sent_told}
 
 -- ---- an answer is a refusal, or lines that send no batch, perhaps with a commit

@@ -1,6 +1,6 @@
 -- batches that go out
-use Rattle.std.proofs.Common.{◌≡◌, ◌⊎◌, ⊎_elim, inl, inr, ℕ, ◌+◌, ◌-◌, ◌≤◌, ◌<◌, suc, zero, Bool, true, false, ◌&&◌, nat_lt, List, [], ◌∷◌, ◌++◌, map as each, length, drop, take, Option, Some, None, if◌then◌else◌, Vec, Global, refl, sym, ap, subst, ◌∙◌, append-nil, arith}
-use Rattle.std.proofs.lemmas.Bool.{lt-ltb, le-ltb, ltb-true, ltb-false, true≢false}
+use Rattle.std.proofs.Common.{◌≡◌, ◌⊎◌, ⊎_elim, inl, inr, ℕ, ◌+◌, ◌-◌, ◌≤◌, ◌<◌, suc, zero, Bool, true, false, ◌&&◌, nat_lt, List, [], ◌∷◌, ◌++◌, map as each, length, drop, take, Option, Some, None, if◌then◌else◌, refl, sym, ap, subst, ◌∙◌, append-nil, arith}
+use Rattle.std.proofs.lemmas.Bool.{lt-ltb, ltb-true, ltb-false}
 use Rattle.std.proofs.lemmas.List.{append_assoc, length-drop, length-take-le, take_all}
 use Rattle.std.proofs.lemmas.Option.{none-some}
 use Rattle.std.specs.List.{AllZip, slice_get}
@@ -11,7 +11,6 @@ use Rattle.write_pipeline.specs.Standing.{MaySend, StandsFor as PipelineStandsFo
 use Rattle.write_pipeline.specs.declared.pipeline.WritePipeline.{WritePipeline}
 use Rattle.write_pipeline.specs.declared.answer.Answer.{Answer}
 use Rattle.write_pipeline.specs.declared.answer.Answer.TheVariants.{Handshake, Acknowledges}
-use Rattle.sync_engine.specs.Lines.{Line}
 use Rattle.sync_engine.specs.Past.{sent_in}
 use Rattle.local_store.specs.Store.{Store}
 use Rattle.sync_engine.specs.Sending.{KeepsButPipeline, Sends, from_place, sent_times, then_sent}

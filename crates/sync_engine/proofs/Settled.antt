@@ -1,5 +1,5 @@
 -- how the listeners are refreshed, one after another
-use Rattle.std.proofs.Common.{◌≡◌, ◌≢◌, ◌⊎◌, ⊎_elim, inl, inr, ℕ, ◌+◌, ◌<◌, ◌≤◌, suc, zero, Bool, true, false, IsTrue, nat_eq, nat_lt, List, [], ◌∷◌, ◌++◌, map as each, length, take, Option, Some, None, is_some, IfSome, if◌then◌else◌, refl, sym, ap, subst, ◌∙◌, arith, get_or}
+use Rattle.std.proofs.Common.{◌≡◌, ◌⊎◌, ⊎_elim, inl, inr, ℕ, ◌+◌, ◌<◌, ◌≤◌, suc, zero, Bool, true, false, nat_eq, List, [], ◌∷◌, ◌++◌, map as each, length, take, Option, Some, None, is_some, IfSome, if◌then◌else◌, refl, sym, ap, subst, ◌∙◌, arith, get_or}
 use Rattle.std.specs.List.{All, AllPairs, Contains}
 use Rattle.std.proofs.lemmas.Bool.{eqb-true, eq-eqb, eqb-false}
 use Rattle.std.proofs.lemmas.Option.{none-some}
@@ -8,14 +8,14 @@ use Rattle.std.proofs.lemmas.List.Quantifiers.{all_pairs_push}
 use Rattle.std.proofs.Math.Seq.{take-length}
 use Rattle.std.proofs.lemmas.List.Elements.{All-nil, All-cons, All-head, All-tail, All-weaker, All-append, All-contains, All-from_get_or, All-get_or, Contains-append_left, Contains-push, Contains-push_cases}
 use Rattle.document_keys.specs.Names.{Root}
-use Rattle.listeners.specs.Table.{Table, viewed}
+use Rattle.listeners.specs.Table.{viewed}
 use Rattle.local_store.specs.State.{State}
 use Rattle.local_store.specs.Store.{Store}
 use Rattle.views.specs.Viewed.{Viewed}
 use Rattle.views.specs.declared.raised.Raised.{Raised}
 use Rattle.sync_engine.specs.Lines.{Told}
 use Rattle.sync_engine.specs.Past.{told}
-use Rattle.sync_engine.specs.Settling.{IsBelow, Settles, ShowsAt, told_to}
+use Rattle.sync_engine.specs.Settling.{IsBelow, ShowsAt, told_to}
 use Rattle.sync_engine.specs.Standing.{Kept, IsQuiet}
 use Rattle.sync_engine.specs.Telling.{IsQuietOrAmong, KeepsRest, Raises, ShowsOne}
 use Rattle.sync_engine.specs.declared.out.Out.{Out}

@@ -1,9 +1,8 @@
 -- one listener is refreshed
-use Rattle.std.proofs.Common.{◌≡◌, ◌≢◌, ◌↔◌, ℕ, ◌+◌, ◌*◌, ◌≤◌, ℤ, pos, to_z, of_z, w32, length, Bool, true, false, IsTrue, List, [], ◌∷◌, Option, Some, None, is_some, IfSome, if◌then◌else◌, refl, sym, ap, subst, ◌∙◌, arith}
+use Rattle.std.proofs.Common.{◌≡◌, ◌↔◌, ℕ, ◌≤◌, ℤ, pos, to_z, of_z, w32, length, Bool, true, false, IsTrue, List, [], Option, Some, None, is_some, IfSome, if◌then◌else◌, refl, sym, ap, subst, ◌∙◌, arith}
 use Rattle.std.specs.List.{slice_get}
-use Rattle.std.specs.Option.{IsSome}
 use Rattle.std.specs.Prelude.{nat_lt, not}
-use Rattle.std.proofs.lemmas.Bool.{and_parts, ltb-false, not-true, true≢false, false≢true}
+use Rattle.std.proofs.lemmas.Bool.{and_parts, ltb-false, not-true, false≢true}
 use Rattle.local_store.specs.State.{most_commits}
 use Rattle.sync_engine.specs.Answers.{are_left, last_target}
 use Rattle.sync_engine.specs.Targets.{GivesTarget, given_id}
@@ -14,7 +13,7 @@ use Rattle.durable_state.proofs.Rows.{below_next, signed_back}
 use Rattle.durable_state.specs.Documents.{documents_of, touched_keys_of}
 use Rattle.listeners.proofs.Ids.{apart, id_itself}
 use Rattle.listeners.specs.Refreshing.{RefreshesAt}
-use Rattle.listeners.specs.Table.{Table, is_id, viewed}
+use Rattle.listeners.specs.Table.{Table, viewed}
 use Rattle.local_store.specs.State.{State}
 use Rattle.queries.specs.declared.target.Target.{Target}
 use Rattle.target_cache.specs.Cache.{HasTarget, IsRow, TellsId, id_at}
@@ -26,7 +25,7 @@ use Rattle.views.specs.declared.view.Refresh.{Refresh}
 use Rattle.sync_engine.specs.Past.{told}
 use Rattle.sync_engine.specs.Settling.{IsHeldTarget, MayStart, ShowsAt, offline, raised_by}
 use Rattle.sync_engine.specs.Standing.{IsQuiet, Kept}
-use Rattle.sync_engine.specs.Telling.{KeepsRest, ShowsOne}
+use Rattle.sync_engine.specs.Telling.{ShowsOne}
 use Rattle.sync_engine.proofs.Quiet.{refreshed_quiet}
 
 -- ---- whether it may start

@@ -1,5 +1,5 @@
 -- what is done on the stream of writes
-use Rattle.std.proofs.Common.{◌≡◌, ℕ, ◌+◌, ◌-◌, ◌≤◌, suc, zero, Bool, true, false, List, [], ◌∷◌, ◌++◌, map as each, length, drop, nat_lt, Option, Some, None, if◌then◌else◌, refl, sym, ap, subst, ◌∙◌, arith, length-append}
+use Rattle.std.proofs.Common.{◌≡◌, ℕ, ◌+◌, ◌-◌, ◌≤◌, Bool, true, false, List, [], ◌∷◌, ◌++◌, map as each, length, drop, nat_lt, Option, Some, None, if◌then◌else◌, refl, sym, subst, arith, length-append}
 use Rattle.client_events.specs.declared.event.Event.{Event}
 use Rattle.client_events.specs.declared.event.Event.TheVariants as event
 use Rattle.local_store.specs.State.{State, most_commits}
@@ -10,13 +10,13 @@ use Rattle.queries.specs.declared.target.Target.{Target}
 use Rattle.record_codec.specs.declared.commit.Commit.TheVariants.{Acknowledge, Allocate, Enqueue}
 use Rattle.target_cache.specs.Cache.{id_at}
 use Rattle.views.specs.Viewed.{Viewed}
-use Rattle.write_pipeline.specs.Order.{Steps, acknowledged, is_ready, kept, outstanding, sent, shaken}
+use Rattle.write_pipeline.specs.Order.{Steps, acknowledged, kept, outstanding, sent, shaken}
 use Rattle.sync_engine.specs.Answers.{Answers, Begins, are_left, ends, listens}
 use Rattle.sync_engine.specs.Lines.{Line, Told, document, listening, rejected, result, send, snapshot, unlistened, wrote}
 use Rattle.sync_engine.specs.Past.{Past, Turn, listener, sent_in, steps_by, steps_of}
 use Rattle.sync_engine.specs.Turn.{snapshot_line}
-use Rattle.sync_engine.specs.Turns.{after, answered, commits, refused}
-use Rattle.sync_engine.specs.Writing.{IsWritten, WrittenTurn, acknowledges, fails, is_open, settles, shakes}
+use Rattle.sync_engine.specs.Turns.{after, commits, refused}
+use Rattle.sync_engine.specs.Writing.{IsWritten, WrittenTurn, acknowledges, fails, is_open, shakes}
 use Rattle.sync_engine.specs.declared.refusal.Refusal.TheVariants.{IdsSpent}
 
 -- ---- the batches that lines send

@@ -1,15 +1,15 @@
 -- the id of a listener's target
-use Rattle.std.proofs.Common.{◌≡◌, ◌≢◌, ℕ, ◌+◌, ◌<◌, ◌≤◌, ◌^◌, ℤ, pos, Bool, true, false, ◌&&◌, not, nat_lt, List, length, Option, Some, None, if◌then◌else◌, refl, sym, ap, subst, ◌∙◌, arith}
+use Rattle.std.proofs.Common.{◌≡◌, ℕ, ◌<◌, ◌≤◌, ℤ, pos, Bool, true, false, ◌&&◌, not, nat_lt, List, length, Option, Some, None, if◌then◌else◌, refl, sym, ap, subst, ◌∙◌}
 use Rattle.std.proofs.lemmas.Bool.{lt-ltb, le-ltb}
 use Rattle.host_api.specs.Host.{View}
 use Rattle.local_store.specs.Files.{Moves}
 use Rattle.local_store.specs.State.{Fits, State, committed, most_commits}
 use Rattle.queries.specs.declared.target.Target.{Target}
 use Rattle.record_codec.specs.declared.commit.Commit.TheVariants.{Allocate}
-use Rattle.target_cache.specs.Cache.{HasTarget, TellsId, id_at}
+use Rattle.target_cache.specs.Cache.{TellsId, id_at}
 use Rattle.target_cache.specs.declared.row.Row.{Row}
 use Rattle.sync_engine.specs.Answers.{are_left, last_target}
-use Rattle.sync_engine.specs.Targets.{GivesTarget, MovesForTarget, given_id, given_state}
+use Rattle.sync_engine.specs.Targets.{GivesTarget, MovesForTarget, given_state}
 
 and_false : (a : Bool) → (a && false) ≡ false
 and_false true = refl

@@ -1,7 +1,7 @@
 -- the turns of writes and of listeners that begin
-use Rattle.std.proofs.Common.{◌≡◌, ◌≢◌, ◌↔◌, ◌⊎◌, ⊎_elim, inl, inr, ℕ, ◌+◌, ◌<◌, ◌≤◌, ℤ, pos, suc, zero, Bool, true, false, ◌&&◌, not, IsTrue, nat_eq, nat_lt, List, [], ◌∷◌, ◌++◌, length, Option, Some, None, unwrap_or, IfSome, if◌then◌else◌, Vec, Global, refl, sym, ap, subst, ◌∙◌, arith}
-use Rattle.std.specs.List.{All, AllPairs, AllZip, Contains}
-use Rattle.std.proofs.lemmas.Bool.{eqb-true, eq-eqb, eqb-false, lt-ltb, le-ltb}
+use Rattle.std.proofs.Common.{◌≡◌, ◌⊎◌, ⊎_elim, inl, inr, ℕ, ◌+◌, ◌<◌, ◌≤◌, ℤ, pos, Bool, true, false, nat_eq, List, [], ◌∷◌, length, Option, Some, None, unwrap_or, IfSome, if◌then◌else◌, Vec, Global, refl, sym, ap, subst, ◌∙◌, arith}
+use Rattle.std.specs.List.{AllZip, Contains}
+use Rattle.std.proofs.lemmas.Bool.{eqb-true, eqb-false, lt-ltb, le-ltb}
 use Rattle.std.proofs.lemmas.Option.{none-some}
 use Rattle.std.proofs.lemmas.List.Elements.{Contains-append_cases, Contains-append_right, Contains-append_left, Contains-push, Contains-push_cases}
 use Rattle.host_api.specs.Host.{View}
@@ -9,11 +9,9 @@ use Rattle.document_keys.specs.Names.{Root}
 use Rattle.client_events.specs.declared.event.Event.{Event}
 use Rattle.client_events.specs.declared.event.Event.TheVariants as event
 use Rattle.record_codec.specs.declared.commit.Commit.{Commit}
-use Rattle.listeners.specs.Concerns.{Concerns, IsConcerned}
-use Rattle.listeners.specs.Table.{Changes, Table, fresh, is_id, viewed}
+use Rattle.listeners.specs.Table.{Changes, Table, fresh, viewed}
 use Rattle.local_store.specs.Files.{Moves}
 use Rattle.local_store.specs.State.{State, committed, most_commits}
-use Rattle.mutation_queue.specs.Queue.{written_key}
 use Rattle.mutations.specs.declared.batch.Batch.{Batch}
 use Rattle.mutations.specs.declared.write.Write.{Write}
 use Rattle.queries.specs.declared.target.Target.{Target}
@@ -21,9 +19,9 @@ use Rattle.record_codec.specs.declared.commit.Commit.TheVariants.{Enqueue, Alloc
 use Rattle.target_cache.specs.Cache.{id_at}
 use Rattle.value_model.specs.declared.timestamp.Timestamp.{Timestamp}
 use Rattle.views.specs.Viewed.{Viewed}
-use Rattle.sync_engine.specs.Answers.{Answers, Begins, are_left, ends, enqueued, last_target, listens}
+use Rattle.sync_engine.specs.Answers.{Answers, Begins, are_left, ends, enqueued, listens}
 use Rattle.sync_engine.specs.Turns.{after, answered, commits, refused}
-use Rattle.sync_engine.specs.Concerned.{AreConcerned, ConcernsOne}
+use Rattle.sync_engine.specs.Concerned.{AreConcerned}
 use Rattle.sync_engine.specs.Lines.{Line, listening, wrote}
 use Rattle.write_pipeline.specs.Order.{Steps}
 use Rattle.sync_engine.specs.Past.{Turn, Past, asked, listener, raised_in, sent_in}
@@ -34,7 +32,6 @@ use Rattle.sync_engine.specs.Telling.{HandsSettled, IsQuietOrAmong, IsShown, Kee
 use Rattle.sync_engine.specs.declared.out.Out.{Out}
 use Rattle.sync_engine.specs.declared.out.Out.TheVariants.{Listening, Wrote}
 use Rattle.sync_engine.specs.declared.out.Outcome.TheVariants.{Done}
-use Rattle.sync_engine.specs.declared.refusal.Refusal.{Refusal}
 use Rattle.sync_engine.specs.declared.refusal.Refusal.TheVariants.{IdsSpent, ListenerTaken}
 use Rattle.sync_engine.proofs.Handing.{hands_settled, same_id}
 use Rattle.sync_engine.proofs.Quiet.{quiet_allocated, quiet_enqueued}

@@ -11,7 +11,7 @@ use Rattle.client_events.specs.declared.event.Event.{Event}
 use Rattle.client_events.specs.declared.event.Event.TheVariants as event
 use Rattle.views.specs.Viewed.{Viewed}
 use Rattle.sync_engine.specs.declared.refusal.Refusal.TheVariants.{ListenerTaken, NoListener, IdsSpent}
-use Rattle.sync_engine.specs.Lines.{Line, wrote, listening, unlistened, document}
+use Rattle.sync_engine.specs.Lines.{wrote, listening, unlistened, document}
 use Rattle.sync_engine.specs.Past.{Turn, Past, listener, steps_of}
 use Rattle.sync_engine.specs.Turns.{answered, commits, refused}
 use Rattle.sync_engine.specs.Writing.{WrittenTurn, bad_turn, closed_turn, is_open, opened_turn}

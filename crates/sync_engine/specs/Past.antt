@@ -1,5 +1,5 @@
 -- What a client has heard, and what it keeps of it beside the durable state: its listeners, and how the stream of writes stands.
-use Rattle.std.specs.Prelude.{ℕ, Bool, nat_eq, List, [], ◌∷◌, Option, Some, None, option_map, if◌then◌else◌}
+use Rattle.std.specs.Prelude.{ℕ, nat_eq, List, [], ◌∷◌, Option, Some, None, option_map, if◌then◌else◌}
 use Rattle.record_codec.specs.declared.commit.Commit.{Commit}
 use Rattle.local_store.specs.State.{State}
 use Rattle.client_events.specs.declared.event.Event.{Event}
@@ -9,7 +9,7 @@ use Rattle.views.specs.Viewed.{Viewed}
 use Rattle.mutations.specs.declared.results.WriteRequest.TheVariants.{Batch as a_batch}
 use Rattle.write_pipeline.specs.Order.{Steps, acknowledged, closed, is_ready, kept, opened, sent, shaken}
 use Rattle.sync_engine.specs.declared.refusal.Refusal.{Refusal}
-use Rattle.sync_engine.specs.Lines.{Line, Told, send, snapshot}
+use Rattle.sync_engine.specs.Lines.{Line, send, snapshot}
 
 -- what an event came to: why it was refused, at most one commit, and the lines that answer it
 pub record Turn : Type 0 where

@@ -1,5 +1,5 @@
 -- The snapshots that an event raises: each listener shows the answer of its query over the documents of the state after it.
-use Rattle.std.specs.Prelude.{◌≡◌, ◌↔◌, ℕ, ℤ, ◌<◌, Bool, true, false, IsTrue, nat_eq, List, [], ◌∷◌, Option, Some, None, if◌then◌else◌}
+use Rattle.std.specs.Prelude.{◌≡◌, ◌↔◌, ℕ, ℤ, ◌<◌, Bool, false, IsTrue, nat_eq, List, [], ◌∷◌, Option, Some, None, if◌then◌else◌}
 use Rattle.std.specs.List.{AllPairs}
 use Rattle.std.specs.Option.{IsSome}
 use Rattle.document_keys.specs.Names.{Root}

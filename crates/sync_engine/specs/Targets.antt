@@ -1,5 +1,5 @@
 -- The id of a listener's target.
-use Rattle.std.specs.Prelude.{◌≡◌, ℕ, ℤ, pos, length, Option, Some, None, if◌then◌else◌}
+use Rattle.std.specs.Prelude.{◌≡◌, ℤ, pos, length, Option, Some, None, if◌then◌else◌}
 use Rattle.host_api.specs.Host.{View}
 use Rattle.local_store.specs.Files.{Moves}
 use Rattle.local_store.specs.State.{State, committed}

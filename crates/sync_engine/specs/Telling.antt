@@ -16,7 +16,7 @@ use Rattle.write_pipeline.specs.Order.{Steps, latest_token}
 use Rattle.write_pipeline.specs.Standing.{StandsFor as PipelineStandsFor}
 use Rattle.sync_engine.specs.Answers.{Answers}
 use Rattle.sync_engine.specs.Lines.{Line, Told, wrote, listening, unlistened, document, result, rejected, snapshot, send}
-use Rattle.sync_engine.specs.Past.{Turn, Entry, Past, told as told_of}
+use Rattle.sync_engine.specs.Past.{Turn, Past, told as told_of}
 use Rattle.sync_engine.specs.Settling.{Settles, ShowsAt, told_to}
 use Rattle.sync_engine.specs.Standing.{Kept, IsQuiet, StandsFor}
 use Rattle.sync_engine.specs.Turn.{IsSettled, IsTurn, heard_then}

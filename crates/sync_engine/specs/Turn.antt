@@ -1,5 +1,5 @@
 -- The turn of an event, from the state before it and what the client has heard.
-use Rattle.std.specs.Prelude.{◌≡◌, ℕ, Bool, true, false, List, [], ◌∷◌, ◌++◌, map as each, Option, Some, None, if◌then◌else◌}
+use Rattle.std.specs.Prelude.{◌≡◌, Bool, true, false, List, [], ◌∷◌, ◌++◌, map as each, Option, Some, None, if◌then◌else◌}
 use Rattle.document_keys.specs.Names.{Root}
 use Rattle.local_store.specs.State.{State}
 use Rattle.client_events.specs.declared.event.Event.{Event}

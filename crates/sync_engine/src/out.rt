@@ -6,11 +6,21 @@ use value_model::{RpcStatus, Timestamp};
 #[derive(Debug, Drop)]
 pub enum Out {
     /// A write, with the ids of its batch and of its commit.
-    Wrote { batch: u64, commit: u64 },
+    Wrote {
+        batch: u64,
+        commit: u64,
+    },
     /// A listener began, on the target of this id; and the number of commits then.
-    Listening { id: u32, target: i32, commit: u64 },
+    Listening {
+        id: u32,
+        target: i32,
+        commit: u64,
+    },
     /// A listener ended; and the number of commits then.
-    Unlistened { id: u32, commit: u64 },
+    Unlistened {
+        id: u32,
+        commit: u64,
+    },
     /// The document of this key, as it stands after the event.
     Document(DocumentKey),
     /// The backend committed the batch at this time, and it left by this commit.

@@ -214,8 +214,12 @@ impl Client {
     }
 
     /// A message came that doesn't fit, by this member: it closes the stream.
-    fn unfit(&mut self, alloc: Global, response: &WriteResponse, member: WriteMember)
-        -> Result<Outcome, ClientFault>
+    fn unfit(
+        &mut self,
+        alloc: Global,
+        response: &WriteResponse,
+        member: WriteMember,
+    ) -> Result<Outcome, ClientFault>
         requires opening { self.old.writes.is_open ≡ true }
         requires fails { ComesAs self.old.writes
             (λ h. Fails h (first_batch self.old.store.state) response.now member) }
@@ -280,11 +284,15 @@ impl Client {
             time,
         })?;
         let results = response.results;
-        self.commit(alloc, host, Commit::Acknowledge {
+        self.commit(
+            alloc,
+            host,
+            Commit::Acknowledge {
                 batch,
                 at: time,
                 results,
-            })?;
+            },
+        )?;
         self.writes.came(Answer::Acknowledges, response.token);
         self.settle(alloc, ids.as_slice(), &mut outs)?;
         Ok(Outcome::Done(outs))

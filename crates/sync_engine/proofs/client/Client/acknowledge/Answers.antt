@@ -1,25 +1,23 @@
-use Rattle.std.proofs.Common.{true, false, ℕ, ◌+◌, ◌<◌, ◌≤◌, List, [], ◌∷◌, ◌++◌, Option, Some, None, option_map, refl, sym, ap, subst, ◌∙◌, arith}
+use Rattle.std.proofs.Common.{ℕ, ◌+◌, List, [], ◌∷◌, ◌++◌, Option, option_map, refl, sym, ap, subst, ◌∙◌, arith}
 use Rattle.client_events.specs.declared.event.Event.TheVariants as event
-use Rattle.value_model.specs.declared.message.StreamName.TheVariants as stream
-use Rattle.local_store.specs.State.{State, committed, most_commits}
+use Rattle.local_store.specs.State.{State, committed}
 use Rattle.mutations.specs.declared.batch.Batch.{Batch}
 use Rattle.mutations.specs.declared.write.Write.{Write}
-use Rattle.record_codec.specs.declared.commit.Commit.TheVariants.{Acknowledge, Reject}
-use Rattle.write_pipeline.specs.Order.{Steps, acknowledged, closed, kept}
+use Rattle.record_codec.specs.declared.commit.Commit.TheVariants.{Acknowledge}
+use Rattle.write_pipeline.specs.Order.{acknowledged, kept}
 use Rattle.sync_engine.specs.Concerned.{AreConcerned}
-use Rattle.sync_engine.specs.Past.{Past, steps_of}
-use Rattle.sync_engine.specs.Standing.{GoesOn, Kept, StandsFor}
-use Rattle.sync_engine.specs.Telling.{HandsSettled, IsQuietOrAmong, MovesBy}
-use Rattle.sync_engine.specs.Turns.{answered, refused}
-use Rattle.sync_engine.specs.Writing.{first_batch, member_name}
+use Rattle.sync_engine.specs.Past.{steps_of}
+use Rattle.sync_engine.specs.Standing.{GoesOn, Kept}
+use Rattle.sync_engine.specs.Telling.{HandsSettled, MovesBy}
+use Rattle.sync_engine.specs.Turns.{refused}
 use Rattle.sync_engine.specs.declared.out.Out.{Out}
-use Rattle.sync_engine.specs.declared.out.Out.TheVariants.{Rejected, Result}
+use Rattle.sync_engine.specs.declared.out.Out.TheVariants.{Result}
 use Rattle.sync_engine.specs.declared.out.Outcome.TheVariants.{Done, Refused}
-use Rattle.sync_engine.specs.declared.refusal.Refusal.TheVariants.{BadMessage, IdsSpent, StreamState}
+use Rattle.sync_engine.specs.declared.refusal.Refusal.TheVariants.{IdsSpent}
 use Rattle.sync_engine.specs.declared.write_stream.WriteStream.{WriteStream}
 use Rattle.local_store.specs.Files.{Moves}
 use Rattle.write_pipeline.specs.Standing.{HasTransforms}
-use Rattle.sync_engine.proofs.Closed.{some_moment, acknowledge_fits, closed_kept, closed_unopened, hands_acknowledged, hands_nothing, hands_rejected, moves_acknowledged, moves_rejected, shaken_is, spent_acknowledges, spent_rejects, unfit_is, written_as, written_unopened}
+use Rattle.sync_engine.proofs.Closed.{some_moment, acknowledge_fits, hands_acknowledged, moves_acknowledged, spent_acknowledges}
 use Rattle.sync_engine.proofs.Committed.{nothing_moves}
 use Rattle.sync_engine.proofs.Handing.{hands_refused}
 use Rattle.sync_engine.proofs.Sent.{comes_some}

@@ -1,4 +1,4 @@
-use Rattle.std.proofs.Common.{refl, arith, ap, Vec, Global, ◌∙◌}
+use Rattle.std.proofs.Common.{arith, ap, Vec, Global, ◌∙◌}
 use Rattle.sync_engine.specs.declared.out.Out.{Out}
 use Rattle.sync_engine.proofs.Settled.{keeps_then, none_settled, all_settled, item_inside, settled_raised, settled_quiet}
 use Rattle.sync_engine.proofs.client.Client.settle.Goals as goal

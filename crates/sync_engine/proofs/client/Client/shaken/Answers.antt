@@ -1,4 +1,4 @@
-use Rattle.std.proofs.Common.{refl, sym, ap, subst, ◌∙◌}
+use Rattle.std.proofs.Common.{refl, sym, subst}
 use Rattle.client_events.specs.declared.event.Event.TheVariants as event
 use Rattle.sync_engine.specs.Past.{steps_of}
 use Rattle.sync_engine.specs.Standing.{Kept, StandsFor}

@@ -1,7 +1,7 @@
 use Rattle.std.proofs.Common.{sym, subst, ◌∙◌}
 use Rattle.sync_engine.specs.Settling.{MayStart}
 use Rattle.sync_engine.specs.Standing.{Kept}
-use Rattle.sync_engine.proofs.Showing.{is_shown, not_shown}
+use Rattle.sync_engine.proofs.Showing.{is_shown}
 use Rattle.sync_engine.proofs.client.Client.show.Goals as goal
 
 pub returns-clause-shows : goal.returns-clause-shows

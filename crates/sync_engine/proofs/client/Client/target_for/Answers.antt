@@ -1,4 +1,4 @@
-use Rattle.std.proofs.Common.{ℕ, ◌≤◌, List, length, refl, sym, ap, subst, ◌∙◌, arith}
+use Rattle.std.proofs.Common.{◌≤◌, List, length, sym, ap, subst, ◌∙◌, arith}
 use Rattle.local_store.specs.Files.{Moves}
 use Rattle.local_store.specs.State.{Fits, committed}
 use Rattle.record_codec.specs.declared.commit.Commit.TheVariants.{Allocate}

@@ -1,4 +1,4 @@
-use Rattle.std.proofs.Common.{refl, sym, ap, subst, ◌∙◌}
+use Rattle.std.proofs.Common.{refl, sym, subst, ◌∙◌}
 use Rattle.client_events.specs.declared.event.Event.TheVariants as event
 use Rattle.value_model.specs.declared.message.StreamName.TheVariants as stream
 use Rattle.sync_engine.specs.Past.{steps_of}

@@ -5,7 +5,7 @@ use Rattle.record_codec.specs.declared.commit.Commit.TheVariants.{Enqueue}
 use Rattle.mutations.specs.declared.write.Write.{Write}
 use Rattle.sync_engine.specs.Turns.{refused}
 use Rattle.sync_engine.specs.Concerned.{AreConcerned}
-use Rattle.sync_engine.specs.Standing.{Kept, StandsFor}
+use Rattle.sync_engine.specs.Standing.{Kept}
 use Rattle.sync_engine.specs.Telling.{HandsSettled, IsQuietOrAmong, MovesBy}
 use Rattle.sync_engine.specs.declared.out.Out.{Out}
 use Rattle.sync_engine.specs.declared.out.Out.TheVariants.{Wrote}

@@ -1,26 +1,16 @@
-use Rattle.std.proofs.Common.{true, false, ℕ, ◌+◌, ◌<◌, ◌≤◌, List, [], ◌∷◌, ◌++◌, Option, Some, None, option_map, refl, sym, ap, subst, ◌∙◌, arith}
+use Rattle.std.proofs.Common.{false, [], refl, sym, ap, subst, ◌∙◌}
 use Rattle.client_events.specs.declared.event.Event.TheVariants as event
 use Rattle.value_model.specs.declared.message.StreamName.TheVariants as stream
-use Rattle.local_store.specs.State.{State, committed, most_commits}
-use Rattle.mutations.specs.declared.batch.Batch.{Batch}
-use Rattle.mutations.specs.declared.write.Write.{Write}
-use Rattle.record_codec.specs.declared.commit.Commit.TheVariants.{Acknowledge, Reject}
-use Rattle.write_pipeline.specs.Order.{Steps, acknowledged, closed, kept}
-use Rattle.sync_engine.specs.Concerned.{AreConcerned}
-use Rattle.sync_engine.specs.Past.{Past, steps_of}
-use Rattle.sync_engine.specs.Standing.{GoesOn, Kept, StandsFor}
-use Rattle.sync_engine.specs.Telling.{HandsSettled, IsQuietOrAmong, MovesBy}
+use Rattle.local_store.specs.State.{State}
+use Rattle.sync_engine.specs.Past.{steps_of}
+use Rattle.sync_engine.specs.Standing.{Kept}
+use Rattle.sync_engine.specs.Telling.{MovesBy}
 use Rattle.sync_engine.specs.Turns.{answered, refused}
 use Rattle.sync_engine.specs.Writing.{first_batch, member_name}
-use Rattle.sync_engine.specs.declared.out.Out.{Out}
-use Rattle.sync_engine.specs.declared.out.Out.TheVariants.{Rejected, Result}
-use Rattle.sync_engine.specs.declared.out.Outcome.TheVariants.{Done, Refused}
-use Rattle.sync_engine.specs.declared.refusal.Refusal.TheVariants.{BadMessage, IdsSpent, StreamState}
-use Rattle.sync_engine.specs.declared.write_stream.WriteStream.{WriteStream}
-use Rattle.sync_engine.proofs.Closed.{acknowledge_fits, closed_kept, closed_unopened, hands_acknowledged, hands_nothing, hands_rejected, moves_acknowledged, moves_rejected, shaken_is, spent_acknowledges, spent_rejects, unfit_is, written_as, written_unopened}
+use Rattle.sync_engine.specs.declared.refusal.Refusal.TheVariants.{BadMessage, StreamState}
+use Rattle.sync_engine.proofs.Closed.{shaken_is, unfit_is, written_as, written_unopened}
 use Rattle.sync_engine.proofs.Committed.{nothing_moves}
 use Rattle.sync_engine.proofs.Handing.{hands_refused}
-use Rattle.sync_engine.proofs.Sent.{comes_some}
 use Rattle.sync_engine.proofs.Turning.{by_state, moves_none}
 use Rattle.write_pipeline.specs.Standing.{Fits}
 use Rattle.write_pipeline.specs.declared.answer.Answer.{Answer}
