@@ -3,6 +3,7 @@ import os
 import subprocess
 import sys
 import tempfile
+import threading
 import time
 
 ROOT = os.path.dirname(os.path.dirname(os.path.abspath(__file__)))
@@ -51,10 +52,56 @@ def peak_memory(pid):
     return 0
 
 
+class Client:
+    """The program over a store, asked line by line."""
+
+    def __init__(self, program, store):
+        self.process = subprocess.Popen([program, "run", store], stdin=subprocess.PIPE, stdout=subprocess.PIPE, stderr=subprocess.DEVNULL, bufsize=1 << 16)
+
+    def feed(self, lines):
+        for at in range(0, len(lines), 500):
+            self.process.stdin.write(b"".join(lines[at:at + 500]))
+        self.process.stdin.flush()
+
+    def used(self):
+        """The seconds of the processor so far."""
+        with open("/proc/%d/schedstat" % self.process.pid) as file:
+            return int(file.read().split()[0]) / 1e9
+
+    def ask(self, lines, printed):
+        """Feeds the lines, which print so many; gives the seconds up to the last of them, those of the processor, and the last."""
+        before, started = self.used(), time.monotonic()
+        feeder = threading.Thread(target=self.feed, args=(lines,), daemon=True)
+        feeder.start()
+        last = b""
+        for _ in range(printed):
+            last = self.process.stdout.readline()
+            if not last:
+                sys.exit("the program ended early, with status %d" % self.process.wait())
+        seconds = time.monotonic() - started
+        feeder.join()
+        return seconds, self.used() - before, last
+
+    def tell(self, line, printed):
+        """Feeds one line, as `ask` does, without a thread beside it."""
+        before, started = self.used(), time.monotonic()
+        self.process.stdin.write(line)
+        self.process.stdin.flush()
+        for _ in range(printed):
+            last = self.process.stdout.readline()
+        return time.monotonic() - started, self.used() - before, last
+
+    def end(self):
+        """The peak of its memory in KiB; the run ends."""
+        memory = peak_memory(self.process.pid)
+        self.process.stdin.close()
+        if self.process.stdout.read() or self.process.wait() != 0:
+            sys.exit("the program printed more than was due, or ended with status %d" % self.process.wait())
+        return memory
+
+
 def measure(program, folder, lines):
     """Runs the lines; gives the seconds up to the last answer, the peak memory in KiB by then, and the last answer."""
-    import threading
-
     started = time.monotonic()
     process = subprocess.Popen([program, "run", folder], stdin=subprocess.PIPE, stdout=subprocess.PIPE,
                                stderr=subprocess.DEVNULL, bufsize=1 << 16)

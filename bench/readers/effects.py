@@ -1,7 +1,7 @@
 """What values are read as and printed as, and what writes make of documents, by the descriptions in docs/FORMATS.md alone.
 
-What stands after a masked update is worked out by what stands at each path, and not by setting one path after another. A document
-is its fields, by name. A value is as it is printed, so that equal values are equal trees; but a map's tree is {"mapValue": fields},
+What stands after a masked update is worked out by what stands at each path, and not by setting one path after another. Fields are
+by name. A value is as it is printed, so that equal values are equal trees; but a map's tree is {"mapValue": fields},
 an array's {"arrayValue": items}, and a time that isn't known yet is {"pending": time}. A write is its tree in a line.
 """
 import base64
@@ -202,48 +202,3 @@ def array_after(found, transform):
 
 def stored_values(elements):
     return [stored_value(value) for value in elements.get("values") or []]
-
-
-def holds(condition, document):
-    if condition is None:
-        return True
-    if condition.get("exists") is not None:
-        return condition["exists"] == (document is not None)
-    return False  # no document has an update time before the backend has answered
-
-
-def after_write(document, write, at):
-    """The document after a write, None where there is none."""
-    if not holds(write.get("currentDocument"), document):
-        return document
-    if write.get("delete") is not None:
-        return None
-    fields = stored_fields(write["update"].get("fields") or {})
-    if write.get("updateMask") is not None:
-        mask = [tuple(path_names(path)) for path in write["updateMask"].get("fieldPaths") or []]
-        fields = masked(document or {}, fields, mask)
-    for transform in write.get("updateTransforms") or []:
-        names = path_names(transform["fieldPath"])
-        fields = with_path(fields, names, transformed(at_path(fields, names), transform, at))
-    return fields
-
-
-class Documents:
-    """What the pending writes make of each document that they name: its fields, or None where there is none."""
-
-    def __init__(self):
-        self.found = {}
-
-    def take(self, at, writes):
-        """Lays the writes of a batch on; `at` is their local write time, as it is printed."""
-        for write in writes:
-            name = write["delete"] if write.get("delete") is not None else write["update"]["name"]
-            self.found[name] = after_write(self.found.get(name), write, at)
-
-    def shown(self, name):
-        """What the line of a document says of it."""
-        document = self.found.get(name)
-        body = {"exists": document is not None, "name": name, "state": "pending" if name in self.found else "unknown"}
-        if document:
-            body["fields"] = printed_fields(document)
-        return body

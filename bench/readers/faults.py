@@ -86,7 +86,13 @@ def in_order(members, readers, required, unknown):
 
 
 def bad_member(name):
+    """The fault of a member that isn't known, in a line of the app."""
     yield (SHAPE, name)
+
+
+def read_over(name):
+    """A member that isn't known is no fault in a message of the backend."""
+    return iter(())
 
 
 def scalar_faults(name, tree):
@@ -110,7 +116,7 @@ def scalar_faults(name, tree):
         yield (SHAPE, name)
 
 
-def array_faults(tree, limit):
+def array_faults(tree, limit, unknown):
     if not isinstance(tree, dict):
         yield (SHAPE, "arrayValue")
         return
@@ -122,11 +128,11 @@ def array_faults(tree, limit):
             yield (SHAPE, "values")
             return
         for item in items:
-            yield from value_faults(item, "values", max(limit - 1, 0))
-    yield from in_order(tree, {"values": values}, (), bad_member)
+            yield from value_faults(item, "values", max(limit - 1, 0), unknown)
+    yield from in_order(tree, {"values": values}, (), unknown)
 
 
-def map_faults(tree, limit):
+def map_faults(tree, limit, unknown):
     if not isinstance(tree, dict):
         yield (SHAPE, "mapValue")
         return
@@ -136,7 +142,7 @@ def map_faults(tree, limit):
         return
     if limit == 0:
         yield (DEEP,)
-    yield from in_order(tree, {"fields": lambda fields: fields_faults(fields, max(limit - 1, 0))}, (), bad_member)
+    yield from in_order(tree, {"fields": lambda fields: fields_faults(fields, max(limit - 1, 0), unknown)}, (), unknown)
 
 
 SCALARS = ("nullValue", "booleanValue", "integerValue", "timestampValue", "stringValue", "bytesValue", "referenceValue")
@@ -148,7 +154,7 @@ def kinds_of(tree):
     return [kind for kind in tree if kind in SCALARS + NEVER + ("arrayValue", "mapValue") and (kind == "nullValue" or tree[kind] is not None)]
 
 
-def value_faults(tree, name, limit):
+def value_faults(tree, name, limit, unknown=bad_member):
     if not isinstance(tree, dict):
         yield (SHAPE, name)
         return
@@ -160,13 +166,13 @@ def value_faults(tree, name, limit):
         if member in NEVER and inner is not None:
             yield (UNSUPPORTED, member)
         elif member == "arrayValue" and inner is not None:
-            yield from array_faults(inner, limit)
+            yield from array_faults(inner, limit, unknown)
         elif member == "mapValue" and inner is not None:
-            yield from map_faults(inner, limit)
+            yield from map_faults(inner, limit, unknown)
         elif member == "nullValue" or member in SCALARS and inner is not None:
             yield from scalar_faults(member, inner)
         elif inner is not None:
-            yield (SHAPE, member)
+            yield from unknown(member)
 
 
 def values_faults(tree, limit):
@@ -254,11 +260,11 @@ def transforms_faults(tree):
         yield from transform_faults(item)
 
 
-def fields_faults(tree, limit):
+def fields_faults(tree, limit, unknown=bad_member):
     if not isinstance(tree, dict):
         yield (SHAPE, "fields")
         return
     for name, inner in given(tree):
         if field_name_fault(name):
             yield (NAME, field_name_fault(name), name)
-        yield from value_faults(inner, name, limit)
+        yield from value_faults(inner, name, limit, unknown)

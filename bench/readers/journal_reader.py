@@ -437,8 +437,7 @@ def listen_lines(store):
 
 def wanted_lines(store, number):
     """What these print, by what each target answers; a listener whose row isn't blank shows even nothing."""
-    found = {NAME_FRONT + name: store.found(name)[0] for name in store.names()}
-    documents = {name: document and document[0] for name, document in found.items()}
+    documents = {NAME_FRONT + name: fields for name, fields in store.documents().items()}
     time = {} if store.last_read is None else {"readTime": store.last_read}
     for place, (target, row) in enumerate(store.rows):
         yield {"ok": {"commit": number, "id": place, "targetId": 2 * place + 2}}

@@ -4,12 +4,14 @@
     bench/readers/line_reader.py compare [--program P] [--runs N] [--lines N] [--minutes M] [--seed S]
     bench/readers/line_reader.py answer [DATABASE] < LINES
 
-`compare` feeds the program the damaged lines of fuzz_lines.py, and lines that are built with several faults at once (built_lines.py),
-and what it prints must be, byte for byte, what this reader prints: the numbers of an `ok`, the printed document with the pending writes
-laid over it, the number, the member and the name of a refusal, and the snapshots that a line raises. A store has two runs, one behind the
-other; then its journal must have the targets of all listeners, with their whole lists of orders. What writes make of a document is worked out here by what stands
-at each path, and not by setting one path after another; what a query answers, by who comes before each document. `answer` prints what
-this reader prints for lines over an empty store. The JSON itself is read by Python's json.
+`compare` feeds the program the damaged lines of fuzz_lines.py, lines that are built with several faults at once (built_lines.py), and
+openings, closings and messages of the stream of writes, many of which fit what is outstanding by then (built_messages.py). What it prints
+must be, byte for byte, what this reader prints: the numbers of an `ok`, the printed document with the pending writes laid over it, the
+number, the member and the name of a refusal, the snapshots that a line raises, and the requests that it sends. A store has two runs,
+one behind the other; behind each its journal must have the targets of all listeners, with their whole lists of orders, the pending
+batches, and give the same documents. What writes make of a document is worked out here by what stands at each path, and not by setting
+one path after another; what a query answers, by who comes before each document. `answer` prints what this reader prints for lines over
+an empty store. The JSON itself is read by Python's json.
 """
 import argparse
 import json
@@ -25,13 +27,15 @@ import time
 sys.dont_write_bytecode = True
 sys.path.insert(0, os.path.dirname(os.path.dirname(os.path.abspath(__file__))))
 from client import find_program, memory_folder, run_lines  # noqa: E402
-from readers.commits import read_commit  # noqa: E402
-from readers.effects import Documents, given, read_time, read_whole  # noqa: E402
+from readers.effects import given, read_time, read_whole  # noqa: E402
 from readers.faults import (DEEP, DEEPEST_VALUE, NAME, ORDER, SHAPE, UNSUPPORTED, bad_member, condition_faults, fields_faults, in_order, mask_faults,  # noqa: E402
                             name_faults, object_faults, transforms_faults)
-from readers.journal_reader import get_files, read_pair  # noqa: E402
+from readers.journal_reader import get_files, read_store  # noqa: E402
 from readers.queries import changes_between, read_target, target_faults, whole_faults  # noqa: E402
+from readers.store import Store  # noqa: E402
+from readers.write_stream import Message, WriteStream, close_faults, member_of, message_faults, open_faults  # noqa: E402
 from trials.built_lines import DATABASE, built_line  # noqa: E402
+from trials.built_messages import built_message  # noqa: E402
 from trials.fuzz_lines import items_of, keep, random_line, sample_lines  # noqa: E402
 
 sys.set_int_max_str_digits(0)
@@ -40,12 +44,12 @@ LONGEST = 4194304
 DEEPEST_TEXT = 127
 LAST_LISTENER = 2**32 - 1
 
-COUNT, QUERY, TAKEN, NO_LISTENER, LENGTH = 5, 6, 7, 8, 11
+COUNT, QUERY, TAKEN, NO_LISTENER, STATE, MESSAGE, LENGTH = 5, 6, 7, 8, 9, 10, 11
 CAUSES = {SHAPE: "BadLine", DEEP: "TooDeep", UNSUPPORTED: "Unsupported", NAME: "BadName", COUNT: "BadWrites", QUERY: "BadQuery", TAKEN: "ListenerTaken",
-          NO_LISTENER: "NoListener", LENGTH: "LineTooLong"}
-BESIDES = {SHAPE: ["member"], UNSUPPORTED: ["member"], NAME: ["fault", "name"], COUNT: ["count"], QUERY: ["fault"], TAKEN: ["id"], NO_LISTENER: ["id"]}
+          NO_LISTENER: "NoListener", STATE: "StreamState", MESSAGE: "BadMessage", LENGTH: "LineTooLong"}
+BESIDES = {SHAPE: ["member"], UNSUPPORTED: ["member"], NAME: ["fault", "name"], COUNT: ["count"], QUERY: ["fault"], TAKEN: ["id"], NO_LISTENER: ["id"],
+           STATE: ["open", "stream"], MESSAGE: ["member", "stream"]}
 
-UNBUILT_LINES = {"open", "close", "watch", "written", "timer"}
 ALTERNATIVES = ("delete", "transform", "update")
 MOST_WRITES = 500
 
@@ -116,13 +120,17 @@ class Refused(Exception):
     """The line is refused: its number, and what is printed besides."""
 
 
+def least(faults):
+    """The first of the faults of the first number, or None."""
+    return min(faults, key=lambda fault: ORDER.index(fault[0]), default=None)
+
+
 class Listener:
     def __init__(self, target):
         self.target, self.raised = target, None
 
-    def snapshot(self, documents):
-        """The documents that it shows and what has changed in them, where it raises a snapshot now, else None."""
-        shown = [printed(documents.shown(name)) for name in self.target.answer(documents.found)]
+    def snapshot(self, shown):
+        """What has changed where these documents are shown, and the documents; None where no snapshot is raised."""
         if shown == (self.raised or []):
             return None
         changes, self.raised = changes_between(self.raised or [], shown), shown
@@ -133,8 +141,18 @@ class Reader:
     """A store over one database that reads lines and answers them."""
 
     def __init__(self, database=DATABASE):
-        self.front = database + "/documents/"
-        self.documents, self.batches, self.targets, self.listeners = Documents(), 0, [], {}
+        self.database, self.front, self.store, self.commits = database, database + "/documents/", Store(), 0
+        self.begin()
+
+    def begin(self):
+        """A run over the store begins."""
+        self.listeners, self.stream = {}, WriteStream()
+
+    def commit(self, kind, *members):
+        """Makes the commit; gives its number."""
+        self.store.commit(kind, members)
+        self.commits += 1
+        return self.commits
 
     def update_faults(self, tree):
         readers = {"fields": lambda fields: fields_faults(fields, DEEPEST_VALUE), "name": lambda inner: name_faults(inner, "name", self.front)}
@@ -182,26 +200,19 @@ class Reader:
             yield (SHAPE, "")
             return
         name, inner = members[0]
-        built = {"write": self.write_line_faults, "get": self.get_line_faults, "listen": self.listen_line_faults, "unlisten": self.unlisten_line_faults}
-        if name in built:
-            yield from built[name](inner)
-        else:
-            yield (UNSUPPORTED, name) if name in UNBUILT_LINES else (SHAPE, "")
-
-    def number(self):
-        """The number of commits so far."""
-        return self.batches + len(self.targets)
+        readers = {"write": self.write_line_faults, "get": self.get_line_faults, "listen": self.listen_line_faults, "unlisten": self.unlisten_line_faults,
+                   "open": open_faults, "close": close_faults, "timer": timer_faults, "watch": watch_faults, "written": lambda inner: ()}
+        yield from readers[name](inner) if name in readers else [(SHAPE, "")]
 
     def write(self, line):
         writes = line.get("writes") or []
         if not 1 <= len(writes) <= MOST_WRITES:
             raise Refused(COUNT, len(writes))
-        self.documents.take(read_time(line["at"]), writes)
-        self.batches += 1
-        return {"ok": {"batch": self.batches, "commit": self.number()}}
+        batch = self.store.next_batch
+        return [{"ok": {"batch": batch, "commit": self.commit("Enqueue", batch, read_time(line["at"]), writes)}}]
 
     def get(self, line):
-        return {"document": self.documents.shown(line["name"])}
+        return [{"document": self.store.shown(line["name"])}]
 
     def listen(self, line):
         number, target = id_of(line), read_target(line["target"], self.front)
@@ -209,43 +220,110 @@ class Reader:
             raise Refused(QUERY, target.broken_rule())
         if number in self.listeners:
             raise Refused(TAKEN, number)
-        if target.spelled() not in self.targets:
-            self.targets.append(target.spelled())
+        targets = [row[0] for row in self.store.rows]
+        place = targets.index(target.spelled()) if target.spelled() in targets else len(targets)
+        if place == len(targets):
+            self.commit("Allocate", 2 * place + 2, target.spelled())
         self.listeners[number] = Listener(target)
-        return {"ok": {"commit": self.number(), "id": number, "targetId": 2 * self.targets.index(target.spelled()) + 2}}
+        return [{"ok": {"commit": self.commits, "id": number, "targetId": 2 * place + 2}}]
 
     def unlisten(self, line):
         if self.listeners.pop(id_of(line), None) is None:
             raise Refused(NO_LISTENER, id_of(line))
-        return {"ok": {"commit": self.number(), "id": id_of(line)}}
+        return [{"ok": {"commit": self.commits, "id": id_of(line)}}]
+
+    def expect(self, is_open):
+        if self.stream.is_open != is_open:
+            raise Refused(STATE, self.stream.is_open, "write")
+
+    def open(self, line):
+        self.expect(False)
+        self.stream.open()
+        return [{"send": {"write": {"database": self.database}}}]
+
+    def close(self, line):
+        self.expect(True)
+        status = printed_status(line.get("status") or {})
+        is_rejecting = self.stream.rejects(status.get("code", 0))
+        self.stream.close()
+        if not is_rejecting:
+            return []
+        batch = self.store.pending[0][0]
+        return [{"rejected": {"batch": batch, "commit": self.commit("Reject", batch), "status": status}}]
+
+    def fail(self, member):
+        """A message that doesn't fit closes the stream."""
+        self.stream.close()
+        raise Refused(MESSAGE, member, "write")
+
+    def written(self, inner):
+        self.expect(True)
+        fault = least(message_faults(inner))
+        if fault:
+            self.fail(member_of(fault))
+        message = Message(inner)
+        if not self.stream.is_ready:
+            return self.shake_hands(message)
+        misfit = message.misfit(self.store.pending[0][2] if self.stream.outstanding else None)
+        if misfit:
+            self.fail(misfit)
+        batch = self.store.pending[0][0]
+        number = self.commit("Acknowledge", batch, message.commit, message.results)
+        self.stream.outstanding -= 1
+        self.stream.take_token(message.token)
+        return [{"result": {"batch": batch, "commit": number, "commitTime": message.commit}}]
+
+    def shake_hands(self, message):
+        if message.results:
+            self.fail("writeResults")
+        self.stream.is_ready = True
+        self.stream.take_token(message.token)
+        return []
 
     def answer(self, line):
-        """The answer to a line; it is taken, or raises Refused."""
+        """The answer to a line, as a list of at most one; it is taken, or raises Refused."""
         if len(line) > LONGEST:
             raise Refused(LENGTH)
         try:
             tree = read_json(line)
         except NoJson:
             raise Refused(SHAPE, "") from None
-        faults = list(self.line_faults(tree))
-        if faults:
-            raise Refused(*min(faults, key=lambda fault: ORDER.index(fault[0])))
+        fault = least(self.line_faults(tree))
+        if fault:
+            raise Refused(*fault)
         (name, inner), = given(tree)
-        return {"write": self.write, "get": self.get, "listen": self.listen, "unlisten": self.unlisten}[name](inner)
+        return {"write": self.write, "get": self.get, "listen": self.listen, "unlisten": self.unlisten, "open": self.open, "close": self.close,
+                "written": self.written}[name](inner)
 
     def snapshots(self):
         """The snapshots that are raised now."""
+        documents = self.store.documents() if self.listeners else {}
         for number in sorted(self.listeners):
-            found = self.listeners[number].snapshot(self.documents)
+            listener = self.listeners[number]
+            shown = [printed(self.store.shown(name)) for name in listener.target.answer(documents)]
+            found = listener.snapshot(shown)
             if found is not None:
-                yield {"snapshot": {**found, "commit": self.number(), "fromCache": True, "id": number}}
+                yield {"snapshot": {**found, "commit": self.commits, "fromCache": True, "id": number}}
 
     def lines(self, number, line):
         """What is printed for a line of that number, each without its newline."""
         try:
-            return [spelled(self.answer(line))] + list(map(spelled, self.snapshots()))
+            answer = self.answer(line)
         except Refused as refusal:
             return [refused(number, *refusal.args)]
+        return list(map(spelled, answer + list(self.snapshots()) + list(self.stream.requests(self.store.pending))))
+
+
+def timer_faults(tree):
+    def name(text):
+        if text != "online":
+            yield (SHAPE, "name")
+    yield from object_faults(tree, "timer", {"name": name}, ("name",))
+    yield (UNSUPPORTED, "timer")
+
+
+def watch_faults(tree):
+    yield (UNSUPPORTED, "watch")
 
 
 def id_faults(tree):
@@ -267,6 +345,11 @@ def printed(document):
     return {name: inner for name, inner in document.items() if name != "exists"}
 
 
+def printed_status(status):
+    code, message = read_whole(status.get("code") or 0), status.get("message") or ""
+    return {**({"code": code} if code else {}), **({"message": message} if message else {})}
+
+
 def refused(number, cause, *besides):
     body = {"cause": CAUSES[cause], "line": number, "number": cause, **dict(zip(BESIDES.get(cause, []), besides))}
     return spelled({"refused": body})
@@ -274,13 +357,22 @@ def refused(number, cause, *besides):
 
 # ---- against the program ------------------------------------------------------------------------------------------
 
+MESSAGE_MEMBERS = ("commitTime", "name", "streamToken", "transformResults", "updateTime", "value", "writeResults", "written")
+
+
 def kind_of(answer):
     """What is counted of a printed line."""
     (name, body), = json.loads(answer).items()
     if name == "ok":
         return "ok of a write" if "batch" in body else "ok of a listen" if "targetId" in body else "ok of an unlisten"
+    if name == "send":
+        return "send of a batch" if "writes" in body["write"] else "send of a handshake"
+    if name == "document":
+        return "document, " + body["state"]
     if name == "snapshot":
         return "snapshot of %s" % (", ".join(sorted({change["kind"] for change in body["changes"]})) or "another order")
+    if body.get("cause") == "BadMessage":
+        return "refused as BadMessage, " + (body["member"] if body["member"] in MESSAGE_MEMBERS else "another member")
     return name if name != "refused" else "refused as " + body["cause"] + (" %d" % body["fault"] if "fault" in body and "name" not in body else "")
 
 
@@ -288,22 +380,47 @@ def shortened(lines):
     return [line[:600] for line in lines]
 
 
-def targets_in(store):
-    """The targets that the journal has, in their order."""
-    found = read_pair(get_files(store))
-    commits = list(map(read_commit, found[3])) if found[0] == "counts" else []
-    return [members[1] for kind, members in commits if kind == "Allocate"]
+def built_items(chance, trees, count, reader):
+    """The lines of a run, one by one; each is answered by the reader before the next is built. In some runs few are of the stream."""
+    of_stream = chance.choice([0.05, 0.2, 0.35, 0.5])
+    for _ in range(count):
+        if chance.random() < of_stream:
+            line = built_message(chance, reader.stream, reader.store.pending)
+        else:
+            line = built_line(chance) if chance.random() < 0.6 else random_line(chance, trees)
+        yield from line.split(b"\n")
 
 
-def try_lines(program, store, reader, text, counts):
-    """Feeds one run, of a store as the reader has it; says what is wrong, or None."""
+def journal_fault(store, reader):
+    """What is wrong with the journal, or None: it gives another store than the reader has."""
+    found, front = read_store(get_files(store)), reader.front
+    if found is None:
+        return "the journal is no store's"
+    if [row[0] for row in found.rows] != [row[0] for row in reader.store.rows]:
+        return "the journal has other targets than were asked for"
+    if [batch[0] for batch in found.pending] != [batch[0] for batch in reader.store.pending]:
+        return "the journal has other pending batches"
+    names = {front + name for name in found.names()} | reader.store.names()
+    wrong = [name for name in sorted(names) if {**found.shown(name[len(front):]), "name": name} != reader.store.shown(name)]
+    return "the journal gives another document of %s" % wrong[0] if wrong else None
+
+
+def try_lines(program, store, reader, lines, last, counts):
+    """Feeds one run, of a store as the reader has it; gives its input, and what is wrong, or None."""
+    reader.begin()
+    due = [(line, reader.lines(number, line)) for number, line in enumerate(lines, 1)]
+    text = b"\n".join(line for line, _ in due) + (b"\n" if not due or due[-1][0] == b"" else last)
     try:
         status, output = run_lines(program, store, [text], seconds=120)
     except subprocess.TimeoutExpired:
-        return "no end within 120 seconds"
-    reader.listeners, came, at = {}, items_of(output), 0
-    for number, line in enumerate(items_of(text), 1):
-        wanted = reader.lines(number, line)
+        return text, "no end within 120 seconds"
+    return text, difference(due, status, items_of(output), counts) or journal_fault(store, reader)
+
+
+def difference(due, status, came, counts):
+    """The first place at which other lines came than were due, or None."""
+    at = 0
+    for number, (line, wanted) in enumerate(due, 1):
         found = came[at:at + len(wanted)]
         if found != wanted:
             return "line %d, %r: %s is printed, and %s is due" % (number, line[:600], shortened(found), shortened(wanted))
@@ -312,13 +429,19 @@ def try_lines(program, store, reader, text, counts):
             counts[what] = counts.get(what, 0) + 1
     if status != 0 or at != len(came):
         return "status %d, and %d lines are printed where %d are due" % (status, len(came), at)
-    return None if targets_in(store) == reader.targets else "the journal has other targets than were asked for"
+    return None
 
 
-def built_text(chance, trees, count):
-    """The input of a run."""
-    lines = [built_line(chance) if chance.random() < 0.6 else random_line(chance, trees) for _ in range(count)]
-    return b"\n".join(lines) + chance.choice([b"", b"\n"])
+def try_store(program, store, chance, trees, words, counts):
+    """Two runs over a fresh store; says what is wrong, or None."""
+    shutil.rmtree(store, ignore_errors=True)
+    reader, texts = Reader(), []
+    for count in (words.lines * 3 // 4, words.lines // 4):
+        text, wrong = try_lines(program, store, reader, built_items(chance, trees, count, reader), chance.choice([b"", b"\n"]), counts)
+        texts.append(text)
+        if wrong:
+            return "%s; the input is kept as %s" % (wrong, " and ".join(keep("lines", each) for each in texts))
+    return None
 
 
 def compare(words):
@@ -327,15 +450,9 @@ def compare(words):
     with tempfile.TemporaryDirectory(prefix="line-reader-", dir=memory_folder()) as folder:
         while not wrong and (time.monotonic() < ends if words.minutes else number < words.runs):
             number += 1
-            store = os.path.join(folder, "store")
-            shutil.rmtree(store, ignore_errors=True)
-            reader, texts = Reader(), [built_text(chance, trees, count) for count in (words.lines * 3 // 4, words.lines // 4)]
-            wrong = try_lines(program, store, reader, texts[0], counts) or try_lines(program, store, reader, texts[1], counts)
-            if wrong:
-                kept = [keep("lines", text) for text in texts]
-                wrong = "store %d of seed %d: %s; the input of its two runs is kept as %s" % (number, words.seed, wrong, " and ".join(kept))
+            wrong = try_store(program, os.path.join(folder, "store"), chance, trees, words, counts)
     if wrong:
-        print(wrong)
+        print("store %d of seed %d: %s" % (number, words.seed, wrong))
     for what in sorted(counts):
         print("%9d  %s" % (counts[what], what))
     print("%d printed lines compared over %d stores, seed %d: %s" % (sum(counts.values()), number, words.seed, "they differ" if wrong else "they agree on all"))

@@ -2,7 +2,8 @@
 
 A document is a pair: its fields by name, as effects.py has them, and its update time or None. An entry is a triple: the document
 or None, its version, and whether what it says is known; beside it stands its seal, None where it was seen, or the time of a commit.
-Times are as they are printed.
+Times are as they are printed. What the pending writes of a name make of its document is worked out anew where one of them goes, and
+kept until then.
 """
 from readers.effects import array_after, at_path, masked, path_names, printed_fields, read_time, stored_fields, stored_value, transformed, with_path
 
@@ -85,6 +86,7 @@ class Store:
 
     def __init__(self):
         self.pending, self.next_batch, self.entries, self.last_read, self.rows = [], 1, {}, None, []
+        self.pending_writes, self.local = {}, {}  # by name: the pending writes with their batches and times; the documents worked out so far
 
     def commit(self, kind, members):
         """Takes the commit, or raises Unfit."""
@@ -95,11 +97,23 @@ class Store:
             raise Unfit
         self.pending.append((batch, at, writes))
         self.next_batch += 1
+        for write in writes:
+            name = name_of(write)
+            self.pending_writes.setdefault(name, []).append((batch, at, write))
+            if name in self.local:
+                self.local[name] = after_pending(self.local[name], write, at)
 
     def settled(self, batch):
         if not self.pending or self.pending[0][0] != batch:
             raise Unfit
         return self.pending[0][2]
+
+    def leave(self):
+        """Takes the first pending batch away."""
+        batch, _, writes = self.pending.pop(0)
+        for name in set(map(name_of, writes)):
+            self.pending_writes[name] = [each for each in self.pending_writes[name] if each[0] != batch]
+            self.local.pop(name, None)
 
     def acknowledge(self, batch, commit, results):
         writes = self.settled(batch)
@@ -115,11 +129,11 @@ class Store:
                     entry = after_answer(entry, write, result, version)
                 after[name] = entry, commit
         self.entries = after
-        self.pending.pop(0)
+        self.leave()
 
     def reject(self, batch):
         self.settled(batch)
-        self.pending.pop(0)
+        self.leave()
 
     def allocate(self, number, target):
         if number != 2 * len(self.rows) + 2 or number > LAST_ID or any(row[0] == target for row in self.rows):
@@ -138,6 +152,7 @@ class Store:
         for name, entry in entries.items():
             found = (stored_fields(entry["fields"]), entry["version"]) if "fields" in entry else None
             self.entries[name] = (found, entry["version"] if found else entry["missingSince"], True), None
+            self.local.pop(name, None)
         for place, row in zip(places, rows):
             self.rows[place] = self.rows[place][0], row
         self.last_read = at
@@ -154,6 +169,7 @@ class Store:
             raise Unfit
         for name in names:
             self.entries.pop(name, None)
+            self.local.pop(name, None)
         self.blank(places)
 
     def blank(self, places):
@@ -162,22 +178,30 @@ class Store:
 
     def names(self):
         """The names of the entries, and of pending writes."""
-        return set(self.entries) | {name_of(write) for _, _, writes in self.pending for write in writes}
+        return set(self.entries) | {name for name, writes in self.pending_writes.items() if writes}
+
+    def is_pending(self, name):
+        return bool(self.pending_writes.get(name))
 
     def found(self, name):
-        """The document of that name with the pending writes laid over it, or None; and whether one of these names it."""
-        document, is_pending = self.entries.get(name, ((None,),))[0][0], False
-        for _, at, writes in self.pending:
-            for write in writes:
-                if name_of(write) == name:
-                    document, is_pending = after_pending(document, write, at), True
-        return document, is_pending
+        """The document of that name with the pending writes laid over it, or None."""
+        if name not in self.local:
+            document = self.entries.get(name, ((None,),))[0][0]
+            for _, at, write in self.pending_writes.get(name, []):
+                document = after_pending(document, write, at)
+            self.local[name] = document
+        return self.local[name]
+
+    def documents(self):
+        """The fields of each document by its name, None where there is none."""
+        found = {name: self.found(name) for name in self.names()}
+        return {name: document and document[0] for name, document in found.items()}
 
     def shown(self, name):
         """What the line of a document says of it."""
         entry, seal = self.entries.get(name, ((None, None, False), None))
-        document, is_pending = self.found(name)
-        state = "pending" if is_pending else "unknown" if not entry[2] else "synced" if seal is None else "committed"
+        document = self.found(name)
+        state = "pending" if self.is_pending(name) else "unknown" if not entry[2] else "synced" if seal is None else "committed"
         body = {"exists": document is not None, "name": name, "state": state}
         if document and document[0]:
             body["fields"] = printed_fields(document[0])

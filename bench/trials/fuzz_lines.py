@@ -4,10 +4,12 @@
     bench/trials/fuzz_lines.py [--program P] [--runs N] [--lines N] [--journals N] [--minutes M] [--seed S]
 
 Lines are built from those of the examples: members left out, doubled, renamed or of another type, values nested deeper,
-bytes broken, lines too long, random bytes. Each run of N lines must end with status 0 and have one answer of JSON for each
-input line: `ok` with the numbers that are due, `document`, or a refusal of a known number with the line's own number; and behind an
-`ok` the snapshots of listeners that are there, ascending, each with something new and the changes that lead to it. The journal must
-then have one record for each batch and each target. Behind each run come N pairs of damaged journal files, at which the status must
+bytes broken, lines too long, random bytes. Behind each stands a get of a document of its own, by which it is known what was printed
+for the line. Each run of N lines must end with status 0 and have at most one answer of JSON for each line: `ok`, `result` or `rejected`
+with the numbers that are due, `document`, or a refusal of a known number with the line's own number; behind one that commits
+the snapshots of listeners that are there, ascending, each with something new and the changes that lead to it; then requests, with no more
+than ten batches outstanding. A line without an answer may come on an open stream alone. The journal must
+then have one record for each commit that was told. Behind each run come N pairs of damaged journal files, at which the status must
 be 0, 4 or 7. With --minutes the runs go on for that long.
 """
 import argparse
@@ -22,15 +24,16 @@ import time
 
 sys.dont_write_bytecode = True
 sys.path.insert(0, os.path.dirname(os.path.dirname(os.path.abspath(__file__))))
-from client import ROOT, find_program, get_line, memory_folder, run_lines  # noqa: E402
+from client import NAME_FRONT, ROOT, find_program, get_line, memory_folder, run_lines  # noqa: E402
 from readers.journal_reader import get_files, put_files, random_pair, read_pair  # noqa: E402
 from readers.queries import changes_between  # noqa: E402
+from readers.write_stream import MOST_OUTSTANDING  # noqa: E402
 
 LONGEST = 4194304
 LAST_LISTENER = 2**32 - 1
 CAUSES = {1: ("BadLine", {"member": str}), 2: ("BadName", {"fault": str, "name": str}), 3: ("Unsupported", {"member": str}), 4: ("TooDeep", {}),
           5: ("BadWrites", {"count": int}), 6: ("BadQuery", {"fault": int}), 7: ("ListenerTaken", {"id": int}), 8: ("NoListener", {"id": int}),
-          11: ("LineTooLong", {})}
+          9: ("StreamState", {"open": bool, "stream": str}), 10: ("BadMessage", {"member": str, "stream": str}), 11: ("LineTooLong", {})}
 FAULTS = {"WrongRoot", "BadSegment", "OddLength", "BadPath", "ReservedField", 1, 2, 3, 4, 5, 6}
 
 
@@ -89,7 +92,7 @@ def odd_value(chance):
              front + "/rooms/__a__", front + "/rooms/..", front + "/rooms/" + "x" * 20, front + "/rooms/" + "x" * 21,
              front + "/rooms/\u00e9", front.replace("demo", "other") + "/rooms/a", front + "/r%20/a"]
     words = ["AND", "OR", "EQUAL", "NOT_EQUAL", "LESS_THAN", "GREATER_THAN_OR_EQUAL", "IN", "NOT_IN", "ARRAY_CONTAINS", "ARRAY_CONTAINS_ANY", "IS_NULL",
-             "IS_NOT_NULL", "IS_NAN", "DESCENDING", "DIRECTION_UNSPECIFIED", "__name__", 2, 3, 2**31 - 1, 2**31, 2**32 - 1, 2**32]
+             "IS_NOT_NULL", "IS_NAN", "DESCENDING", "DIRECTION_UNSPECIFIED", "__name__", "write", "watch", "online", 16, 17, 7, 2, 3, 2**31 - 1, 2**31, 2**32 - 1, 2**32]
     leaf = Members([(chance.choice(["integerValue", "doubleValue", "bytesValue", "referenceValue", "timestampValue"]),
                      chance.choice(numbers + times + names + ["+w==", "-w", "+x", "AA=", "A"]))])
     for _ in range(chance.choice([0, 1, 2, 19, 20, 21])):
@@ -107,7 +110,8 @@ def odd_name(chance):
                           "fieldFilter", "unaryFilter", "filters", "op", "field", "value", "orderBy", "direction", "startAt", "endAt", "before", "limit",
                           "select", "offset", "findNearest", "updateMask", "fieldPaths", "updateTransforms", "fieldPath", "increment", "maximum", "appendMissingElements", "removeAllFromArray",
                           "setToServerValue", "currentDocument", "exists", "updateTime", "transform", "integerValue", "stringValue", "bytesValue", "arrayValue", "mapValue",
-                          "values", "__type__", "doubleValue", "nullValue", "null", "__a__", "\u00e9", "x" * 20, "x" * 21, "1a", "a b", "\u0000"])
+                          "values", "__type__", "open", "close", "stream", "status", "code", "message", "written", "streamToken", "writeResults",
+                          "transformResults", "commitTime", "streamId", "watch", "timer", "doubleValue", "nullValue", "null", "__a__", "\u00e9", "x" * 20, "x" * 21, "1a", "a b", "\u0000"])
 
 
 def damage(chance, tree):
@@ -205,25 +209,34 @@ def items_of(text):
     return lines[:-1] if lines[-1] == b"" else lines
 
 
+MARK = "none/m"  # no other line names such a document
+
+
+def mark_line(number):
+    return get_line(MARK + str(number))
+
+
 def groups_of(output):
-    """The printed lines, those of one input line together: its answer, and the snapshots behind it."""
-    groups = []
+    """The printed lines, those of one input line together: they end where the document behind it is printed."""
+    groups, front = [[]], ('{"document":{"exists":false,"name":"%s%s' % (NAME_FRONT, MARK)).encode()
     for line in items_of(output):
-        if line.startswith(b'{"snapshot"') and groups:
-            groups[-1].append(line)
+        if line.startswith(front):
+            groups.append([])
         else:
-            groups.append([line])
+            groups[-1].append(line)
     return groups
 
 
 class Told:
-    """What the printed lines of a run have told so far: batches, targets, and the documents that each listener shows."""
+    """What the printed lines of a run have told so far: commits, the documents that each listener shows, and how the stream of writes
+    stands: whether it is open, None where that isn't known, and how many batches are outstanding at most."""
 
     def __init__(self):
-        self.batches, self.targets, self.listeners = 0, 0, {}
+        self.batches, self.targets, self.settled, self.listeners = 0, 0, 0, {}
+        self.is_open, self.outstanding = False, 0
 
     def number(self):
-        return self.batches + self.targets
+        return self.batches + self.targets + self.settled
 
     def is_due(self, body):
         """Whether an `ok` is one that may come; it is counted."""
@@ -237,6 +250,38 @@ class Told:
         is_free = listener not in self.listeners and 0 <= listener <= LAST_LISTENER
         self.listeners[listener] = []
         return is_free and body["targetId"] in range(2, 2 * self.targets + 1, 2) and set(body) == {"commit", "id", "targetId"} and body["commit"] == self.number()
+
+    def is_settling(self, kind, body):
+        """Whether a `result` or a `rejected` is one that may come; it is counted."""
+        self.settled += 1
+        is_known = self.is_open is not False and self.outstanding > 0 and self.settled <= self.batches
+        self.is_open, self.outstanding = kind == "result", self.outstanding - 1 if kind == "result" else 0
+        rest = "commitTime" if kind == "result" else "status"
+        return is_known and set(body) == {"batch", "commit", rest} and (body["batch"], body["commit"]) == (self.settled, self.number())
+
+    def request_fault(self, body):
+        """What is wrong with a request, or None; it is counted."""
+        if body == {"database": NAME_FRONT[:-len("/documents/")]}:
+            self.is_open, was_open = True, self.is_open
+            self.outstanding = 0
+            return "the stream was open" if was_open else None
+        self.outstanding += 1
+        if set(body) - {"streamToken"} != {"writes"} or not 1 <= len(body["writes"]) <= 500 or not self.is_open and self.is_open is not None:
+            return "another request is due"
+        return None if self.outstanding <= min(MOST_OUTSTANDING, self.batches - self.settled) else "more batches are outstanding than may be"
+
+    def refuse(self, body):
+        """What a refusal tells of the stream; whether it may come."""
+        if body["number"] not in (9, 10):
+            return True
+        may_come = self.is_open in (None, body.get("open", True))
+        self.is_open = body.get("open", False)
+        return may_come and body["stream"] == "write"
+
+    def is_silent(self):
+        """Whether a line may print nothing: it was then a handshake or a closing."""
+        was_open, self.is_open = self.is_open, None
+        return was_open is not False
 
     def snapshot_fault(self, body):
         """What is wrong with a snapshot, or None; what it shows is kept."""
@@ -265,45 +310,57 @@ def answer_fault(number, line, answer, told):
         return "the line has %d bytes" % len(line)
     if kind == "ok":
         return None if told.is_due(body) else "other numbers are due"
+    if kind in ("result", "rejected"):
+        return None if told.is_settling(kind, body) else "another one is due"
     if kind == "document":
-        return None if {"exists", "name", "state"} <= set(body) <= {"exists", "fields", "name", "state"} else "other members are due"
-    return refusal_fault(number, body) if kind == "refused" else "an answer is due"
+        return None if {"exists", "name", "state"} <= set(body) <= {"exists", "fields", "name", "state", "updateTime"} else "other members are due"
+    if kind != "refused":
+        return "an answer is due"
+    return refusal_fault(number, body) or (None if told.refuse(body) else "the stream is told otherwise")
 
 
 def fault_of(number, line, group, told):
     """What is wrong with what is printed for a line, or None."""
     try:
-        answer, *snapshots = map(json.loads, group)
-        wrong = answer_fault(number, line, answer, told)
-        bodies = [snapshot["snapshot"] for snapshot in snapshots]
+        printed = list(map(json.loads, group))
+        requests = [each["send"]["write"] for each in printed if "send" in each]
+        bodies = [each["snapshot"] for each in printed if "snapshot" in each]
+        answers = [each for each in printed if not {"send", "snapshot"} & set(each)]
         ids = [body["id"] for body in bodies]
+        if not printed and not told.is_silent():
+            return "an answer is due"
+        wrong = next(filter(None, (answer_fault(number, line, answer, told) for answer in answers)), None)
     except (ValueError, KeyError, TypeError, AttributeError):
         return "it isn't of a known form"
-    if wrong or ids != sorted(set(ids)) or ids and "ok" not in answer:
-        return wrong or "other snapshots are due"
-    return next(filter(None, map(told.snapshot_fault, bodies)), None)
+    if wrong or len(answers) > 1 or printed[:len(answers)] != answers or any("send" in each for each in printed[:len(answers) + len(bodies)]):
+        return wrong or "other lines are due, or in another order"
+    if ids != sorted(set(ids)) or ids and not {"ok", "result", "rejected"} & set(printed[0]):
+        return "other snapshots are due"
+    return next(filter(None, [*map(told.snapshot_fault, bodies), *map(told.request_fault, requests)]), None)
 
 
 def try_lines(program, store, text, counts):
     """Feeds one run; says what is wrong, or None."""
+    given = items_of(text)
+    marked = [piece for number, line in enumerate(given) for piece in (line, b"\n", mark_line(number))][:-1 if text.endswith(b"\n") else -2]
     try:
-        status, output = run_lines(program, store, [text], seconds=120)
+        status, output = run_lines(program, store, marked, seconds=120)
     except subprocess.TimeoutExpired:
         return "no end within 120 seconds"
-    given, groups, told = items_of(text), groups_of(output), Told()
-    for number, (line, group) in enumerate(zip(given, groups), 1):
-        wrong = fault_of(number, line, group, told)
+    groups, told = groups_of(output), Told()
+    for number, (line, group) in enumerate(zip(given, groups)):
+        wrong = fault_of(2 * number + 1, line, group, told)
         if wrong:
-            return "line %d, %r: the answer %r: %s" % (number, line[:300], [printed[:300] for printed in group], wrong)
+            return "line %d, %r: %r is printed: %s" % (number + 1, line[:300], [printed[:300] for printed in group], wrong)
         for printed in group:
             kind = next(iter(json.loads(printed)))
             counts[kind] = counts.get(kind, 0) + 1
     if status != 0 or len(groups) != len(given):
         where = given[len(groups)][:300] if len(groups) < len(given) else b""
-        return "status %d, and %d answers to %d lines; the next line is %r" % (status, len(groups), len(given), where)
+        return "status %d, and answers to %d of %d lines; the next line is %r" % (status, len(groups), len(given), where)
     found = read_pair(get_files(store))
     if found[0] != "counts" or len(found[3]) != told.number():
-        return "%d commits were answered, and the journal is %s" % (told.number(), found[:3])
+        return "%d commits were told, and the journal is %s" % (told.number(), found[:3])
     return None
 
 
