@@ -1,5 +1,5 @@
 -- What one line does to the files, call by call.
-use Rattle.std.proofs.Common.{◌≡◌, ℕ, ◌⊎◌, inl, inr, Bool, IsTrue, List, ◌∷◌, ◌++◌, Option, Some, None, option_map, refl, sym, ap, subst, ◌∙◌}
+use Rattle.std.proofs.Common.{◌≡◌, ℕ, ◌⊎◌, inl, inr, Bool, IsTrue, List, ◌++◌, Option, Some, None, option_map, refl, sym, ap, subst, ◌∙◌}
 use Rattle.host_api.specs.Host.{Files, View, IsPart, Emits}
 use Rattle.host_api.proofs.Spans.{spans_then, spans_weaker}
 use Rattle.document_keys.specs.Names.{Root}
@@ -20,7 +20,7 @@ use Rattle.sync_engine.specs.declared.out.Outcome.{Outcome}
 use Rattle.client_run.specs.Printed.{printed}
 use Rattle.sync_engine.proofs.Committed.{stored_finds}
 use Rattle.client_run.specs.Taken.{IsStanding, IsTaken, MovesLine}
-use Rattle.client_run.specs.Turn.{LineTurn, IsLineTurn, CommitsNext, and_heard, entry_of, of_event, refusal_in, unheard, unread_turn}
+use Rattle.client_run.specs.Turn.{LineTurn, IsLineTurn, CommitsNext, and_heard, of_event, refusal_in, unheard, unread_turn}
 use Rattle.client_run.specs.Turned.{Coming, FindsCommit, HasTurn, InTurn, IsHandled, Turned, WrotePart, coming, text_of_turn}
 use Rattle.client_run.specs.declared.taken.Taken.{Taken}
 use Rattle.client_run.specs.declared.taken.Taken.TheVariants.{Unread as NoEvent, Heard}

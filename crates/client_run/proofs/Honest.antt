@@ -31,7 +31,7 @@ use Rattle.sync_engine.specs.Answers.{Answers, Begins, are_left, ends, enqueued,
 use Rattle.sync_engine.specs.Turns.{after, answered, commits, refused}
 use Rattle.sync_engine.specs.Lines.{Line, Told, wrote, listening, unlistened, document, result, rejected, send}
 use Rattle.sync_engine.specs.Past.{Turn, Past, asked, listener, raised_in, steps_by, steps_of, told}
-use Rattle.sync_engine.specs.Writing.{IsWritten, WrittenTurn, acknowledges, bad_turn, closed_turn, closes, fails, first_batch, is_open, member_name, opened_turn, rejects, request_of, requests, settles, shakes, to_send}
+use Rattle.sync_engine.specs.Writing.{WrittenTurn, acknowledges, bad_turn, closed_turn, closes, fails, first_batch, is_open, member_name, opened_turn, rejects, request_of, requests, settles, shakes, to_send}
 use Rattle.mutations.specs.declared.batch.Batch.{Batch}
 use Rattle.mutations.specs.declared.results.WriteRequest.TheVariants.{Batch as a_batch, Handshake as the_first}
 use Rattle.mutations.specs.declared.results.WriteResponse.{WriteResponse}

@@ -1,5 +1,5 @@
 -- what a run heard came one after another
-use Rattle.std.proofs.Common.{◌≡◌, Bool, true, false, List, [], ◌∷◌, Option, Some, None, option_map, if◌then◌else◌, refl, sym, ap, subst, ◌∙◌}
+use Rattle.std.proofs.Common.{◌≡◌, Bool, true, false, [], ◌∷◌, Option, Some, None, option_map, if◌then◌else◌, refl, sym, ap, subst, ◌∙◌}
 use Rattle.std.proofs.lemmas.Bool.{true≢false}
 use Rattle.document_keys.specs.Names.{Root}
 use Rattle.client_events.specs.declared.event.Event.{Event}
@@ -10,12 +10,12 @@ use Rattle.record_codec.specs.declared.commit.Commit.{Commit}
 use Rattle.sync_engine.specs.Order.{AreHeard}
 use Rattle.sync_engine.specs.Order as order
 use Rattle.sync_engine.specs.Past.{Past, Turn}
-use Rattle.sync_engine.specs.Turn.{IsTurn, heard_then, is_heard}
+use Rattle.sync_engine.specs.Turn.{IsTurn, is_heard}
 use Rattle.sync_engine.specs.Turns.{after}
 use Rattle.sync_engine.specs.declared.refusal.Refusal.{Refusal}
 use Rattle.sync_engine.proofs.Ordered.{writes_go_in_order}
 use Rattle.sync_engine.proofs.Requests.{refused_unmade}
-use Rattle.client_run.specs.History.{AreTurns, Handled, History, heard, now}
+use Rattle.client_run.specs.History.{AreTurns, History, heard, now}
 use Rattle.client_run.specs.Laws.{RunsWriteInOrder}
 use Rattle.client_run.specs.Turn.{IsLineTurn, LineTurn, and_heard, entry_of, of_event, refusal_in, unheard}
 use Rattle.client_run.proofs.Handling.{refusal_back}
