@@ -1,6 +1,6 @@
 -- a pipeline stands for some steps
-use Rattle.std.proofs.Common.{◌≡◌, ℕ, suc, zero, Bool, true, false, List, [], ◌∷◌, Option, Some, None, refl, ap, unwrap_or, ◌+◌, arith}
-use Rattle.write_pipeline.specs.Order.{Steps, is_ready, kept, latest_token, opened, or_else, outstanding, sent, shaken}
+use Rattle.std.proofs.Common.{◌≡◌, ℕ, suc, zero, Bool, true, false, List, [], ◌∷◌, refl, unwrap_or, arith}
+use Rattle.write_pipeline.specs.Order.{Steps, is_ready, kept, latest_token, opened, outstanding, sent, shaken}
 use Rattle.write_pipeline.specs.Standing.{StandsFor}
 use Rattle.write_pipeline.specs.declared.pipeline.WritePipeline.{WritePipeline}
 
