@@ -1,5 +1,6 @@
 -- What one line does to the files, call by call.
-use Rattle.std.proofs.Common.{◌≡◌, ℕ, ◌⊎◌, inl, inr, Bool, IsTrue, List, ◌++◌, Option, Some, None, option_map, refl, sym, ap, subst, ◌∙◌}
+use Rattle.std.proofs.Common.{◌≡◌, ◌≢◌, ◌==◌, ℕ, ◌⊎◌, inl, inr, Bool, false, true, IsTrue, List, [], ◌∷◌, ◌++◌, length, Option, Some, None, option_map, refl, arith, append-nil, sym, ap, subst, ◌∙◌}
+use Rattle.std.proofs.lemmas.Bool.{eqb-true, true≢false}
 use Rattle.host_api.specs.Host.{Files, View, IsPart, Emits}
 use Rattle.host_api.proofs.Spans.{spans_then, spans_weaker}
 use Rattle.document_keys.specs.Names.{Root}
@@ -109,11 +110,24 @@ handled_as {old = old} {shown = shown} root number tells_out same it written sta
   out = λ told. out told ∙ ap (λ (o : List ℕ). o ++ shown) stays ∙ ap (λ (t : List ℕ). old ++ t) written;
 }
 
-pub wrote_part : {s : State} {past : Past} {reading : Reading} {taken : Taken} {client : Kept} {old mid new shown : List ℕ} (root : Root) (number : ℕ) → client.root ≡ root → (it : IsTaken s past reading taken client) → shown ≡ printed root number it.turn → mid ≡ old → IsPart shown mid new
+-- whether a text is empty
+pub is_nothing : (text : List ℕ) (b : Bool) → b ≡ (length text == 0) → b ≡ true → text ≡ []
+is_nothing [] b is empty = refl
+is_nothing (x ∷ text) b is empty = let none = eqb-true (length (x ∷ text)) 0 (sym is ∙ empty) in absurd (omega (arith, none))
+
+pub is_something : (text : List ℕ) (b : Bool) → b ≡ (length text == 0) → b ≡ false → text ≢ []
+is_something text b is some none = true≢false (sym (is ∙ ap (λ (t : List ℕ). length t == 0) none) ∙ some)
+
+-- no lines go out
+pub nothing_more : {mid shown : List ℕ} → shown ≡ [] → mid ≡ mid ++ shown
+nothing_more {mid} {shown} none = sym (ap (λ (t : List ℕ). mid ++ t) none ∙ append-nil mid)
+
+pub wrote_part : {s : State} {past : Past} {reading : Reading} {taken : Taken} {client : Kept} {old mid new shown : List ℕ} (root : Root) (number : ℕ) → client.root ≡ root → (it : IsTaken s past reading taken client) → shown ≡ printed root number it.turn → shown ≢ [] → mid ≡ old → IsPart shown mid new
     → WrotePart (coming root s past reading number) old new
-wrote_part {old = old} {new = new} {shown = shown} root number same it written stays part = record {
+wrote_part {old = old} {new = new} {shown = shown} root number same it written some stays part = record {
   turn = it.turn;
   is_turn = taken_turn root number same it;
+  some = λ none. some (written ∙ none);
   part = subst (λ (t : List ℕ). IsPart t old new) written (subst (λ (o : List ℕ). IsPart shown o new) stays part);
 }
 

@@ -1,5 +1,5 @@
 -- The lines that were handled so far, and what they wrote and kept.
-use Rattle.std.proofs.Common.{◌≡◌, ◌⊎◌, inl, inr, ⊎_elim, ℕ, ◌+◌, ◌<◌, ◌≤◌, ◌^◌, suc, IsTrue, List, [], ◌∷◌, ◌++◌, length, take, drop, get_or, Ok, Err, refl, sym, ap, subst, ◌∙◌, arith}
+use Rattle.std.proofs.Common.{◌≡◌, ◌≢◌, ◌⊎◌, inl, inr, ⊎_elim, ℕ, ◌+◌, ◌<◌, ◌≤◌, ◌^◌, suc, IsTrue, List, [], ◌∷◌, ◌++◌, length, take, drop, get_or, Ok, Err, refl, sym, ap, subst, ◌∙◌, arith}
 use Rattle.std.specs.List.{AllZip}
 use Rattle.std.proofs.lemmas.List.{take_more, length-append, length-drop, append_assoc, append-nil}
 use Rattle.std.proofs.Math.Seq.{drop-cons}
@@ -340,6 +340,7 @@ stops_within {call} {done = done} {new = new} fault.SinkFault left reading it on
           line = line_of call it.history reading stopped_part.turn;
           next = record { state = refl; turn = stopped_part.is_turn };
           read = nexts.read;
+          some = subst (λ (n : ℕ). printed call.root n stopped_part.turn ≢ []) long stopped_part.some;
           part = subst (λ (n : ℕ). IsPart (printed call.root n stopped_part.turn) (out_after call it.history) new.out) long
               (subst (λ (o : List ℕ). IsPart (printed call.root (done + 1) stopped_part.turn) o new.out) (it.wrote told) stopped_part.part);
         };

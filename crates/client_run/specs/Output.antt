@@ -1,6 +1,6 @@
 -- Clause *Output* of a run over the files of a store: which items of the source it handled and
 -- took, and what it wrote.
-use Rattle.std.specs.Prelude.{◌≡◌, ◌⊎◌, ℕ, ◌+◌, ◌<◌, List, [], ◌∷◌, ◌++◌, length, drop, IsTrue, Bool}
+use Rattle.std.specs.Prelude.{◌≡◌, ◌≢◌, ◌⊎◌, ℕ, ◌+◌, ◌<◌, List, [], ◌∷◌, ◌++◌, length, drop, IsTrue, Bool}
 use Rattle.host_api.specs.Host.{IsPart}
 use Rattle.host_api.specs.Items.{Item, split, IsSuffix}
 use Rattle.document_keys.specs.Names.{Root}
@@ -76,11 +76,12 @@ WroteHandled call history out = IsTrue call.tells_out → out ≡ out_after call
 abbrev pub next_text : Call → History → Handled → List ℕ
 next_text call history line = printed call.root (length history + 1) line.turn
 
--- a part of the next item's lines besides
+-- a part of the next item's lines besides, which has some: where an item has none, nothing is written for it
 pub record HasPart (call : Call) (history : History) (out : List ℕ) : Type 0 where
   pub line : Handled
   pub next : IsNext call.root call.first history line
   pub read : AreRead call.root call.items (readings_of (line ∷ history))
+  pub some : next_text call history line ≢ []
   pub part : IsPart (next_text call history line) (out_after call history) out
 
 abbrev pub WrotePart : Call → History → List ℕ → Type 0

@@ -1,5 +1,5 @@
 -- What a call that handles one line does to the client, the output and the files.
-use Rattle.std.specs.Prelude.{◌≡◌, ◌⊎◌, ℕ, List, ◌++◌, IsTrue, Bool, Option, Result, IsErrOf}
+use Rattle.std.specs.Prelude.{◌≡◌, ◌≢◌, ◌⊎◌, ℕ, List, [], ◌++◌, IsTrue, Bool, Option, Result, IsErrOf}
 use Rattle.host_api.specs.Counts.{RisesAt}
 use Rattle.host_api.specs.Host.{Files, View, IsPart, Spans}
 use Rattle.document_keys.specs.Names.{Root}
@@ -68,13 +68,14 @@ pub record Turned (line : Coming) (old new : View) : Type 0 where
   pub crash : (c : Files) → new.may_leave c → FindsState c line.state ⊎ FindsCommit line c
   pub time : Spans old new (InTurn line old.out)
 
--- the output has a part of the lines of the turn
+-- the output has a part of the lines of the turn, which has some
 pub record WrotePart (line : Coming) (old new : List ℕ) : Type 0 where
   pub turn : LineTurn
   pub is_turn : HasTurn line turn
+  pub some : text_of_turn line turn ≢ []
   pub part : IsPart (text_of_turn line turn) old new
 
--- At a sink fault a part of the lines went out; at any other fault none.
+-- At a sink fault there were lines, and a part of them went out; at any other fault none.
 abbrev pub Stopped : Coming → TurnFault → List ℕ → List ℕ → Type 0
 Stopped line fault.SinkFault old new = WrotePart line old new
 Stopped line _ old new = new ≡ old

@@ -38,7 +38,8 @@ fn show_first(store: &LocalStore)
     }
 }
 
-/// Handles one line: what it commits is on the disk before its lines go out, in one call of `emit`. `number` is that of the
+/// Handles one line: what it commits is on the disk before its lines go out, in one call of `emit`, or in none where there
+/// are no lines. `number` is that of the
 /// line in the run, from 1.
 pub fn handle<H: Host>(
     alloc: Global,
@@ -73,6 +74,9 @@ pub fn handle<H: Host>(
     show_first(client.store());
     let taken = take(alloc, host, client, reading)?;
     let text = print_taken(alloc, client, number, &taken)?;
+    if text.as_str().is_empty() {
+        return Ok(());
+    }
     host.emit(text.as_str().as_bytes())?;
     Ok(())
 }
