@@ -5,13 +5,13 @@
     bench/readers/line_reader.py answer [DATABASE] < LINES
 
 `compare` feeds the program the damaged lines of fuzz_lines.py, lines that are built with several faults at once (built_lines.py), and
-openings, closings and messages of the stream of writes, many of which fit what is outstanding by then (built_messages.py). What it prints
-must be, byte for byte, what this reader prints: the numbers of an `ok`, the printed document with the pending writes laid over it, the
-number, the member and the name of a refusal, the snapshots that a line raises, and the requests that it sends. A store has two runs,
-one behind the other; behind each its journal must have the targets of all listeners, with their whole lists of orders, the pending
-batches, and give the same documents. What writes make of a document is worked out here by what stands at each path, and not by setting
-one path after another; what a query answers, by who comes before each document. `answer` prints what this reader prints for lines over
-an empty store. The JSON itself is read by Python's json.
+openings, closings and messages of both streams, many of which fit what is outstanding or asked for by then (built_messages.py). What it
+prints must be, byte for byte, what this reader prints: the numbers of an `ok`, the printed document with the pending writes laid over it,
+the number, the member and the name of a refusal, the snapshots that a line raises, and the requests that it sends. A store has two runs,
+one behind the other; behind each its journal must have the targets of all listeners, with their whole lists of orders and their rows,
+the pending batches, and give the same documents. What writes make of a document is worked out here by what stands at each path, and not
+by setting one path after another; what a query answers, by who comes before each document; what a target was told, by the last message
+that names each document. `answer` prints what this reader prints for lines over an empty store. The JSON itself is read by Python's json.
 """
 import argparse
 import json
@@ -32,10 +32,11 @@ from readers.faults import (DEEP, DEEPEST_VALUE, NAME, ORDER, SHAPE, UNSUPPORTED
                             name_faults, object_faults, transforms_faults)
 from readers.journal_reader import get_files, read_store  # noqa: E402
 from readers.queries import changes_between, read_target, target_faults, whole_faults  # noqa: E402
-from readers.store import Store  # noqa: E402
+from readers.store import Store, moment  # noqa: E402
+from readers.watch_stream import DocumentMessage, Limbo, TargetMessage, WatchStream, kind_of, number_in, version_of, watch_faults  # noqa: E402
 from readers.write_stream import Message, WriteStream, close_faults, member_of, message_faults, open_faults  # noqa: E402
 from trials.built_lines import DATABASE, built_line  # noqa: E402
-from trials.built_messages import built_message  # noqa: E402
+from trials.built_messages import built_message, built_watch_message  # noqa: E402
 from trials.fuzz_lines import items_of, keep, random_line, sample_lines  # noqa: E402
 
 sys.set_int_max_str_digits(0)
@@ -125,16 +126,22 @@ def least(faults):
     return min(faults, key=lambda fault: ORDER.index(fault[0]), default=None)
 
 
-class Listener:
-    def __init__(self, target):
-        self.target, self.raised = target, None
+UNKNOWN, ONLINE, OFFLINE = "unknown", "online", "offline"
 
-    def snapshot(self, shown):
-        """What has changed where these documents are shown, and the documents; None where no snapshot is raised."""
-        if shown == (self.raised or []):
+
+class Listener:
+    """A listener to the target of that number; what it has raised last, or None."""
+
+    def __init__(self, target, number):
+        self.target, self.number, self.raised = target, number, None
+
+    def snapshot(self, shown, from_cache, is_due):
+        """What has changed where these documents are shown, and the documents; None where no snapshot is raised. The first one is raised
+        where it is due."""
+        if self.raised == (shown, from_cache) or self.raised is None and not is_due:
             return None
-        changes, self.raised = changes_between(self.raised or [], shown), shown
-        return {"changes": changes, "documents": shown}
+        changes, self.raised = changes_between(self.raised[0] if self.raised else [], shown), (shown, from_cache)
+        return {"changes": changes, "documents": shown, "fromCache": from_cache}
 
 
 class Reader:
@@ -146,7 +153,8 @@ class Reader:
 
     def begin(self):
         """A run over the store begins."""
-        self.listeners, self.stream = {}, WriteStream()
+        self.listeners, self.stream, self.watched, self.limbo = {}, WriteStream(), WatchStream(), Limbo(self.front)
+        self.online, self.current, self.reset = UNKNOWN, {}, set()  # `current`: the keys of each current target; `reset`: the ids reset by a line
 
     def commit(self, kind, *members):
         """Makes the commit; gives its number."""
@@ -201,7 +209,7 @@ class Reader:
             return
         name, inner = members[0]
         readers = {"write": self.write_line_faults, "get": self.get_line_faults, "listen": self.listen_line_faults, "unlisten": self.unlisten_line_faults,
-                   "open": open_faults, "close": close_faults, "timer": timer_faults, "watch": watch_faults, "written": lambda inner: ()}
+                   "open": open_faults, "close": close_faults, "timer": timer_faults, "watch": lambda inner: (), "written": lambda inner: ()}
         yield from readers[name](inner) if name in readers else [(SHAPE, "")]
 
     def write(self, line):
@@ -224,7 +232,7 @@ class Reader:
         place = targets.index(target.spelled()) if target.spelled() in targets else len(targets)
         if place == len(targets):
             self.commit("Allocate", 2 * place + 2, target.spelled())
-        self.listeners[number] = Listener(target)
+        self.listeners[number] = Listener(target, 2 * place + 2)
         return [{"ok": {"commit": self.commits, "id": number, "targetId": 2 * place + 2}}]
 
     def unlisten(self, line):
@@ -232,18 +240,23 @@ class Reader:
             raise Refused(NO_LISTENER, id_of(line))
         return [{"ok": {"commit": self.commits, "id": id_of(line)}}]
 
-    def expect(self, is_open):
-        if self.stream.is_open != is_open:
-            raise Refused(STATE, self.stream.is_open, "write")
+    def expect(self, name, is_open):
+        """The stream of that name, which must be open, or closed."""
+        stream = {"watch": self.watched, "write": self.stream}[name]
+        if stream.is_open != is_open:
+            raise Refused(STATE, stream.is_open, name)
+        return stream
 
     def open(self, line):
-        self.expect(False)
-        self.stream.open()
-        return [{"send": {"write": {"database": self.database}}}]
+        self.expect(line["stream"], False).open()
+        return [{"send": {"write": {"database": self.database}}}] if line["stream"] == "write" else []
 
     def close(self, line):
-        self.expect(True)
+        self.expect(line["stream"], True)
         status = printed_status(line.get("status") or {})
+        if line["stream"] == "watch":
+            self.close_watch()
+            return []
         is_rejecting = self.stream.rejects(status.get("code", 0))
         self.stream.close()
         if not is_rejecting:
@@ -251,22 +264,34 @@ class Reader:
         batch = self.store.pending[0][0]
         return [{"rejected": {"batch": batch, "commit": self.commit("Reject", batch), "status": status}}]
 
-    def fail(self, member):
-        """A message that doesn't fit closes the stream."""
-        self.stream.close()
-        raise Refused(MESSAGE, member, "write")
+    def close_watch(self):
+        self.watched.close()
+        self.online = UNKNOWN if not self.listeners or self.online == ONLINE else OFFLINE
+
+    def timer(self, line):
+        if self.online == UNKNOWN:
+            self.online = OFFLINE
+        return []
+
+    def fail(self, name, member):
+        """A message that doesn't fit closes its stream."""
+        if name == "watch":
+            self.close_watch()
+        else:
+            self.stream.close()
+        raise Refused(MESSAGE, member, name)
 
     def written(self, inner):
-        self.expect(True)
+        self.expect("write", True)
         fault = least(message_faults(inner))
         if fault:
-            self.fail(member_of(fault))
+            self.fail("write", member_of(fault))
         message = Message(inner)
         if not self.stream.is_ready:
             return self.shake_hands(message)
         misfit = message.misfit(self.store.pending[0][2] if self.stream.outstanding else None)
         if misfit:
-            self.fail(misfit)
+            self.fail("write", misfit)
         batch = self.store.pending[0][0]
         number = self.commit("Acknowledge", batch, message.commit, message.results)
         self.stream.outstanding -= 1
@@ -275,13 +300,94 @@ class Reader:
 
     def shake_hands(self, message):
         if message.results:
-            self.fail("writeResults")
+            self.fail("write", "writeResults")
         self.stream.is_ready = True
         self.stream.take_token(message.token)
         return []
 
+    def watch(self, inner):
+        self.expect("watch", True)
+        fault = least(watch_faults(inner, self.front))
+        if fault:
+            self.fail("watch", member_of(fault))
+        kind = kind_of(inner)
+        message = TargetMessage(inner[kind]) if kind == "targetChange" else None
+        misfit = message and self.watched.misfit(message)
+        if misfit:
+            self.fail("watch", misfit)
+        self.online = ONLINE
+        if message:
+            return self.take_change(message)
+        if kind == "filter":
+            self.count(number_in(inner[kind], "targetId"), number_in(inner[kind], "count"))
+        else:
+            self.watched.document(DocumentMessage(kind, inner[kind]))
+        return []
+
+    def take_change(self, message):
+        ended = self.watched.change(message)
+        if message.is_point():
+            self.point(message.at)
+        return self.end(ended, message.cause) if ended else []
+
+    def count(self, number, count):
+        """A filter says how many documents a target has."""
+        found = self.watched.counting().get(number)
+        if found is not None and len(found.told()) != count:
+            self.blank([], {number})
+
+    def blank(self, names, numbers, ended=()):
+        """These targets are reset, those have ended, and the entries of these names go: their rows become blank, by one commit at most."""
+        rows = sorted(number for number in {*numbers, *ended} if number % 2 == 0)
+        if names:
+            self.commit("Drop", names, rows)
+        elif any(self.store.row_of(number) for number in rows):
+            self.commit("Reset", rows)
+        self.current = {number: keys for number, keys in self.current.items() if number not in numbers}
+        self.reset |= set(numbers)
+
+    def holders(self, names):
+        """The targets that hold one of these names: in their rows, as they were told, or as they are current."""
+        rows = {2 * place + 2: row["keys"] for place, (_, row) in enumerate(self.store.rows) if row}
+        told = {number: found.told() for number, found in self.watched.counting().items()}
+        return {number for held in (rows, told, self.current) for number, keys in held.items() if set(keys) & set(names)}
+
+    def end(self, ended, cause):
+        """The end of these targets; the entry of a document in limbo goes with its listen."""
+        names = [name for number, name in self.limbo.running.items() if number in ended]
+        lines = [{"error": {"id": number, "status": printed_status(cause)}} for number in sorted(self.listeners) if self.listeners[number].number in ended]
+        self.listeners = {number: listener for number, listener in self.listeners.items() if listener.number not in ended}
+        self.blank(names, self.holders(names) - ended, ended)
+        return lines
+
+    def point(self, at):
+        """All that came before it holds as of this time; one below the last of them is passed over."""
+        if self.store.last_read is not None and moment(at) < moment(self.store.last_read):
+            self.watched.forget_tokens()
+            return
+        current = {number: found for number, found in self.watched.counting().items() if found.is_current}
+        entries = {name: entry for name, entry in self.watched.buffer.items() if self.store.gives_way(name, version_of(entry))}
+        for found in current.values():
+            name = getattr(found.target, "name", None)
+            if name is not None and name not in found.told() and self.is_older(name, entries.get(name), at):
+                entries[name] = {"missingSince": at}
+        rows = [{"id": number, "token": found.token, "keys": sorted(found.told())} for number, found in sorted(current.items())
+                if number % 2 == 0 and found.token]
+        self.commit("Point", at, entries, rows)
+        wanted = {listener.number for listener in self.listeners.values()}
+        self.current = {number: found.told() for number, found in current.items() if number in wanted}
+        self.watched.settle_point()
+
+    def is_older(self, name, entry, at):
+        """Whether what is known of that name, which is this entry where it comes with the same point, gives way to there being none."""
+        if entry is not None:
+            return "fields" in entry and moment(version_of(entry)) < moment(at)
+        known, seal = self.store.entries.get(name, ((None, None, False), None))
+        is_missing = known[0] is None and known[2] and seal is None
+        return not is_missing and self.store.gives_way(name, at)
+
     def answer(self, line):
-        """The answer to a line, as a list of at most one; it is taken, or raises Refused."""
+        """The answer to a line, as a list; it is taken, or raises Refused."""
         if len(line) > LONGEST:
             raise Refused(LENGTH)
         try:
@@ -293,25 +399,55 @@ class Reader:
             raise Refused(*fault)
         (name, inner), = given(tree)
         return {"write": self.write, "get": self.get, "listen": self.listen, "unlisten": self.unlisten, "open": self.open, "close": self.close,
-                "written": self.written}[name](inner)
+                "written": self.written, "watch": self.watch, "timer": self.timer}[name](inner)
+
+    def in_limbo(self, listener, names):
+        """The names that a listener shows without the backend's word; None where its target isn't current."""
+        keys = self.current.get(listener.number)
+        return None if keys is None else {name for name in names if name not in keys and not self.store.is_touched(name)}
 
     def snapshots(self):
-        """The snapshots that are raised now."""
+        """The snapshots that are raised now; what is in limbo gets its listens."""
+        wanted = {listener.number for listener in self.listeners.values()}
+        self.current = {number: keys for number, keys in self.current.items() if number in wanted and self.online != OFFLINE}
         documents = self.store.documents() if self.listeners else {}
+        shown = {number: listener.target.answer(documents) for number, listener in self.listeners.items()}
+        limbo = {number: self.in_limbo(self.listeners[number], names) for number, names in shown.items()}
+        self.limbo.want(set().union(*filter(None, limbo.values())))
+        at = {} if self.store.last_read is None else {"readTime": self.store.last_read}
         for number in sorted(self.listeners):
-            listener = self.listeners[number]
-            shown = [printed(self.store.shown(name)) for name in listener.target.answer(documents)]
-            found = listener.snapshot(shown)
+            listener, from_cache = self.listeners[number], limbo[number] is None or bool(limbo[number])
+            is_due = not from_cache or shown[number] or self.store.row_of(listener.number) is not None or self.online == OFFLINE
+            found = listener.snapshot([printed(self.store.shown(name)) for name in shown[number]], from_cache, is_due)
             if found is not None:
-                yield {"snapshot": {**found, "commit": self.commits, "fromCache": True, "id": number}}
+                yield {"snapshot": {**found, **at, "commit": self.commits, "id": number}}
+
+    def listen_requests(self):
+        """The requests that are sent now on the stream of listeners."""
+        if not self.watched.is_open:
+            return
+        targets = {**{listener.number: listener.target for listener in self.listeners.values()}, **self.limbo.targets()}
+        for number in sorted(self.watched.asked()):
+            if number not in targets or number in self.reset:
+                self.watched.remove(number)
+                yield {"send": {"listen": {"database": self.database, "removeTarget": number}}}
+        for number in sorted(set(targets) - self.watched.asked(), key=lambda number: (number % 2, number)):
+            row = self.store.row_of(number)
+            self.watched.add(number, targets[number], row["keys"] if row else ())
+            resume = {"expectedCount": len(row["keys"]), "resumeToken": row["token"]} if row else {}
+            yield {"send": {"listen": {"addTarget": {**targets[number].printed(), **resume, "targetId": number}, "database": self.database}}}
 
     def lines(self, number, line):
         """What is printed for a line of that number, each without its newline."""
+        self.reset = set()
         try:
-            answer = self.answer(line)
+            answer = list(map(spelled, self.answer(line)))
         except Refused as refusal:
-            return [refused(number, *refusal.args)]
-        return list(map(spelled, answer + list(self.snapshots()) + list(self.stream.requests(self.store.pending))))
+            answer = [refused(number, *refusal.args)]
+            if refusal.args[0] != MESSAGE:
+                return answer
+        raised = list(self.snapshots())
+        return answer + list(map(spelled, raised + list(self.listen_requests()) + list(self.stream.requests(self.store.pending))))
 
 
 def timer_faults(tree):
@@ -319,11 +455,6 @@ def timer_faults(tree):
         if text != "online":
             yield (SHAPE, "name")
     yield from object_faults(tree, "timer", {"name": name}, ("name",))
-    yield (UNSUPPORTED, "timer")
-
-
-def watch_faults(tree):
-    yield (UNSUPPORTED, "watch")
 
 
 def id_faults(tree):
@@ -357,22 +488,29 @@ def refused(number, cause, *besides):
 
 # ---- against the program ------------------------------------------------------------------------------------------
 
-MESSAGE_MEMBERS = ("commitTime", "name", "streamToken", "transformResults", "updateTime", "value", "writeResults", "written")
+MESSAGE_MEMBERS = ("cause", "commitTime", "count", "document", "name", "readTime", "removedTargetIds", "resumeToken", "streamToken", "targetChangeType",
+                   "targetId", "targetIds", "transformResults", "updateTime", "value", "watch", "writeResults", "written")
 
 
-def kind_of(answer):
+def what_is(answer):
     """What is counted of a printed line."""
     (name, body), = json.loads(answer).items()
     if name == "ok":
         return "ok of a write" if "batch" in body else "ok of a listen" if "targetId" in body else "ok of an unlisten"
+    if name == "send" and "listen" in body:
+        request = body["listen"]
+        kind = "remove" if "removeTarget" in request else "add, from a point" if "resumeToken" in request["addTarget"] else "add"
+        number = request.get("removeTarget") or request["addTarget"]["targetId"]
+        return "send of a%s %s" % (" limbo" if number % 2 else " target's", kind)
     if name == "send":
         return "send of a batch" if "writes" in body["write"] else "send of a handshake"
     if name == "document":
         return "document, " + body["state"]
     if name == "snapshot":
-        return "snapshot of %s" % (", ".join(sorted({change["kind"] for change in body["changes"]})) or "another order")
+        kinds = ", ".join(sorted({change["kind"] for change in body["changes"]})) or "no change"
+        return "snapshot of %s, %s" % (kinds, "from cache" if body["fromCache"] else "in step")
     if body.get("cause") == "BadMessage":
-        return "refused as BadMessage, " + (body["member"] if body["member"] in MESSAGE_MEMBERS else "another member")
+        return "refused as BadMessage of %s, %s" % (body["stream"], body["member"] if body["member"] in MESSAGE_MEMBERS else "another member")
     return name if name != "refused" else "refused as " + body["cause"] + (" %d" % body["fault"] if "fault" in body and "name" not in body else "")
 
 
@@ -381,11 +519,14 @@ def shortened(lines):
 
 
 def built_items(chance, trees, count, reader):
-    """The lines of a run, one by one; each is answered by the reader before the next is built. In some runs few are of the stream."""
-    of_stream = chance.choice([0.05, 0.2, 0.35, 0.5])
+    """The lines of a run, one by one; each is answered by the reader before the next is built. In some runs few are of a stream."""
+    of_writes, of_listeners = chance.choice([0.05, 0.2, 0.35, 0.5]), chance.choice([0.05, 0.3, 0.45])
     for _ in range(count):
-        if chance.random() < of_stream:
-            line = built_message(chance, reader.stream, reader.store.pending)
+        kind = chance.random()
+        if kind < of_writes:
+            line = built_message(chance, reader.stream, reader.store.pending, reader.store.last_read)
+        elif kind < of_writes + of_listeners:
+            line = built_watch_message(chance, reader.watched, reader.store.last_read)
         else:
             line = built_line(chance) if chance.random() < 0.6 else random_line(chance, trees)
         yield from line.split(b"\n")
@@ -398,6 +539,11 @@ def journal_fault(store, reader):
         return "the journal is no store's"
     if [row[0] for row in found.rows] != [row[0] for row in reader.store.rows]:
         return "the journal has other targets than were asked for"
+    rows = [row and {**row, "keys": sorted(key[len(front):] for key in row["keys"])} for _, row in reader.store.rows]
+    if [row and {**row, "keys": sorted(row["keys"])} for _, row in found.rows] != rows:
+        return "the journal has another row"
+    if found.last_read != reader.store.last_read:
+        return "the journal has another last read time"
     if [batch[0] for batch in found.pending] != [batch[0] for batch in reader.store.pending]:
         return "the journal has other pending batches"
     names = {front + name for name in found.names()} | reader.store.names()
@@ -425,7 +571,7 @@ def difference(due, status, came, counts):
         if found != wanted:
             return "line %d, %r: %s is printed, and %s is due" % (number, line[:600], shortened(found), shortened(wanted))
         at += len(wanted)
-        for what in map(kind_of, found):
+        for what in map(what_is, found):
             counts[what] = counts.get(what, 0) + 1
     if status != 0 or at != len(came):
         return "status %d, and %d lines are printed where %d are due" % (status, len(came), at)

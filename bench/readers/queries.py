@@ -7,7 +7,7 @@ import base64
 import operator
 
 from readers.commits import OPERATORS, TESTS, filters_in, printed_path
-from readers.effects import at_path, given, path_names, printed_value, read_whole, stored_value, stored_values
+from readers.effects import PLAIN_NAME, at_path, given, path_names, printed_value, read_whole, stored_value, stored_values
 from readers.faults import (DEEP, DEEPEST_VALUE, NAME, SHAPE, UNSUPPORTED, bad_member, in_order, is_segment, kinds_of, name_faults, object_faults,
                             path_faults, value_faults, values_faults)
 from readers.store import moment
@@ -250,6 +250,26 @@ def read_cursor(tree):
     return {"values": values, "row": list(map(place_of, values)), "before": bool(tree.get("before"))}
 
 
+def printed_names(path):
+    """The text of a path, with backticks where it must have them."""
+    return ".".join(name if PLAIN_NAME.fullmatch(name) else "`%s`" % name.replace("\\", "\\\\").replace("`", "\\`") for name in path)
+
+
+def printed_field(path):
+    return {"fieldPath": printed_names(path)}
+
+
+def printed_filter(found):
+    if "filters" in found:
+        return {"compositeFilter": {"filters": list(map(printed_filter, found["filters"])), "op": found["op"]}}
+    printed = {"field": printed_field(found["field"]), "op": found["op"]}
+    return {"fieldFilter": {**printed, "value": printed_value(found["value"])}} if "value" in found else {"unaryFilter": printed}
+
+
+def printed_cursor(cursor):
+    return {"values": list(map(printed_value, cursor["values"])), **({"before": True} if cursor["before"] else {})}
+
+
 def spelled_path(path):
     return printed_path([name.encode() for name in path])
 
@@ -277,6 +297,10 @@ class OneDocument:
     def spelled(self):
         """The target as it is read from a commit."""
         return {"document": self.name[len(self.front):]}
+
+    def printed(self):
+        """The target as a request has it."""
+        return {"documents": {"documents": [self.name]}}
 
     def answer(self, documents):
         return [self.name] if documents.get(self.name) is not None else []
@@ -313,6 +337,15 @@ class Query:
         return {"from": self.collections[0][len(self.front):], "where": self.where and spelled_filter(self.where),
                 "orderBy": [{"field": spelled_path(path), "direction": DIRECTIONS[down]} for path, down in self.orders],
                 "startAt": spelled_cursor(self.start_at), "endAt": spelled_cursor(self.end_at), "limit": self.limit}
+
+    def printed(self):
+        """The target as a request has it, with the whole list of orders."""
+        parent, _, collection = self.collections[0].rpartition("/")
+        query = {"from": [{"collectionId": collection}],
+                 "orderBy": [{"direction": DIRECTIONS[down], "field": printed_field(path)} for path, down in self.orders]}
+        parts = {"where": self.where and printed_filter(self.where), "startAt": self.start_at and printed_cursor(self.start_at),
+                 "endAt": self.end_at and printed_cursor(self.end_at), "limit": self.limit}
+        return {"query": {"parent": parent, "structuredQuery": {**query, **{name: inner for name, inner in parts.items() if inner is not None}}}}
 
     def compared(self, row, other):
         """How two rows of places stand in the orders: below 0, 0 or above 0. A shorter one is compared as far as it goes."""

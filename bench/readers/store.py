@@ -140,6 +140,11 @@ class Store:
             raise Unfit
         self.rows.append((target, None))
 
+    def row_of(self, number):
+        """The row of a target, None where it is blank or there is none."""
+        place = number // 2 - 1
+        return self.rows[place][1] if number % 2 == 0 and 0 <= place < len(self.rows) else None
+
     def row_at(self, number):
         if number % 2 or not 2 <= number <= 2 * len(self.rows):
             raise Unfit
@@ -182,6 +187,18 @@ class Store:
 
     def is_pending(self, name):
         return bool(self.pending_writes.get(name))
+
+    def is_touched(self, name):
+        """Whether a pending write names it, or what an acknowledgement left of it is newer than the last point."""
+        seal = self.entries.get(name, (None, None))[1]
+        return self.is_pending(name) or seal is not None and (self.last_read is None or moment(seal) > moment(self.last_read))
+
+    def gives_way(self, name, version):
+        """Whether the entry of that name gives way to one that was seen at this version."""
+        if name not in self.entries:
+            return True
+        (_, own, _), seal = self.entries[name]
+        return moment(own) < moment(version) or seal is not None and moment(own) == moment(version)
 
     def found(self, name):
         """The document of that name with the pending writes laid over it, or None."""

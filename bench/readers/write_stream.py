@@ -3,10 +3,9 @@ close it and of the messages that come on it, what is sent on it, and what is ou
 
 A token is as it is printed; the empty text stands for none.
 """
-from readers.effects import PLAIN_NAME, given, path_names, printed_fields, printed_value, read_bytes, read_time, read_whole, stored_fields, stored_values
-from readers.faults import (ARITHMETIC, DEEP, DEEPEST_VALUE, NAME, OF_ARRAYS, SHAPE, UNSUPPORTED, in_order, kinds_of, object_faults, read_over,
-                            value_faults)
-from readers.queries import whole_faults
+from readers.effects import given, path_names, printed_fields, printed_value, read_bytes, read_time, read_whole, stored_fields, stored_values
+from readers.faults import ARITHMETIC, DEEP, DEEPEST_VALUE, NAME, OF_ARRAYS, SHAPE, in_order, kinds_of, object_faults, read_over, value_faults
+from readers.queries import printed_names, whole_faults
 from readers.store import is_result, name_of, transforms_of
 
 STREAMS = ("watch", "write")
@@ -20,13 +19,11 @@ MOST_OUTSTANDING = 10
 def stream_faults(tree):
     if tree not in STREAMS:
         yield (SHAPE, "stream")
-    elif tree == "watch":
-        yield (UNSUPPORTED, "stream")
 
 
-def status_faults(tree):
+def status_faults(tree, name):
     if not isinstance(tree, dict):
-        yield (SHAPE, "status")
+        yield (SHAPE, name)
         return
 
     def message(text):
@@ -40,7 +37,7 @@ def open_faults(tree):
 
 
 def close_faults(tree):
-    yield from object_faults(tree, "close", {"status": status_faults, "stream": stream_faults}, ("stream",))
+    yield from object_faults(tree, "close", {"status": lambda status: status_faults(status, "status"), "stream": stream_faults}, ("stream",))
 
 
 def time_faults(tree, name):
@@ -48,9 +45,9 @@ def time_faults(tree, name):
         yield (SHAPE, name)
 
 
-def token_faults(tree):
+def token_faults(tree, name):
     if not isinstance(tree, str) or read_bytes(tree) is None:
-        yield (SHAPE, "streamToken")
+        yield (SHAPE, name)
 
 
 def result_faults(tree):
@@ -77,7 +74,7 @@ def message_faults(tree):
     if not isinstance(tree, dict):
         yield (SHAPE, "written")
         return
-    readers = {"commitTime": lambda time: time_faults(time, "commitTime"), "streamToken": token_faults, "writeResults": results}
+    readers = {"commitTime": lambda time: time_faults(time, "commitTime"), "streamToken": lambda token: token_faults(token, "streamToken"), "writeResults": results}
     yield from in_order(tree, readers, (), read_over)
 
 
@@ -126,8 +123,7 @@ class Message:
 
 def printed_path(text):
     """A path with backticks where it must have them."""
-    names = [name if PLAIN_NAME.fullmatch(name) else "`%s`" % name.replace("\\", "\\\\").replace("`", "\\`") for name in path_names(text)]
-    return ".".join(names)
+    return printed_names(path_names(text))
 
 
 def printed_transform(transform):

@@ -1,16 +1,19 @@
--- The events that a client takes: what each of them commits has a spelling, and the stream that it speaks of is one that is
--- built.
-use Rattle.std.specs.Prelude.{◌≡◌, ℕ, ◌<◌, ◌≤◌, ◌^◌, List, length, IfSome}
+-- The events that a client takes: what each of them commits, or may bring to a later commit, has a spelling.
+use Rattle.std.specs.Prelude.{ℕ, ◌<◌, ◌≤◌, ◌^◌, List, length, IfSome, Option}
+use Rattle.value_model.specs.Storable.{AreStorableBytes}
 use Rattle.value_model.specs.Time.{IsMoment}
-use Rattle.value_model.specs.declared.message.StreamName.{StreamName}
-use Rattle.value_model.specs.declared.message.StreamName.TheVariants as stream
+use Rattle.value_model.specs.declared.document.Entry.TheVariants.{Found}
+use Rattle.value_model.specs.declared.message.DocumentChange.{DocumentChange}
+use Rattle.value_model.specs.declared.message.ListenResponse.{ListenResponse}
+use Rattle.value_model.specs.declared.message.ListenResponse.TheVariants as message
+use Rattle.value_model.specs.declared.message.TargetChange.{TargetChange}
 use Rattle.value_model.specs.declared.timestamp.Timestamp.{Timestamp}
 use Rattle.mutations.specs.declared.results.WriteResponse.{WriteResponse}
 use Rattle.mutations.specs.declared.write.Write.{Write}
 use Rattle.queries.specs.declared.target.Target.{Target}
-use Rattle.record_parts.specs.Spelling.{AreSpelled, IsSpelledWrite}
+use Rattle.record_parts.specs.Spelling.{AreSpelled, IsSpelledKey, IsSpelledWrite}
 use Rattle.target_codec.specs.Spelling.{IsSpelledTarget}
-use Rattle.outcome_codec.specs.Spelling.{IsSpelledResult}
+use Rattle.outcome_codec.specs.Spelling.{IsSpelledKeyed, IsSpelledResult}
 use Rattle.client_events.specs.declared.event.Event.{Event}
 use Rattle.client_events.specs.declared.event.Event.TheVariants as event
 
@@ -35,18 +38,35 @@ pub record IsSpelledResponse (response : WriteResponse) : Type 0 where
   pub time : IfSome response.commit_time IsMoment
   pub results : AreSpelled IsSpelledResult response.results
 
--- the stream of writes: that of listeners isn't built yet
-abbrev pub IsBuilt : StreamName → Type 0
-IsBuilt name = name ≡ stream.Write
+-- what a change of targets tells at a point: a token, and a time of the years 1 to 9999
+pub record IsSpelledTold (change : TargetChange) : Type 0 where
+  pub token : AreStorableBytes change.resume_token
+  pub time : IfSome change.read_time IsMoment
 
--- the id of a listener fits four bytes and the code of a status one, what the event commits has a spelling, and its stream is
--- built
+-- a document with its time, as an entry of a point
+abbrev pub IsSpelledChange : DocumentChange → Type 0
+IsSpelledChange change =
+    IsSpelledKeyed (record { key = change.key; entry = Found change.fields change.update_time })
+
+-- the key of a document that is gone, and since when
+pub record IsSpelledGone (gone : List (List ℕ)) (since : Option Timestamp) : Type 0 where
+  pub name : IsSpelledKey gone
+  pub time : IfSome since IsMoment
+
+-- a message of the stream of listeners: what of it comes to a point has a spelling
+abbrev pub IsSpelledMessage : ListenResponse → Type 0
+IsSpelledMessage (message.Target change) = IsSpelledTold change
+IsSpelledMessage (message.Change change) = IsSpelledChange change
+IsSpelledMessage (message.Delete gone) = IsSpelledGone gone.key gone.read_time
+IsSpelledMessage _ = Unit {0}
+
+-- the id of a listener fits four bytes and the code of a status one, and what the event commits, or brings to a later commit,
+-- has a spelling
 abbrev pub IsSpelledEvent : Event → Type 0
 IsSpelledEvent (event.Write at writes) = AreSpelledWrites at writes
 IsSpelledEvent (event.Listen id query) = IsSpelledListener id query
 IsSpelledEvent (event.Unlisten id) = id < 2 ^ 32
-IsSpelledEvent (event.Opened name) = IsBuilt name
-IsSpelledEvent (event.Closed name status) = IsBuilt name × (status.code < 2 ^ 8)
+IsSpelledEvent (event.Closed name status) = status.code < 2 ^ 8
 IsSpelledEvent (event.Written response) = IsSpelledResponse response
-IsSpelledEvent (event.BadMessage name member) = IsBuilt name
+IsSpelledEvent (event.Watch response) = IsSpelledMessage response
 IsSpelledEvent _ = Unit {0}

@@ -1,7 +1,7 @@
 use document_keys::{DocumentKey, Text};
 use mutations::{WriteResponse, Writes};
 use queries::Query;
-use value_model::{RpcStatus, StreamName, Timestamp};
+use value_model::{ListenResponse, RpcStatus, StreamName, Timestamp};
 
 /// How many writes may be made at once.
 pub const MAX_WRITES: u64 = 500;
@@ -21,8 +21,12 @@ pub enum Event {
     Opened(StreamName),
     /// The stream was closed, with this status.
     Closed(StreamName, RpcStatus),
+    /// A message came on the stream of listeners.
+    Watch(ListenResponse),
     /// A message came on the stream of writes.
     Written(WriteResponse),
     /// A message came on the stream that has a fault, in the member of this name.
     BadMessage(StreamName, Text),
+    /// The timer went off until which an app waits for the backend.
+    Timer,
 }

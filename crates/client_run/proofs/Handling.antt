@@ -1,5 +1,5 @@
 -- What one line does to the files, call by call.
-use Rattle.std.proofs.Common.{◌≡◌, ◌≢◌, ◌==◌, ℕ, ◌⊎◌, inl, inr, Bool, false, true, IsTrue, List, [], ◌∷◌, ◌++◌, length, Option, Some, None, option_map, refl, arith, append-nil, sym, ap, subst, ◌∙◌}
+use Rattle.std.proofs.Common.{◌≡◌, ◌≢◌, ◌==◌, ℕ, ◌⊎◌, inl, inr, Bool, false, true, IsTrue, List, [], ◌∷◌, ◌++◌, length, Option, Some, None, IfSome, option_map, refl, arith, append-nil, sym, ap, subst, ◌∙◌}
 use Rattle.std.proofs.lemmas.Bool.{eqb-true, true≢false}
 use Rattle.host_api.specs.Host.{Files, View, IsPart, Emits}
 use Rattle.host_api.proofs.Spans.{spans_then, spans_weaker}
@@ -13,14 +13,15 @@ use Rattle.local_store.specs.Store.{IsSpent as IsStoreSpent, IsStored}
 use Rattle.client_events.specs.declared.event.Event.{Event}
 use Rattle.sync_engine.specs.Turns.{after}
 use Rattle.sync_engine.specs.Past.{Turn, Past}
-use Rattle.sync_engine.specs.Standing.{Kept, StandsFor}
-use Rattle.sync_engine.specs.Telling.{HandsOut, MovesBy}
-use Rattle.sync_engine.specs.Turn.{SettlesAfter, heard_then}
+use Rattle.sync_engine.specs.Standing.{IsStanding, Kept, StandsFor}
+use Rattle.sync_engine.specs.Telling.{HandsOut, Makes, MovesBy}
+use Rattle.sync_engine.specs.Turn.{SettlesAfter, heard_then, is_heard}
 use Rattle.sync_engine.specs.declared.refusal.Refusal.{Refusal}
 use Rattle.sync_engine.specs.declared.out.Outcome.{Outcome}
 use Rattle.client_run.specs.Printed.{printed}
+use Rattle.record_codec.specs.declared.commit.Commit.{Commit}
 use Rattle.sync_engine.proofs.Committed.{stored_finds}
-use Rattle.client_run.specs.Taken.{IsStanding, IsTaken, MovesLine}
+use Rattle.client_run.specs.Taken.{IsTaken, MovesLine}
 use Rattle.client_run.specs.Turn.{LineTurn, IsLineTurn, CommitsNext, and_heard, of_event, refusal_in, unheard, unread_turn}
 use Rattle.client_run.specs.Turned.{Coming, FindsCommit, HasTurn, InTurn, IsHandled, Turned, WrotePart, coming, text_of_turn}
 use Rattle.client_run.specs.declared.taken.Taken.{Taken}
@@ -28,15 +29,15 @@ use Rattle.client_run.specs.declared.taken.Taken.TheVariants.{Unread as NoEvent,
 
 -- ---- the commit of a turn
 
-settled_commits : (root : Root) (s : State) (past : Past) (e : Event) (answer : Turn) (refusal : Option Refusal) (t : Turn) → SettlesAfter root s past e answer refusal t → t.commit ≡ answer.commit
-settled_commits root s past e answer None t is = ap (λ (x : Turn). x.commit) is.is
-settled_commits root s past e answer (Some refusal) t is = ap (λ (x : Turn). x.commit) is
+settled_commits : (root : Root) (s : State) (past : Past) (e : Event) (answer : Turn) (heard : Bool) (t : Turn) → SettlesAfter root s past e answer heard t → t.commit ≡ answer.commit
+settled_commits root s past e answer true t is = ap (λ (x : Turn). x.commit) is.is
+settled_commits root s past e answer false t is = ap (λ (x : Turn). x.commit) is
 
 pub turn_commits : (root : Root) (s : State) (past : Past) (reading : Reading) (t : LineTurn) → IsLineTurn root s past reading t → CommitsNext s past reading t.commit
 turn_commits root s past (Refused refusal) t is = ap (λ (x : LineTurn). x.commit) is
 turn_commits root s past (an_event e) t is =
     let settled = is.is_turn.is_settled in
-    (settled.answer, settled.answers, ap (λ (x : LineTurn). x.commit) is.is ∙ ap (λ (x : Turn). x.commit) is.is_turn.is ∙ settled_commits root s past e settled.answer settled.answer.refusal is.is_turn.settled settled.settles)
+    (settled.answer, settled.answers, ap (λ (x : LineTurn). x.commit) is.is ∙ ap (λ (x : Turn). x.commit) is.is_turn.is ∙ settled_commits root s past e settled.answer (is_heard settled.answer.refusal) is.is_turn.settled settled.settles)
 
 -- ---- taking a line
 
@@ -60,17 +61,25 @@ pub unread_taken : {s : State} {past : Past} {client : Kept} (refusal : Unread) 
 unread_taken {s} {past} {client} refusal stands = record { turn = unread_turn refusal; is_turn = refl; stands = stands; tells = refl }
 
 pub event_moves : {s : State} {past : Past} {e : Event} {old new : View} → MovesBy s past e old new → MovesLine s past (an_event e) old new
-event_moves it = record { commit = it.answer.commit; commits = (it.answer, it.answers, refl); moves = it.moves }
+event_moves {s} {past} {e} it = record { commit = it.commit; commits = by it.commit it.makes; moves = it.moves }
+  where
+    by : (made : Option Commit) → IfSome made (Makes s past e) → IfSome made (λ made. CommitsNext s past (an_event e) (Some made))
+    by None makes = tt
+    by (Some made) makes = (makes.0, makes.1, sym makes.2)
 
 pub nothing_moves_line : {s : State} {past : Past} {old new : View} (refusal : Unread) → Moves s s old new → MovesLine s past (Refused refusal) old new
-nothing_moves_line refusal moves = record { commit = None; commits = refl; moves = moves }
+nothing_moves_line refusal moves = record { commit = None; commits = tt; moves = moves }
 
 -- ---- and printing it
 
 module _ (line : Coming) where
   moved : {old new : View} → (it : MovesLine line.state line.past line.reading old new) → (c : Files) → FindsState c line.state ⊎ FindsState c (after line.state it.commit) → FindsState c line.state ⊎ FindsCommit line c
   moved it c (inl early) = inl early
-  moved it c (inr late) = inr (record { commit = it.commit; commits = it.commits; finds = late })
+  moved it c (inr late) = by it.commit it.commits late
+    where
+      by : (made : Option Commit) → IfSome made (λ made. CommitsNext line.state line.past line.reading (Some made)) → FindsState c (after line.state made) → FindsState c line.state ⊎ FindsCommit line c
+      by None commits finds = inl finds
+      by (Some made) commits finds = inr (record { commit = Some made; commits = commits; finds = finds })
 
   -- a commit alone
   pub turned_moved : {old new : View} → MovesLine line.state line.past line.reading old new → Turned line old new
@@ -132,7 +141,7 @@ wrote_part {old = old} {new = new} {shown = shown} root number same it written s
 }
 
 pub taken_stands : {s : State} {past : Past} {reading : Reading} {taken : Taken} {client : Kept} → IsTaken s past reading taken client → IsStanding client
-taken_stands {s} {past} {reading} it = record { state = after s it.turn.commit; past = and_heard s reading it.turn past; stands = it.stands }
+taken_stands {s} {past} {reading} it = (after s it.turn.commit, (and_heard s reading it.turn past, it.stands))
 
 pub emitted : {s : State} {past : Past} {reading : Reading} {taken : Taken} {client : Kept} {old mid new : View} {shown : List ℕ} (root : Root) (number : ℕ) → client.root ≡ root → (it : IsTaken s past reading taken client) → shown ≡ printed root number it.turn → mid.out ≡ old.out
     → MovesLine s past reading old mid → ¬ (IsStoreSpent client.store) → IsStored client.store mid → Emits shown mid new → Turned (coming root s past reading number) old new

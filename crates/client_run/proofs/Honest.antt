@@ -1,6 +1,6 @@
 -- What the turn of a line writes: whole lines, which report no number above that of the state after its commit.
-use Rattle.std.proofs.Common.{◌≡◌, ℕ, ◌+◌, ◌<◌, ◌≤◌, ◌^◌, ℤ, pos, nat_abs, suc, zero, Bool, true, false, not, nat_eq, nat_lt, List, [], ◌∷◌, ◌++◌, map as each, length, Option, Some, None, option_map, IfSome, if◌then◌else◌, refl, sym, ap, subst, ◌∙◌, arith}
-use Rattle.std.specs.List.{All, slice_get}
+use Rattle.std.proofs.Common.{◌≡◌, ℕ, ◌+◌, ◌<◌, ◌≤◌, ◌^◌, ℤ, pos, nat_abs, suc, zero, Bool, true, false, not, nat_eq, nat_lt, List, [], ◌∷◌, ◌++◌, ◌&&◌, map as each, length, is_none, Option, Some, None, option_map, IfSome, if◌then◌else◌, refl, sym, ap, subst, ◌∙◌, arith}
+use Rattle.std.specs.List.{All, AllZip, slice_get}
 use Rattle.std.proofs.lemmas.Bool.{and_parts, eqb-true, ltb-true}
 use Rattle.std.proofs.lemmas.Option.{none-some}
 use Rattle.std.proofs.lemmas.List.Elements.{All-nil, All-cons, All-head, All-tail, All-append}
@@ -18,25 +18,32 @@ use Rattle.line_reader.specs.declared.reading.Reading.TheVariants.{Line as an_ev
 use Rattle.line_reader.specs.declared.refusal.Refusal.{Refusal as Unread}
 use Rattle.line_reader.specs.declared.refusal.Refusal.TheVariants.{LineTooLong, BadLine, TooDeep, Unsupported, BadName, BadWrites, BadQuery}
 use Rattle.record_codec.specs.declared.commit.Commit.{Commit}
-use Rattle.record_codec.specs.declared.commit.Commit.TheVariants.{Acknowledge, Enqueue, Allocate, Reject}
+use Rattle.record_codec.specs.declared.commit.Commit.TheVariants.{Acknowledge, Enqueue, Allocate, Point, Reject, Reset}
 use Rattle.local_store.specs.Documents.{document_of, standing_of}
 use Rattle.local_store.specs.State.{State, most_commits}
 use Rattle.queries.specs.declared.raw.QueryRule.{QueryRule}
 use Rattle.queries.specs.declared.raw.QueryRule.TheVariants as rule
+use Rattle.queries.specs.declared.listen_request.ListenRequest.TheVariants.{Add, Remove}
 use Rattle.queries.specs.declared.target.Target.{Target}
 use Rattle.target_cache.specs.Cache.{TellsId, id_at}
 use Rattle.views.specs.Viewed.{Viewed}
 use Rattle.views.specs.declared.raised.Raised.{Raised}
 use Rattle.sync_engine.specs.Answers.{Answers, Begins, are_left, ends, enqueued, last_target, listens}
 use Rattle.sync_engine.specs.Turns.{after, answered, commits, refused}
-use Rattle.sync_engine.specs.Lines.{Line, Told, wrote, listening, unlistened, document, result, rejected, send}
-use Rattle.sync_engine.specs.Past.{Turn, Past, asked, listener, raised_in, steps_by, steps_of, told}
-use Rattle.sync_engine.specs.Writing.{WrittenTurn, acknowledges, bad_turn, closed_turn, closes, fails, first_batch, is_open, member_name, opened_turn, rejects, request_of, requests, settles, shakes, to_send}
+use Rattle.sync_engine.specs.Asking.{AsksIf, IsAddLine, resets_by}
+use Rattle.sync_engine.specs.Hearing as hearing
+use Rattle.sync_engine.specs.Hearing.{Blanks, HeardTurn, commits_if_left, watch_member_name}
+use Rattle.sync_engine.specs.Lines.{Line, Told, wrote, listening, unlistened, document, result, rejected, error, remove, send}
+use Rattle.sync_engine.specs.Past.{Entry, Turn, Past, asked, is_refused_in, listener, raised_in, steps_by, steps_of, told}
+use Rattle.sync_engine.specs.Past as past_of
+use Rattle.sync_engine.specs.Watching.{is_watched}
+use Rattle.sync_engine.specs.Writing.{WrittenTurn, acknowledges, bad_turn, closed_turn, closes, fails, first_batch, is_open, is_stream_open, member_name, opened_turn, rejects, request_of, requests, settles, shakes, to_send}
 use Rattle.mutations.specs.declared.batch.Batch.{Batch}
 use Rattle.mutations.specs.declared.results.WriteRequest.TheVariants.{Batch as a_batch, Handshake as the_first}
 use Rattle.mutations.specs.declared.results.WriteResponse.{WriteResponse}
 use Rattle.mutations.specs.declared.results.WriteResult.{WriteResult}
 use Rattle.value_model.specs.declared.document.RpcStatus.{RpcStatus}
+use Rattle.value_model.specs.declared.message.ListenResponse.{ListenResponse}
 use Rattle.value_model.specs.declared.message.StreamName.{StreamName}
 use Rattle.value_model.specs.declared.message.StreamName.TheVariants as stream
 use Rattle.value_model.specs.declared.timestamp.Timestamp.{Timestamp}
@@ -46,13 +53,13 @@ use Rattle.write_pipeline.specs.declared.answer.Closing.{Closing}
 use Rattle.write_pipeline.specs.declared.answer.Closing.TheVariants.{Kept as KeepsAll, Rejects}
 use Rattle.std.proofs.lemmas.List.{append_assoc}
 use Rattle.std.proofs.lemmas.Grind.{flat_map-append}
-use Rattle.sync_engine.specs.Settling.{Settles, ShowsAt, told_to}
-use Rattle.sync_engine.specs.Turn.{SettlesAfter, is_heard, requests_behind, snapshot_line, unless_refused, with_requests}
+use Rattle.sync_engine.specs.Settling.{Settles, ShowsAt, Stance, stance_of, told_to}
+use Rattle.sync_engine.specs.Turn.{IsTurn, SettlesAfter, answered_next, batches_behind, is_heard, snapshot_line, unless_refused, with_lines}
 use Rattle.sync_engine.specs.declared.refusal.Refusal.{Refusal}
 use Rattle.sync_engine.specs.declared.refusal.Refusal.TheVariants.{ListenerTaken, NoListener, StreamState, BadMessage, IdsSpent}
 use Rattle.sync_engine.proofs.Handing.{all_told}
 use Rattle.client_run.specs.Laws.{ATurnReportsWithin, HasListenerIds, IsCounted}
-use Rattle.client_run.specs.Printed.{printed, refusal_text, rule_number, text_of, tree_of, unheard_tree, unread_tree}
+use Rattle.client_run.specs.Printed.{printed, refusal_text, resume_of, rule_number, text_of, tree_of, unheard_tree, unread_tree}
 use Rattle.client_run.specs.Turn.{LineTurn, IsLineTurn, and_heard, entry_of, of_event, refusal_in, unheard}
 
 -- ---- refusals
@@ -109,6 +116,11 @@ refused_answer root number s refusal few small = record { refusal = unheard_with
 one_answer : (root : Root) (most : ℕ) (line : Line) → LineWithin root most line → All (LineWithin root most) (line ∷ [])
 one_answer root most line is = All-cons (LineWithin root most) line [] is (All-nil (LineWithin root most))
 
+-- an error reports nothing
+errors_within : (root : Root) (most : ℕ) (status : RpcStatus) (ids : List ℕ) → All (LineWithin root most) (each (λ id. error id status) ids)
+errors_within root most status [] = All-nil (LineWithin root most)
+errors_within root most status (id ∷ ids) = All-cons (LineWithin root most) (error id status) (each (λ i. error i status) ids) (streams.error_within most id status) (errors_within root most status ids)
+
 inside : {X : Type 0} (xs : List X) (i : ℕ) (x : X) → slice_get xs i ≡ Some x → i < length xs
 inside [] i x is = absurd (none-some x is)
 inside (y ∷ xs) zero x is = omega arith
@@ -147,18 +159,46 @@ module _ (root : Root) (number : ℕ) (s : State) (past : Past) (counted : IsCou
   ends_within id None small = refused_answer root number s (NoListener id) few small
   ends_within id (Some view) small = record { refusal = within_nothing s.number; lines = one_answer root s.number (unlistened id s.number) (within.unlistened_within id s.number (omega (arith, small)) (omega (arith, counted.within))) }
 
-  -- ---- the stream of writes
+  nothing_said : AnswerWithin root number s (answered [])
+  nothing_said = record { refusal = within_nothing s.number; lines = All-nil (LineWithin root s.number) }
+
+  -- ---- the streams
 
   opened_within : (name : StreamName) (opening : Bool) → AnswerWithin root number s (opened_turn name opening)
   opened_within name true = refused_answer root number s (StreamState name true) few tt
-  opened_within name false = record { refusal = within_nothing s.number; lines = one_answer root s.number (send the_first) (streams.send_write_within s.number root the_first) }
+  opened_within stream.Watch false = nothing_said
+  opened_within stream.Write false = record { refusal = within_nothing s.number; lines = one_answer root s.number (send the_first) (streams.send_write_within s.number root the_first) }
 
   bad_within : (name : StreamName) (member : List ℕ) (opening : Bool) → AnswerWithin root number s (bad_turn name member opening)
   bad_within name member true = refused_answer root number s (BadMessage name member) few tt
   bad_within name member false = refused_answer root number s (StreamState name false) few tt
 
-  nothing_said : AnswerWithin root number s (answered [])
-  nothing_said = record { refusal = within_nothing s.number; lines = All-nil (LineWithin root s.number) }
+  -- ---- the stream of listeners
+
+  if_left_within : (made : Commit) (lines : List Line) → ((most : ℕ) → All (LineWithin root most) lines) → AnswerWithin root number s (commits_if_left s made lines)
+  if_left_within made lines all = by (nat_lt s.number most_commits)
+    where
+      by : (left : Bool) → AnswerWithin root number s (if left then commits made lines else refused IdsSpent)
+      by true = record { refusal = within_nothing (s.number + 1); lines = all (s.number + 1) }
+      by false = refused_answer root number s IdsSpent few tt
+
+  blanks_within : (ids : List ℕ) (lines : List Line) (t : Turn) → ((most : ℕ) → All (LineWithin root most) lines) → Blanks s ids lines t → AnswerWithin root number s t
+  blanks_within ids lines t all (hearing.held some is) = subst (AnswerWithin root number s) (sym is) (if_left_within (Reset ids) lines all)
+  blanks_within ids lines t all (hearing.none_held none is) = subst (AnswerWithin root number s) (sym is) (record { refusal = within_nothing s.number; lines = all s.number })
+
+  heard_within : (response : ListenResponse) (opening : Bool) (t : Turn) → HeardTurn s past response opening t → AnswerWithin root number s t
+  heard_within response true t (hearing.nothing gives is) = subst (AnswerWithin root number s) (sym is) nothing_said
+  heard_within response true t (hearing.old_point at gives old is) = subst (AnswerWithin root number s) (sym is) nothing_said
+  heard_within response true t (hearing.point at entries rows gives new made is) =
+      subst (AnswerWithin root number s) (sym is) (if_left_within (Point at entries rows) [] (λ most. All-nil (LineWithin root most)))
+  heard_within response true t (hearing.point_spent at gives new spent is) = subst (AnswerWithin root number s) (sym is) (refused_answer root number s IdsSpent few tt)
+  heard_within response true t (hearing.mismatch id told count ids gives have blanks) = blanks_within ids [] t (λ most. All-nil (LineWithin root most)) blanks
+  heard_within response true t (hearing.ended ids status those listeners gives have are blanks) =
+      blanks_within those (each (λ l. error l status) listeners) t (λ most. errors_within root most status listeners) blanks
+  heard_within response true t (hearing.fails why refuses is) = subst (AnswerWithin root number s) (sym is) (refused_answer root number s (BadMessage stream.Watch (watch_member_name why)) few tt)
+  heard_within response false t is = subst (AnswerWithin root number s) (sym is) (refused_answer root number s (StreamState stream.Watch false) few tt)
+
+  -- ---- the stream of writes
 
   rejects_within : (status : RpcStatus) → status.code < 2 ^ 8 → (first : Option Batch) → IfSome first (λ batch. batch.id < 2 ^ 64) → AnswerWithin root number s (rejects s first status)
   rejects_within status small None bound = nothing_said
@@ -175,7 +215,8 @@ module _ (root : Root) (number : ℕ) (s : State) (past : Past) (counted : IsCou
   closes_within status small Rejects = rejects_within status small (first_batch s) counted.first
 
   closed_within : (h : Steps) (name : StreamName) (status : RpcStatus) → status.code < 2 ^ 8 → (opening : Bool) → AnswerWithin root number s (closed_turn s h name status opening)
-  closed_within h name status small true = closes_within status small (closing_of h status.code)
+  closed_within h stream.Watch status small true = nothing_said
+  closed_within h stream.Write status small true = closes_within status small (closing_of h status.code)
   closed_within h name status small false = refused_answer root number s (StreamState name false) few tt
 
   settles_within : (batch : ℕ) (time : Timestamp) (results : List WriteResult) → batch < 2 ^ 64 → AnswerWithin root number s (settles s batch time results)
@@ -200,10 +241,12 @@ module _ (root : Root) (number : ℕ) (s : State) (past : Past) (counted : IsCou
       (record { refusal = within_nothing s.number; lines = one_answer root s.number (document key (document_of s key) (standing_of s key)) (within.document_within s.number root key (document_of s key) (standing_of s key)) })
   answer_within (event.Listen id query) answer spelled is = begins_within id query (listener id past) answer spelled.fits is
   answer_within (event.Unlisten id) answer spelled is = subst (AnswerWithin root number s) (sym is) (ends_within id (listener id past) spelled)
-  answer_within (event.Opened name) answer spelled is = subst (AnswerWithin root number s) (sym is) (opened_within name (is_open (steps_of past)))
-  answer_within (event.Closed name status) answer spelled is = subst (AnswerWithin root number s) (sym is) (closed_within (steps_of past) name status spelled.1 (is_open (steps_of past)))
+  answer_within (event.Opened name) answer spelled is = subst (AnswerWithin root number s) (sym is) (opened_within name (is_stream_open name past))
+  answer_within (event.Closed name status) answer spelled is = subst (AnswerWithin root number s) (sym is) (closed_within (steps_of past) name status spelled (is_stream_open name past))
   answer_within (event.Written response) answer spelled is = written_within (steps_of past) response (is_open (steps_of past)) answer is
-  answer_within (event.BadMessage name member) answer spelled is = subst (AnswerWithin root number s) (sym is) (bad_within name member (is_open (steps_of past)))
+  answer_within (event.BadMessage name member) answer spelled is = subst (AnswerWithin root number s) (sym is) (bad_within name member (is_stream_open name past))
+  answer_within (event.Watch response) answer spelled is = heard_within response (is_watched past) answer is
+  answer_within event.Timer answer spelled is = subst (AnswerWithin root number s) (sym is) nothing_said
 
 -- ---- snapshots
 
@@ -220,17 +263,35 @@ asked_small (event.Opened name) past spelled small id view is = small id view is
 asked_small (event.Closed name status) past spelled small id view is = small id view is
 asked_small (event.Written response) past spelled small id view is = small id view is
 asked_small (event.BadMessage name member) past spelled small id view is = small id view is
+asked_small (event.Watch response) past spelled small id view is = small id view is
+asked_small event.Timer past spelled small id view is = small id view is
 asked_small (event.Unlisten other) past spelled small id view is = by (nat_eq other id) is
   where
     by : (b : Bool) → (if b then None else listener id past) ≡ Some view → id < 2 ^ 32
     by true is = absurd (none-some view is)
     by false is = small id view is
 
-told_small : (root : Root) (s : State) (listening_of : ℕ → Option Viewed) (ts : List Told) → ((id : ℕ) (view : Viewed) → listening_of id ≡ Some view → id < 2 ^ 32) → Settles root s listening_of ts → All (λ (t : Told). t.id < 2 ^ 32) ts
-told_small root s listening_of ts small settles = go ts (all_told ts settles.ascending)
+told_there : (r : Option Raised) (v : Option Viewed) (view : Viewed) → told r v ≡ Some view → (found : Viewed) × (v ≡ Some found)
+told_there None v view is = (view, is)
+told_there (Some raised) None view is = absurd (none-some view is)
+told_there (Some raised) (Some found) view is = (found, refl)
+
+unrefused : (b : Bool) (v : Option Viewed) (view : Viewed) → past_of.unless_refused b v ≡ Some view → v ≡ Some view
+unrefused true v view is = absurd (none-some view is)
+unrefused false v view is = is
+
+-- who listens once an event was heard has a small id
+entry_small : (entry : Entry) (past : Past) → IsSpelledEvent entry.event → HasListenerIds past → HasListenerIds (entry ∷ past)
+entry_small entry past spelled small id view is =
+    let before = asked id entry.event (listener id past) in
+    let there = told_there (raised_in id entry.turn.lines) (past_of.unless_refused (is_refused_in id entry.turn.lines) before) view is in
+    asked_small entry.event past spelled small id there.0 (unrefused (is_refused_in id entry.turn.lines) before there.0 there.1)
+
+told_small : (root : Root) (s : State) (stance : ℕ → Stance) (listening_of : ℕ → Option Viewed) (ts : List Told) → ((id : ℕ) (view : Viewed) → listening_of id ≡ Some view → id < 2 ^ 32) → Settles root s stance listening_of ts → All (λ (t : Told). t.id < 2 ^ 32) ts
+told_small root s stance listening_of ts small settles = go ts (all_told ts settles.ascending)
   where
     one : (t : Told) → told_to t.id ts ≡ Some t.raised → (v : Option Viewed) → listening_of t.id ≡ v → t.id < 2 ^ 32
-    one t is None there = absurd (none-some t.raised (sym (subst (λ (v : Option Viewed). ShowsAt root s v (Some t.raised)) there (subst (ShowsAt root s (listening_of t.id)) is (settles.each t.id)))))
+    one t is None there = absurd (none-some t.raised (sym (subst (λ (v : Option Viewed). ShowsAt root s (stance t.id) v (Some t.raised)) there (subst (ShowsAt root s (stance t.id) (listening_of t.id)) is (settles.each t.id)))))
     one t is (Some view) there = small t.id view there
 
     go : (us : List Told) → All (λ (t : Told). told_to t.id ts ≡ Some t.raised) us → All (λ (t : Told). t.id < 2 ^ 32) us
@@ -251,63 +312,87 @@ after_few : (s : State) (commit : Option Commit) → s.number ≤ most_commits �
 after_few s None few = omega (arith, few)
 after_few s (Some commit) few = omega (arith, few)
 
-settled_within : (root : Root) (number : ℕ) (s : State) (past : Past) (e : Event) (answer : Turn) (refusal : Option Refusal) (t : Turn) → answer.refusal ≡ refusal → IsCounted s → IsSpelledEvent e → HasListenerIds past
-    → AnswerWithin root number s answer → SettlesAfter root s past e answer refusal t → IsWithin (after s t.commit).number (printed root number (of_event t))
-settled_within root number s past e answer (Some refusal) t same counted spelled small is settles =
+settled_within : (root : Root) (number : ℕ) (s : State) (past : Past) (e : Event) (answer : Turn) (heard : Bool) (t : Turn) → IsCounted s → IsSpelledEvent e → HasListenerIds past
+    → AnswerWithin root number s answer → SettlesAfter root s past e answer heard t → IsWithin (after s t.commit).number (printed root number (of_event t))
+settled_within root number s past e answer false t counted spelled small is settles =
     subst (λ (x : Turn). IsWithin (after s x.commit).number (printed root number (of_event x))) (sym settles)
     (within_append (after s answer.commit).number (refusal_text number (option_map unheard answer.refusal)) (text_of root answer.lines) is.refusal (lines_within root (after s answer.commit).number answer.lines is.lines))
-settled_within root number s past e answer None t same counted spelled small is settled =
+settled_within root number s past e answer true t counted spelled small is settled =
     let later = after s answer.commit in
+    let next = answered_next s past e answer in
+    let entry : Entry = record { state = s; event = e; turn = answer } in
     subst (λ (x : Turn). IsWithin (after s x.commit).number (printed root number (of_event x))) (sym settled.is)
+    (within_append later.number (refusal_text number (option_map unheard answer.refusal)) (text_of root (answer.lines ++ each (snapshot_line later) settled.told)) is.refusal
     (lines_within root later.number (answer.lines ++ each (snapshot_line later) settled.told)
     (All-append (LineWithin root later.number) answer.lines (each (snapshot_line later) settled.told) is.lines
     (snapshots_within root later settled.told (after_few s answer.commit counted.within)
-    (told_small root later (λ id. asked id e (listener id past)) settled.told (asked_small e past spelled small) settled.settles))))
+    (told_small root later (stance_of next) (λ id. listener id next) settled.told (entry_small entry past spelled small) settled.settles)))))
 
--- requests report nothing
-requests_within : (root : Root) (most : ℕ) (token : List ℕ) (bs : List Batch) → IsWithin most (text_of root (each (request_of token) bs))
-requests_within root most token [] = within_nothing most
-requests_within root most token (b ∷ bs) = within_append most (line_of (tree_of root (request_of token b))) (text_of root (each (request_of token) bs)) (streams.send_write_within most root (a_batch token b.writes)) (requests_within root most token bs)
+-- ---- requests, which report nothing
 
-behind_within : (root : Root) (most : ℕ) (refusal : Option Refusal) (h : Steps) (bs : List Batch) → IsWithin most (text_of root (unless_refused refusal (requests h bs)))
+requests_within : (root : Root) (most : ℕ) (token : List ℕ) (bs : List Batch) → All (LineWithin root most) (each (request_of token) bs)
+requests_within root most token [] = All-nil (LineWithin root most)
+requests_within root most token (b ∷ bs) = All-cons (LineWithin root most) (request_of token b) (each (request_of token) bs) (streams.send_write_within most root (a_batch token b.writes)) (requests_within root most token bs)
+
+behind_within : (root : Root) (most : ℕ) (refusal : Option Refusal) (h : Steps) (bs : List Batch) → All (LineWithin root most) (unless_refused refusal (requests h bs))
 behind_within root most None h bs = requests_within root most (latest_token h) (to_send h bs)
-behind_within root most (Some refusal) h bs = within_nothing most
+behind_within root most (Some refusal) h bs = All-nil (LineWithin root most)
 
-with_requests_within : (root : Root) (number : ℕ) (s : State) (past : Past) (e : Event) (t : Turn) → IsWithin (after s t.commit).number (printed root number (of_event t)) → IsWithin (after s t.commit).number (printed root number (of_event (with_requests s past e t)))
-with_requests_within root number s past e t is =
-    subst (IsWithin (after s t.commit).number)
-    (append_assoc (refusal_text number (option_map unheard t.refusal)) (text_of root t.lines) (text_of root (requests_behind s past e t))
-    ∙ ap (λ (x : List ℕ). refusal_text number (option_map unheard t.refusal) ++ x) (sym (flat_map-append (λ l. line_of (tree_of root l)) t.lines (requests_behind s past e t))))
-    (within_append (after s t.commit).number (printed root number (of_event t)) (text_of root (requests_behind s past e t)) is
-    (behind_within root (after s t.commit).number t.refusal (steps_by e t.refusal (steps_of past)) (after s t.commit).batches))
+removes_within : (root : Root) (most : ℕ) (targets : List ℤ) → All (LineWithin root most) (each remove targets)
+removes_within root most [] = All-nil (LineWithin root most)
+removes_within root most (t ∷ targets) = All-cons (LineWithin root most) (remove t) (each remove targets) (streams.send_listen_within most root (Remove t)) (removes_within root most targets)
+
+adds_within : (root : Root) (most : ℕ) (s : State) (targets : List ℤ) (adds : List Line) → AllZip (IsAddLine s) targets adds → All (LineWithin root most) adds
+adds_within root most s [] [] are = All-nil (LineWithin root most)
+adds_within root most s [] (line ∷ adds) are = absurd are
+adds_within root most s (t ∷ targets) [] are = absurd are
+adds_within root most s (t ∷ targets) (line ∷ adds) are =
+    All-cons (LineWithin root most) line adds
+    (subst (LineWithin root most) (sym are.0.is) (streams.send_listen_within most root (Add t are.0.row.target (option_map resume_of are.0.row.held))))
+    (adds_within root most s targets adds are.1)
+
+asks_within : (root : Root) (most : ℕ) (may : Bool) (s : State) (next : Past) (reset : ℤ → Bool) (lines : List Line) → AsksIf may s next reset lines → All (LineWithin root most) lines
+asks_within root most true s next reset lines asks =
+    subst (All (LineWithin root most)) (sym asks.is)
+    (All-append (LineWithin root most) (each remove asks.removed) asks.adds (removes_within root most asks.removed) (adds_within root most s asks.added asks.adds asks.rows))
+asks_within root most false s next reset lines none = subst (All (LineWithin root most)) (sym none) (All-nil (LineWithin root most))
+
+with_lines_within : (root : Root) (number most : ℕ) (t : Turn) (lines : List Line) → IsWithin most (printed root number (of_event t)) → All (LineWithin root most) lines → IsWithin most (printed root number (of_event (with_lines t lines)))
+with_lines_within root number most t lines is all =
+    subst (IsWithin most)
+    (append_assoc (refusal_text number (option_map unheard t.refusal)) (text_of root t.lines) (text_of root lines)
+    ∙ ap (λ (x : List ℕ). refusal_text number (option_map unheard t.refusal) ++ x) (sym (flat_map-append (λ l. line_of (tree_of root l)) t.lines lines)))
+    (within_append most (printed root number (of_event t)) (text_of root lines) is (lines_within root most lines all))
+
+event_within : (root : Root) (s : State) (past : Past) (e : Event) (t : Turn) (number : ℕ) → IsCounted s → HasListenerIds past → number < 2 ^ 64 → IsSpelledEvent e → IsTurn root s past e t → IsWithin (after s t.commit).number (printed root number (of_event t))
+event_within root s past e t number counted small few spelled is =
+    let turn = is.is_settled in
+    let settled = is.settled in
+    let most = (after s settled.commit).number in
+    let within_it = settled_within root number s past e turn.answer (is_heard turn.answer.refusal) settled counted spelled small (answer_within root number s past counted few e turn.answer spelled turn.answers) turn.settles in
+    let asking = asks_within root most (is_none settled.refusal && is_watched (answered_next s past e settled)) (after s settled.commit) (answered_next s past e settled) (resets_by e past) is.asked is.asks in
+    let sending = behind_within root most settled.refusal (steps_by e settled.refusal (steps_of past)) (after s settled.commit).batches in
+    subst (λ (x : Turn). IsWithin (after s x.commit).number (printed root number (of_event x))) (sym is.is)
+    (with_lines_within root number most settled (is.asked ++ batches_behind s past e settled) within_it
+    (All-append (LineWithin root most) is.asked (batches_behind s past e settled) asking sending))
 
 pub turn_within : (root : Root) (s : State) (past : Past) (reading : Reading) (t : LineTurn) (number : ℕ) → IsCounted s → HasListenerIds past → number < 2 ^ 64 → IsSpelledReading reading → IsLineTurn root s past reading t → IsWithin (after s t.commit).number (printed root number t)
 turn_within root s past (Refused refusal) t number counted small few spelled is =
     subst (λ (x : LineTurn). IsWithin (after s x.commit).number (printed root number x)) (sym is)
     (within_one s.number (line_of (unread_tree number refusal)) (unread_within s.number number refusal few spelled))
 turn_within root s past (an_event e) t number counted small few spelled is =
-    let turn = is.is_turn.is_settled in
-    let settled = is.is_turn.settled in
-    let within_it = settled_within root number s past e turn.answer turn.answer.refusal settled refl counted spelled small (answer_within root number s past counted few e turn.answer spelled turn.answers) turn.settles in
-    subst (λ (x : LineTurn). IsWithin (after s x.commit).number (printed root number x)) (sym (is.is ∙ ap of_event is.is_turn.is))
-    (with_requests_within root number s past e settled within_it)
+    subst (λ (x : LineTurn). IsWithin (after s x.commit).number (printed root number x)) (sym is.is)
+    (event_within root s past e is.turn number counted small few spelled is.is_turn)
 
 pub turn_reports : ATurnReportsWithin
 turn_reports root s past reading t number counted small few spelled is = (turn_within root s past reading t number counted small few spelled is).within
 
 -- ---- the ids of listeners
 
-told_there : (r : Option Raised) (v : Option Viewed) (view : Viewed) → told r v ≡ Some view → (found : Viewed) × (v ≡ Some found)
-told_there None v view is = (view, is)
-told_there (Some raised) None view is = absurd (none-some view is)
-told_there (Some raised) (Some found) view is = (found, refl)
-
 pub more_small : (s : State) (reading : Reading) (t : LineTurn) (past : Past) → IsSpelledReading reading → HasListenerIds past → HasListenerIds (and_heard s reading t past)
 more_small s (Refused refusal) t past spelled small = small
 more_small s (an_event e) t past spelled small = by (is_heard (refusal_in t.cause))
   where
     by : (b : Bool) → HasListenerIds (if b then entry_of s e t ∷ past else past)
-    by true = λ id view is.
-        let there = told_there (raised_in id t.lines) (asked id e (listener id past)) view is in
-        asked_small e past spelled small id there.0 there.1
+    by true = entry_small (entry_of s e t) past spelled small
     by false = small

@@ -394,6 +394,10 @@ causes_within fault.NoMemory source same counts = record {
   sink = rises_as same.sink (λ is. cc) (λ is. cc) counts.sink;
 }
 
+-- where memory runs out before a line is handled no count rises
+pub causes_memory : {old new : View} {before after_it : ℕ} → after_it ≡ before → SameFaults old new → Causes NoMemory before after_it old new
+causes_memory source same = record { source = rises_not source (λ is. cc); disk = rises_not same.disk (λ is. cc); sink = rises_not same.sink (λ is. cc) }
+
 pub same_then : {old mid new : View} → SameFaults old mid → TurnCounts (Ok tt) mid new → SameFaults old new
 same_then first counts = record { disk = counts.disk.stays (λ is. cc) ∙ first.disk; sink = counts.sink.stays (λ is. cc) ∙ first.sink }
 

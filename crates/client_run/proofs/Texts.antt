@@ -1,5 +1,5 @@
 -- what is printed of the lines that were handed out
-use Rattle.std.proofs.Common.{◌≡◌, ℕ, ◌+◌, ◌<◌, ◌^◌, suc, zero, List, [], ◌∷◌, ◌++◌, length, take, get_or, Option, Some, IfSome, option_map, append-nil, refl, sym, ap, subst, ◌∙◌, arith}
+use Rattle.std.proofs.Common.{◌≡◌, ℕ, ℤ, ◌+◌, ◌<◌, ◌^◌, suc, zero, List, [], ◌∷◌, ◌++◌, length, take, get_or, Option, Some, None, IfSome, option_map, append-nil, refl, sym, ap, subst, ◌∙◌, arith}
 use Rattle.std.specs.List.{AllZip, slice_get}
 use Rattle.std.proofs.Math.Seq.{take-length}
 use Rattle.std.proofs.lemmas.Grind.{flat_map-append}
@@ -10,6 +10,9 @@ use Rattle.local_store.specs.State.{State}
 use Rattle.mutations.specs.declared.batch.Batch.{Batch}
 use Rattle.mutations.specs.declared.results.WriteRequest.TheVariants.{Batch as a_batch}
 use Rattle.mutations.specs.declared.write.Write.{Write}
+use Rattle.target_cache.specs.Cache.{IsRow}
+use Rattle.target_cache.specs.Kept.{TellsRow}
+use Rattle.target_cache.specs.declared.row.Row.{Row}
 use Rattle.write_pipeline.specs.Order.{latest_token}
 use Rattle.sync_engine.specs.Writing.{first_batch}
 use Rattle.local_store.specs.Documents.{document_of, standing_of}
@@ -81,18 +84,21 @@ document_printed client root store key text roots stores is line shown =
     ∙ ap (λ (s : Store). line_of (document_tree client.root key (document_of s.state key) (standing_of s.state key))) stores
     ∙ ap (λ (l : Line). line_of (tree_of client.root l)) (sym shown)
 
+-- ---- requests on the stream of listeners
+
+-- a target that has a row is found
+pub row_found : (rows held : List Row) (id asked : ℤ) (row : Row) → rows ≡ held → asked ≡ id → IsRow held id row → TellsRow rows asked None → ⊥
+row_found rows held id asked row same back is none = none row (subst (λ (z : ℤ). IsRow rows z row) (sym back) (subst (λ (rs : List Row). IsRow rs id row) (sym same) is))
+
 -- ---- turns
 
 pub done_printed : {client : Kept} {vec : Vec Out Global} {t : LineTurn} (root : Root) (number : ℕ) (text : List ℕ) → (is : IsHeard (Done vec) client t) → text ≡ text_of root is.turn.lines → text ≡ printed root number t
 done_printed root number text is same =
     same ∙ ap (λ (r : Option Refusal). refusal_text number (option_map unheard r) ++ text_of root is.turn.lines) (sym is.outcome.0) ∙ ap (printed root number) (sym is.is)
 
-pub unheard_printed : {client : Kept} {refusal : Refusal} {t : LineTurn} (root : Root) (number : ℕ) (text : List ℕ) → (is : IsHeard (Refused refusal) client t) → text ≡ line_of (unheard_tree number refusal) → text ≡ printed root number t
-unheard_printed {client} {refusal} {t} root number text is same =
-    same ∙ sym (append-nil (line_of (unheard_tree number refusal)))
-    ∙ ap (λ (r : Option Refusal). refusal_text number (option_map unheard r) ++ text_of root []) (sym is.outcome.0)
-    ∙ ap (λ (ls : List Line). refusal_text number (option_map unheard is.turn.refusal) ++ text_of root ls) (sym is.outcome.1)
-    ∙ ap (printed root number) (sym is.is)
+pub refused_printed : {client : Kept} {refusal : Refusal} {vec : Vec Out Global} {t : LineTurn} (root : Root) (number : ℕ) (text : List ℕ) → (is : IsHeard (Refused refusal vec) client t) → text ≡ line_of (unheard_tree number refusal) ++ text_of root is.turn.lines → text ≡ printed root number t
+refused_printed root number text is same =
+    same ∙ ap (λ (r : Option Refusal). refusal_text number (option_map unheard r) ++ text_of root is.turn.lines) (sym is.outcome.0) ∙ ap (printed root number) (sym is.is)
 
 pub unread_printed : {refusal : Unread} {t : LineTurn} (root : Root) (number : ℕ) (text : List ℕ) → t ≡ unread_turn refusal → text ≡ line_of (unread_tree number refusal) → text ≡ printed root number t
 unread_printed {refusal} root number text is same = same ∙ sym (append-nil (line_of (unread_tree number refusal))) ∙ ap (printed root number) (sym is)

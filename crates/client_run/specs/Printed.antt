@@ -1,5 +1,5 @@
 -- What the turn of a line writes: compact JSON, each line with its newline.
-use Rattle.std.specs.Prelude.{ℕ, List, [], ◌++◌, Option, Some, None}
+use Rattle.std.specs.Prelude.{ℕ, List, [], ◌++◌, length, Option, Some, None, option_map}
 use Rattle.std.specs.List.{flat_map}
 use Rattle.serde_json.specs.Data.{Data}
 use Rattle.document_keys.specs.Names.{Root}
@@ -7,12 +7,19 @@ use Rattle.line_printer.specs.Lines as tree
 use Rattle.line_printer.specs.Lines.{line_of}
 use Rattle.line_reader.specs.declared.refusal.Refusal.TheVariants as unread_for
 use Rattle.line_reader.specs.declared.refusal.Refusal.{Refusal as Unread}
+use Rattle.queries.specs.declared.listen_request.ListenRequest.TheVariants.{Add, Remove}
+use Rattle.queries.specs.declared.listen_request.Resume.{Resume}
 use Rattle.queries.specs.declared.raw.QueryRule.{QueryRule}
 use Rattle.queries.specs.declared.raw.QueryRule.TheVariants as rule
 use Rattle.sync_engine.specs.declared.refusal.Refusal.{Refusal}
 use Rattle.sync_engine.specs.declared.refusal.Refusal.TheVariants.{ListenerTaken, NoListener, StreamState, BadMessage, IdsSpent}
-use Rattle.sync_engine.specs.Lines.{Line, wrote, listening, unlistened, document, result, rejected, snapshot, send}
+use Rattle.sync_engine.specs.Lines.{Line, wrote, listening, unlistened, document, result, rejected, error, snapshot, add, remove, send}
+use Rattle.target_cache.specs.declared.row.Held.{Held}
 use Rattle.client_run.specs.Turn.{Cause, unread, unheard, LineTurn}
+
+-- the point from which a target goes on: the token that its row holds, and how many keys
+abbrev pub resume_of : Held → Resume
+resume_of held = record { token = held.token; expected_count = length held.keys }
 
 abbrev pub tree_of : Root → Line → Data
 tree_of root (wrote batch commit) = tree.ok_tree batch commit
@@ -21,7 +28,10 @@ tree_of root (unlistened id commit) = tree.unlistened_tree id commit
 tree_of root (document key found how) = tree.document_tree root key found how
 tree_of root (result batch commit time) = tree.result_tree batch commit time
 tree_of root (rejected batch commit status) = tree.rejected_tree batch commit status
+tree_of root (error id status) = tree.error_tree id status
 tree_of root (snapshot commit read_time told) = tree.snapshot_tree root told.id commit read_time told.raised
+tree_of root (add t row) = tree.send_listen_tree root (Add t row.target (option_map resume_of row.held))
+tree_of root (remove t) = tree.send_listen_tree root (Remove t)
 tree_of root (send request) = tree.send_write_tree root request
 
 -- the bytes of lines, one after another

@@ -1,5 +1,5 @@
 -- What is handed out for a line, before it is printed.
-use Rattle.std.specs.Prelude.{◌≡◌, List, Option}
+use Rattle.std.specs.Prelude.{◌≡◌, List, Option, Some, IfSome}
 use Rattle.std.specs.List.{AllZip}
 use Rattle.host_api.specs.Host.{View}
 use Rattle.record_codec.specs.declared.commit.Commit.{Commit}
@@ -36,17 +36,11 @@ pub record IsTaken (s : State) (past : Past) (reading : Reading) (taken : Taken)
   pub stands : StandsFor client (after s turn.commit) (and_heard s reading turn past)
   pub tells : Tells taken client turn
 
--- a crash finds the state before the line, or the one after its commit
+-- a crash finds the state before the line, or the one after its commit, if it makes one
 pub record MovesLine (s : State) (past : Past) (reading : Reading) (old new : View) : Type 0 where
   pub commit : Option Commit
-  pub commits : CommitsNext s past reading commit
+  pub commits : IfSome commit (λ made. CommitsNext s past reading (Some made))
   pub moves : Moves s (after s commit) old new
-
--- the client stands for something
-pub record IsStanding (client : Kept) : Type 0 where
-  pub state : State
-  pub past : Past
-  pub stands : StandsFor client state past
 
 -- what was handed out is the lines
 abbrev pub AreShown : Kept → List Out → List Line → Type 0

@@ -1,23 +1,25 @@
 //! What a line came to, as text.
 
-ghost use Rattle.std.specs.Prelude.{◌≡◌, List, IfOk};
+ghost use Rattle.std.specs.Prelude.{◌≡◌, List, ◌++◌, IfOk};
 ghost use Rattle.std.specs.String.{string_bytes};
 ghost use Rattle.line_printer.specs.Lines.{document_tree, line_of};
 ghost use Rattle.local_store.specs.Documents.{document_of, standing_of};
+ghost use Rattle.sync_engine.specs.Asking.{IsAddLine};
 ghost use Rattle.sync_engine.specs.Lines.{Line};
+ghost use Rattle.sync_engine.specs.Standing.{IsStanding};
 ghost use Rattle.sync_engine.specs.Telling.{IsRaised, IsSent, IsShown};
 ghost use Rattle.client_run.specs.Printed.{printed, rule_number as rule_number_of, text_of, tree_of, unheard_tree, unread_tree};
-ghost use Rattle.client_run.specs.Taken.{AreShown, IsHeard, IsStanding, Tells};
+ghost use Rattle.client_run.specs.Taken.{AreShown, IsHeard, Tells};
 ghost use Rattle.client_run.specs.Turn.{LineTurn};
 
 use crate::taken::Taken;
 use document_keys::{Database, DocumentKey, NoMemory};
 use line_printer::{
-    print_bad_line, print_bad_message, print_bad_name, print_bad_query, print_bad_writes,
-    print_batch, print_found, print_handshake, print_ids_spent, print_listener_taken,
-    print_listening, print_missing, print_no_listener, print_rejected, print_result,
-    print_snapshot, print_stream_state, print_too_deep, print_too_long, print_unlistened,
-    print_unsupported, print_wrote,
+    print_add_target, print_bad_line, print_bad_message, print_bad_name, print_bad_query,
+    print_bad_writes, print_batch, print_error, print_found, print_handshake, print_ids_spent,
+    print_listener_taken, print_listening, print_missing, print_no_listener, print_rejected,
+    print_remove_target, print_result, print_snapshot, print_stream_state, print_too_deep,
+    print_too_long, print_unlistened, print_unsupported, print_wrote,
 };
 use line_reader::Refusal as Unread;
 use local_store::{LocalStore, documents_are_local};
@@ -124,6 +126,25 @@ fn print_sent(alloc: Global, client: &Client, place: u64) -> Result<String, NoMe
     Ok(line)
 }
 
+/// The request that adds the target of the id, as its row stands.
+fn print_added(alloc: Global, client: &Client, id: i32) -> Result<String, NoMemory>
+    requires { (line : Line) × IsAddLine client.now.store.state id line }
+    ensures { IfOk result (λ text. (line : Line) → IsAddLine client.now.store.state id line
+        → string_bytes text ≡ line_of (tree_of client.now.root line)) }
+{
+    let Some(row) = client.store().targets().row(id) else {
+        unreachable!();
+    };
+    let root = client.root();
+    let Some(held) = &row.held else {
+        let line = print_add_target(alloc, root, id, &row.target, None)?;
+        return Ok(line);
+    };
+    let resume = (held.token.as_slice(), held.keys.len());
+    let line = print_add_target(alloc, root, id, &row.target, Some(resume))?;
+    Ok(line)
+}
+
 /// A line that was handed out.
 fn print_out(alloc: Global, client: &Client, out: &Out) -> Result<String, NoMemory>
     requires standing { IsStanding client.now }
@@ -149,7 +170,10 @@ fn print_out(alloc: Global, client: &Client, out: &Out) -> Result<String, NoMemo
             commit,
             status,
         } => print_rejected(alloc, *batch, *commit, status),
+        Out::Error { id, status } => print_error(alloc, *id, status),
         Out::Raised(id) => print_raised(alloc, client, *id),
+        Out::AddTarget(id) => print_added(alloc, client, *id),
+        Out::RemoveTarget(id) => print_remove_target(alloc, client.root(), *id),
         Out::SendHandshake => print_handshake(alloc, client.root()),
         Out::SendBatch(place) => print_sent(alloc, client, *place),
     }
@@ -170,6 +194,26 @@ fn print_outs(alloc: Global, client: &Client, outs: &[Out]) -> Result<String, No
     Ok(text)
 }
 
+/// The refusal of an event, and behind it the lines that were handed out.
+fn print_refused(
+    alloc: Global,
+    client: &Client,
+    number: u64,
+    refusal: &Refusal,
+    outs: &[Out],
+) -> Result<String, NoMemory>
+    requires standing { IsStanding client.now }
+    requires shown { (lines : List Line) × AreShown client.now outs.now lines }
+    ensures { IfOk result (λ text. (lines : List Line) → AreShown client.now outs.now lines
+        → string_bytes text
+        ≡ line_of (unheard_tree number refusal.now) ++ text_of client.now.root lines) }
+{
+    let mut text = print_unheard(alloc, number, refusal)?;
+    let lines = print_outs(alloc, client, outs)?;
+    text.push_str(lines.as_str())?;
+    Ok(text)
+}
+
 /// What an event came to.
 fn print_outcome(
     alloc: Global,
@@ -184,7 +228,9 @@ fn print_outcome(
 {
     match outcome {
         Outcome::Done(outs) => print_outs(alloc, client, outs.as_slice()),
-        Outcome::Refused(refusal) => print_unheard(alloc, number, refusal),
+        Outcome::Refused(refusal, outs) => {
+            print_refused(alloc, client, number, refusal, outs.as_slice())
+        }
     }
 }
 

@@ -7,7 +7,7 @@ ghost use Rattle.line_reader.specs.Spelled.{IsSpelledReading};
 ghost use Rattle.local_store.specs.State.{State};
 ghost use Rattle.local_store.specs.Store.{IsStored};
 ghost use Rattle.sync_engine.specs.Past.{Past};
-ghost use Rattle.sync_engine.specs.Standing.{IsLive, StandsFor};
+ghost use Rattle.sync_engine.specs.Standing.{IsLive, IsStanding, StandsFor};
 ghost use Rattle.client_run.specs.Taken.{IsTaken, MovesLine};
 
 use crate::turn_fault::TurnFault;
@@ -34,6 +34,7 @@ pub fn take<H: Host>(
 ) -> Result<Taken, TurnFault>
     requires stored { IsTrue H.tells_files → IsStored client.old.store (H.view host.old) }
     requires live { IsLive client.old }
+    requires standing { IsStanding client.old }
     requires spelled { IsSpelledReading reading }
     ensures turn { IfOk result (λ taken. (s : State) (past : Past) → StandsFor client.old s past
         → IsTaken s past reading taken client.new) }

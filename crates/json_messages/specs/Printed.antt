@@ -1,6 +1,7 @@
 -- The printed form of requests and statuses: one tree for each. Texts and tokens that are empty are left out, and so is a code
 -- that is 0.
-use Rattle.std.specs.Prelude.{ℕ, ℤ, zero, suc, List, [], ◌∷◌, codes, Option, Some, None, nat_lt, option_and_then, if◌then◌else◌}
+use Rattle.std.specs.Prelude.{ℕ, ℤ, zero, suc, List, [], ◌∷◌, codes, Option, Some, None, nat_lt, option_and_then, option_map, if◌then◌else◌}
+use Rattle.std.specs.Borrow.{Bor}
 use Rattle.serde_json.specs.Data.{Data as Json, number, unsigned, string, object}
 use Rattle.serde_json.specs.Find.{as_object, get_member, of_integer}
 use Rattle.document_keys.specs.Names.{Root, root_text}
@@ -38,6 +39,10 @@ abbrev pub printed_status : RpcStatus → Json
 printed_status status = object (present ((codes "code", unless_zero status.code) ∷ (codes "message", text_unless_empty status.message) ∷ []))
 
 -- ---- requests on a watch stream
+
+-- the point of a token that is lent and a number of documents
+abbrev pub lent_point : Option (Bor (List ℕ) × ℕ) → Option Resume
+lent_point lent = option_map (λ p. record { token = p.0.now; expected_count = p.1 }) lent
 
 -- the token of a point
 abbrev pub point_token : Option Resume → Option Json

@@ -7,7 +7,8 @@ ghost use Rattle.serde_json.specs.View.{view, members_view};
 ghost use Rattle.serde_json.specs.Written.{has_float};
 ghost use Rattle.document_keys.specs.Names.{root_text};
 ghost use Rattle.json_queries.specs.Printed.{target_tree};
-ghost use Rattle.json_messages.specs.Printed.{added_target, point_count, point_token, printed_listen_request};
+ghost use Rattle.json_messages.specs.Printed.{added_target, lent_point, point_count, point_token, printed_listen_request};
+ghost use Rattle.queries.specs.declared.listen_request.ListenRequest.TheVariants.{Add};
 
 use crate::parts::token_tree;
 use document_keys::{Database, NoMemory};
@@ -17,12 +18,23 @@ use queries::{ListenRequest, Resume, Target};
 use serde_json::{Map, Number, Value as Json};
 use std::alloc::Global;
 
-/// The token of a point.
-fn point_token_tree(alloc: Global, point: &Option<Resume>) -> Result<Option<Json>, NoMemory>
-    ensures { IfOk result (λ found. option_map view found ≡ point_token point.now) }
+/// The point, lent as its token and its number of documents.
+fn lent(point: &Option<Resume>) -> Option<(&[u8], u64)>
+    ensures { lent_point result ≡ point.now }
 {
     match point {
-        Some(point) => token_tree(alloc, point.token.as_slice()),
+        Some(point) => Some((point.token.as_slice(), point.expected_count)),
+        None => None,
+    }
+}
+
+/// The token of a point.
+fn point_token_tree(alloc: Global, point: Option<(&[u8], u64)>) -> Result<Option<Json>, NoMemory>
+    ensures { IfOk result (λ found. option_map view found
+        ≡ point_token (lent_point point.entry)) }
+{
+    match point {
+        Some((token, _)) => token_tree(alloc, token),
         None => Ok(None),
     }
 }
@@ -31,16 +43,16 @@ fn point_token_tree(alloc: Global, point: &Option<Resume>) -> Result<Option<Json
 const MAX_COUNT: u64 = 2_147_483_647;
 
 /// The number of documents that the target had at a point.
-fn point_count_tree(point: &Option<Resume>) -> Option<Json>
-    ensures { option_map view result ≡ point_count point.now }
+fn point_count_tree(point: Option<(&[u8], u64)>) -> Option<Json>
+    ensures { option_map view result ≡ point_count (lent_point point.entry) }
 {
-    let Some(point) = point else {
+    let Some((_, expected_count)) = point else {
         return None;
     };
-    if point.expected_count > MAX_COUNT {
+    if expected_count > MAX_COUNT {
         return None;
     }
-    Some(Json::Number(Number::from(point.expected_count)))
+    Some(Json::Number(Number::from(expected_count)))
 }
 
 /// The id of a target.
@@ -70,9 +82,10 @@ fn print_added_target(
     root: &Database,
     id: i32,
     target: &Target,
-    point: &Option<Resume>,
+    point: Option<(&[u8], u64)>,
 ) -> Result<Json, NoMemory>
-    ensures { IfOk result (λ json. view json ≡ added_target root.now id target.now point.now) }
+    ensures { IfOk result (λ json. view json
+        ≡ added_target root.now id target.now (lent_point point.entry)) }
 {
     let mut members = print_target_members(alloc, root, target)?;
     put_given(
@@ -102,14 +115,48 @@ fn request_tree(alloc: Global, root: &Database, name: &str, request: Json) -> Re
     Ok(Json::Object(members))
 }
 
+/// The tree of a request that adds a target.
+fn print_added_tree(
+    alloc: Global,
+    root: &Database,
+    id: i32,
+    target: &Target,
+    point: Option<(&[u8], u64)>,
+) -> Result<Json, NoMemory>
+    ensures { IfOk result (λ json. view json
+        ≡ printed_listen_request root.now (Add id target.now (lent_point point.entry))) }
+{
+    let added = print_added_target(alloc, root, id, target, point)?;
+    request_tree(alloc, root, "addTarget", added)
+}
+
+/// The tree of a request that adds a target under the id, from the point if there is one: its token
+/// and the number of documents that the target had then. The names of documents stand under the
+/// root. It has no floats.
+///
+/// # Errors
+/// `NoMemory`
+pub fn print_add_request(
+    alloc: Global,
+    root: &Database,
+    id: i32,
+    target: &Target,
+    resume: Option<(&[u8], u64)>,
+) -> Result<Json, NoMemory>
+    ensures tree { IfOk result (λ json. view json
+        ≡ printed_listen_request root.now (Add id target.now (lent_point resume.entry))) }
+    ensures digits { IfOk result (λ json. has_float (view json) ≡ false) }
+{
+    print_added_tree(alloc, root, id, target, resume)
+}
+
 /// The tree of a request.
 fn print_tree(alloc: Global, root: &Database, request: &ListenRequest) -> Result<Json, NoMemory>
     ensures { IfOk result (λ json. view json ≡ printed_listen_request root.now request.now) }
 {
     match request {
         ListenRequest::Add { id, target, resume } => {
-            let added = print_added_target(alloc, root, *id, target, resume)?;
-            request_tree(alloc, root, "addTarget", added)
+            print_add_request(alloc, root, *id, target, lent(resume))
         }
         ListenRequest::Remove { id } => request_tree(alloc, root, "removeTarget", id_tree(*id)),
     }

@@ -1,9 +1,11 @@
 pub mod Answered
 pub mod Breaks
 pub mod Documents
+pub mod Lexed
+pub mod Members
+pub mod Numerals
 pub mod Outcomes
 pub mod Parsed
-pub mod Requests
 pub mod Rows
 pub mod Snapshots
 pub mod Streams

@@ -16,7 +16,7 @@ use Rattle.line_printer.specs.Lines.{count, time_tree, result_tree, rejected_tre
 use Rattle.line_printer.specs.Reported.{IsReporting, ReportsWithin, ResultReports, RejectedReports}
 use Rattle.line_printer.proofs.Answered.{has_own}
 use Rattle.line_printer.proofs.Parsed.{IsLoud, within_commit, reports_commit}
-use Rattle.line_printer.proofs.Requests.{IsNumbered, rows_numbers}
+use Rattle.line_printer.proofs.Members.{IsNumbered, rows_numbers}
 
 -- ---- a batch that was committed
 

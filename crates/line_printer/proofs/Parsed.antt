@@ -1,6 +1,7 @@
 -- The lines that are printed, as a reader of JSON takes them, and the commits that they report.
-use Rattle.std.proofs.Common.{◌≡◌, ◌⊎◌, inl, inr, ℕ, ◌≤◌, List, [], ◌∷◌, Option, Some, None, refl, sym, ap, ◌∙◌, arith, append-nil}
+use Rattle.std.proofs.Common.{◌≡◌, ◌⊎◌, inl, inr, ℕ, false, ◌≤◌, IsTrue, List, [], ◌∷◌, Option, Some, None, refl, sym, ap, ◌∙◌, arith, append-nil}
 use Rattle.std.specs.Prelude.{option_and_then, option_map}
+use Rattle.std.proofs.lemmas.Bool.{or_from}
 use Rattle.json.specs.Token.{Token}
 use Rattle.json.specs.Lex.{tokens}
 use Rattle.json.specs.Json.{Json, value, if_last}
@@ -8,13 +9,15 @@ use Rattle.json.specs.Tree.{json_tokens, depth, HasNumbers}
 use Rattle.json.proofs.Found.{one_reading, not_found, Some_inj}
 use Rattle.json.proofs.Printed.Tokens.{tokens-print}
 use Rattle.json.proofs.Printed.Trees.{value-json_tokens, ArePrintable-json_tokens}
+use Rattle.json.proofs.Unique.Spelling.{value-json_tokens_back}
 use Rattle.serde_json.specs.Data.{Data, object, no_members, member}
 use Rattle.serde_json.specs.Find.{get}
 use Rattle.serde_json.specs.Read.{read, of_json, max_depth}
-use Rattle.serde_json.specs.Written.{outline, compact_text}
+use Rattle.serde_json.specs.Written.{outline, compact_text, has_float}
 use Rattle.serde_json.proofs.Texts.{print-outline}
 use Rattle.line_printer.specs.Trees.{one}
 use Rattle.line_printer.specs.Reported.{IsReporting, Reports, ReportsWithin, reported_in, commit_in, ALineReportsOnce}
+use Rattle.line_printer.proofs.Lexed.{has_bad, none_bad, printed_or_faulty}
 
 -- the tokens of a text that was printed
 printed_tokens : (d : Data) → HasNumbers (outline d) → tokens (compact_text d) ≡ json_tokens (outline d)
@@ -34,13 +37,29 @@ whole_of (Some (j, t ∷ ts)) e is = not_found e is
 outline_read : (d : Data) → value (depth (outline d)) (json_tokens (outline d)) ≡ Some (outline d, [])
 outline_read d = ap (value (depth (outline d))) (sym (append-nil (json_tokens (outline d)))) ∙ value-json_tokens (outline d) (depth (outline d)) [] (omega arith)
 
+-- a text with the tokens of a tree is read as what that stands for, if it is read
+read_tokens : (d e : Data) → tokens (compact_text d) ≡ json_tokens (outline d) → read (compact_text d) ≡ Some e → of_json (outline d) ≡ Some e
+read_tokens d e same is =
+    let whole = whole_of (value max_depth (tokens (compact_text d))) e is in
+    let all : value max_depth (json_tokens (outline d)) ≡ Some (whole.json, []) = ap (value max_depth) (sym same) ∙ whole.all in
+    let one : (whole.json, []) ≡ (outline d, []) = Some_inj _ _ (one_reading max_depth (depth (outline d)) (json_tokens (outline d)) (whole.json, []) (outline d, []) all (outline_read d)) in
+    ap (λ (p : Json × List Token). of_json p.0) (sym one) ∙ whole.is
+
 -- a printed text is read as what its outline stands for, if it is read
 read_printed : (d e : Data) → HasNumbers (outline d) → read (compact_text d) ≡ Some e → of_json (outline d) ≡ Some e
-read_printed d e numbers is =
-    let whole = whole_of (value max_depth (tokens (compact_text d))) e is in
-    let all : value max_depth (json_tokens (outline d)) ≡ Some (whole.json, []) = ap (value max_depth) (sym (printed_tokens d numbers)) ∙ whole.all in
-    let same : (whole.json, []) ≡ (outline d, []) = Some_inj _ _ (one_reading max_depth (depth (outline d)) (json_tokens (outline d)) (whole.json, []) (outline d, []) all (outline_read d)) in
-    ap (λ (p : Json × List Token). of_json p.0) (sym same) ∙ whole.is
+read_printed d e numbers = read_tokens d e (printed_tokens d numbers)
+
+-- the same of a tree without floats, however large its numbers are
+read_floatless : (d e : Data) → has_float d ≡ false → read (compact_text d) ≡ Some e → of_json (outline d) ≡ Some e
+read_floatless d e floatless is = by (printed_or_faulty d floatless)
+  where
+    by : (tokens (compact_text d) ≡ json_tokens (outline d)) ⊎ IsTrue (has_bad (tokens (compact_text d))) → of_json (outline d) ≡ Some e
+    by (inl same) = read_tokens d e same is
+    by (inr faulty) =
+        let found = whole_of (value max_depth (tokens (compact_text d))) e is in
+        let back = value-json_tokens_back max_depth (tokens (compact_text d)) [] found.json found.all in
+        let never = sym faulty ∙ ap has_bad (back ∙ append-nil (json_tokens found.json)) ∙ none_bad found.json in
+        cc
 
 printed_read : (d e : Data) → HasNumbers (outline d) → depth (outline d) ≤ max_depth → of_json (outline d) ≡ Some e → read (compact_text d) ≡ Some e
 printed_read d e numbers shallow is =
@@ -73,11 +92,17 @@ abbrev pub IsLoud : List ℕ → Type 0
 IsLoud name = (reporting : List ℕ) → IsReporting reporting → (e : Data) → (get reporting (one name e) ≡ None) ⊎ (get reporting (one name e) ≡ Some e)
 
 -- an object with one member, where that reports nothing
-pub no_report : (name : List ℕ) (d : Data) → HasNumbers (outline d) → IsQuiet name → (n : ℕ) → Reports (compact_text (one name d)) n → ⊥
-no_report name d numbers quiet n it =
-    let e = of_one name (of_json (outline d)) it.tree (read_printed (one name d) it.tree (numbers, tt) it.is_json) in
+quiet_read : (name : List ℕ) (d : Data) → ((e : Data) → read (compact_text (one name d)) ≡ Some e → of_json (outline (one name d)) ≡ Some e) → IsQuiet name → (n : ℕ) → Reports (compact_text (one name d)) n → ⊥
+quiet_read name d reads quiet n it =
+    let e = of_one name (of_json (outline d)) it.tree (reads it.tree it.is_json) in
     let none : reported_in it.name it.tree ≡ None = ap (reported_in it.name) (sym e.is) ∙ ap (option_and_then commit_in) (quiet it.name it.reporting e.inner) in
     not_found n (sym none ∙ it.is)
+
+pub no_report : (name : List ℕ) (d : Data) → HasNumbers (outline d) → IsQuiet name → (n : ℕ) → Reports (compact_text (one name d)) n → ⊥
+no_report name d numbers = quiet_read name d (λ e. read_printed (one name d) e (numbers, tt))
+
+pub no_report_floatless : (name : List ℕ) (d : Data) → has_float d ≡ false → IsQuiet name → (n : ℕ) → Reports (compact_text (one name d)) n → ⊥
+no_report_floatless name d floatless = quiet_read name d (λ e. read_floatless (one name d) e (or_from (has_float d) false floatless refl))
 
 -- the tree is read as objects with this commit, if it is read
 abbrev pub HasCommit : Data → ℕ → Type 0

@@ -1,12 +1,12 @@
 -- Outputs of whole lines that report no number above one, for each line that is printed.
-use Rattle.std.proofs.Common.{◌≡◌, ℕ, ℤ, ◌<◌, ◌≤◌, ◌^◌, List, [], ◌++◌, codes, Option, Some, None, refl, sym, ap, subst, ◌∙◌, arith}
+use Rattle.std.proofs.Common.{◌≡◌, ℕ, ℤ, ◌<◌, ◌≤◌, ◌^◌, false, List, [], ◌++◌, codes, Option, Some, None, refl, sym, ap, subst, ◌∙◌, arith}
 use Rattle.std.specs.Prelude.{nat_abs}
 use Rattle.std.specs.List.{All}
 use Rattle.std.proofs.lemmas.List.Elements.{All-nil, All-cons, All-append}
 use Rattle.json.specs.Tree.{HasNumbers}
 use Rattle.json.proofs.Printed.Decimals.{IsNumber-decimal}
 use Rattle.serde_json.specs.Data as json
-use Rattle.serde_json.specs.Written.{outline, compact_text}
+use Rattle.serde_json.specs.Written.{outline, compact_text, has_float}
 use Rattle.document_keys.specs.Names.{Root, name_text}
 use Rattle.value_model.specs.declared.document.DocState.{DocState}
 use Rattle.value_model.specs.declared.document.Document.{Document}
@@ -19,7 +19,7 @@ use Rattle.line_printer.specs.Reported.{IsReporting, ReportsWithin, ReportedWith
 use Rattle.line_printer.proofs.Answered.{ok_within as ok_reports_within, listening_within as listening_reports_within, unlistened_within as unlistened_reports_within}
 use Rattle.line_printer.proofs.Breaks.{open_on, lines_append, open_append, one_line, nothing_open}
 use Rattle.line_printer.proofs.Documents.{existing_numbers}
-use Rattle.line_printer.proofs.Parsed.{IsQuiet, no_report}
+use Rattle.line_printer.proofs.Parsed.{IsQuiet, no_report, no_report_floatless}
 use Rattle.line_printer.proofs.Snapshots.{snapshot_within as snapshot_reports_within}
 
 -- whole lines that report no number above this one
@@ -62,6 +62,10 @@ line_within most d within = record {
 -- an object with one member that reports nothing
 pub quiet_within : (most : ℕ) (name : List ℕ) (d : json.Data) → HasNumbers (outline d) → IsQuiet name → IsWithin most (line_of (one name d))
 quiet_within most name d numbers quiet = line_within most (one name d) (λ n reports. absurd (no_report name d numbers quiet n reports))
+
+-- the same, however large its numbers are
+pub quiet_floatless_within : (most : ℕ) (name : List ℕ) (d : json.Data) → has_float d ≡ false → IsQuiet name → IsWithin most (line_of (one name d))
+quiet_floatless_within most name d floatless quiet = line_within most (one name d) (λ n reports. absurd (no_report_floatless name d floatless quiet n reports))
 
 -- ---- answers and snapshots
 

@@ -17,8 +17,9 @@ use Rattle.json_model.specs.Forms.{present, printed_each}
 use Rattle.json_model.specs.Printed.{document_tree as body_tree, printed_document, state_text}
 use Rattle.json_model.specs.declared.fault.NamingFault.{NamingFault}
 use Rattle.json_model.specs.declared.fault.NamingFault.TheVariants.{WrongRoot, BadSegment, OddLength, BadPath, ReservedField}
-use Rattle.json_messages.specs.Printed.{printed_status, printed_write_request}
+use Rattle.json_messages.specs.Printed.{printed_listen_request, printed_status, printed_write_request}
 use Rattle.mutations.specs.declared.results.WriteRequest.{WriteRequest}
+use Rattle.queries.specs.declared.listen_request.ListenRequest.{ListenRequest}
 use Rattle.views.specs.Row.{Row}
 use Rattle.views.specs.declared.change.Change.{Change}
 use Rattle.views.specs.declared.change.Kind.{Kind}
@@ -141,6 +142,18 @@ rejected_tree batch commit status =
 abbrev pub send_write_tree : Root → WriteRequest → Data
 send_write_tree root request =
     one (codes "send") (one (codes "write") (printed_write_request root request))
+
+-- ---- the stream of listeners: what is sent, and why a listener was removed
+
+-- `{"send":{"listen":{..}}}`
+abbrev pub send_listen_tree : Root → ListenRequest → Data
+send_listen_tree root request =
+    one (codes "send") (one (codes "listen") (printed_listen_request root request))
+
+-- `{"error":{"id":I,"status":{..}}}`
+abbrev pub error_tree : ℕ → RpcStatus → Data
+error_tree id status =
+    one (codes "error") (two (codes "id") (count id) (codes "status") (printed_status status))
 
 -- ---- refusals, each with the number of its line in the run, from 1
 

@@ -1,9 +1,9 @@
 //! The lines that a run writes: compact JSON with its newline.
 //!
 //! One function prints each line, from its parts: the answers of a write, of a listen and of an unlisten (`answer`), a document
-//! (`document`), a snapshot of a listener (`snapshot`), the requests and results of the stream of writes (`writing`) and the
-//! refusals (`refusal`). `specs/Lines.antt` has the tree of each line, and `line_of` its bytes. `specs/Reported.antt` says which
-//! numbers of commits an output reports.
+//! (`document`), a snapshot of a listener (`snapshot`), the requests and results of the stream of writes (`writing`), the requests and
+//! errors of the stream of listeners (`watching`) and the refusals (`refusal`). `specs/Lines.antt` has the tree of each line, and
+//! `line_of` its bytes. `specs/Reported.antt` says which numbers of commits an output reports.
 #![tactic(auto)]
 
 mod answer;
@@ -12,6 +12,7 @@ mod laws;
 mod line;
 mod refusal;
 mod snapshot;
+mod watching;
 mod writing;
 
 pub use answer::{print_listening, print_unlistened, print_wrote};
@@ -23,4 +24,5 @@ pub use refusal::{
     print_too_long, print_unsupported,
 };
 pub use snapshot::print_snapshot;
+pub use watching::{print_add_target, print_error, print_remove_target};
 pub use writing::{print_batch, print_handshake, print_rejected, print_result};

@@ -5,7 +5,6 @@ use Rattle.host_api.specs.Items.{Bytes}
 use Rattle.serde_json.specs.Data.{Data}
 use Rattle.json_model.specs.declared.fault.JsonFault.{JsonFault}
 use Rattle.json_model.specs.Faults.{IsFault}
-use Rattle.json_messages.specs.Faults.{WriteResponseFaults}
 use Rattle.line_reader.specs.Faults.{LineFaults}
 use Rattle.line_reader.specs.Grammar.{IsBadMessage, member_of}
 use Rattle.line_reader.specs.Reading.{IsJson, Reads, refusal_of, a_fault}
@@ -24,6 +23,6 @@ counts_of (Line e) is = tt
 counts_of (Refused refusal) is = is
 
 -- the member of the first fault of a message
-pub bad_message : (root : Root) (d : Data) (fault : JsonFault) (member : List ℕ) → IsFault (WriteResponseFaults root d) fault → member_of fault ≡ Some member → IsBadMessage root d member
-bad_message root d fault member (inl memory) told = let e : None ≡ Some member = ap member_of (sym memory) ∙ told in cc
-bad_message root d fault member (inr first) told = record { fault = fault; first = first; told = told }
+pub bad_message : (Faults : List JsonFault → Type 0) (fault : JsonFault) (member : List ℕ) → IsFault Faults fault → member_of fault ≡ Some member → IsBadMessage Faults member
+bad_message Faults fault member (inl memory) told = let e : None ≡ Some member = ap member_of (sym memory) ∙ told in cc
+bad_message Faults fault member (inr first) told = record { fault = fault; first = first; told = told }

@@ -22,18 +22,18 @@ use Rattle.json_model.proofs.Once.{time_once, whole_once}
 use Rattle.json_model.proofs.OneLeaf.{IsOne}
 use Rattle.json_model.proofs.OneList.{faults_one}
 use Rattle.json_model.proofs.OneName.{spells_name_one}
-use Rattle.mutations.specs.declared.results.WriteResponse.{WriteResponse}
 use Rattle.mutations.specs.declared.write.Write.{Write}
 use Rattle.json_rpc.specs.Grammar.{SpellsWrite}
 use Rattle.json_rpc.proofs.Once.{write_once}
 use Rattle.queries.specs.declared.raw.RawQuery.{RawQuery}
 use Rattle.json_queries.specs.Grammar.{SpellsQuery}
 use Rattle.json_queries.proofs.Once.{query_once}
-use Rattle.json_messages.specs.Faults.{sent, WriteResponseFaults}
-use Rattle.json_messages.proofs.Once.{answer_once, status_once}
+use Rattle.json_messages.specs.Faults.{sent, ListenFaults, WriteResponseFaults}
+use Rattle.json_messages.specs.Grammar.{SpellsListenResponse, SpellsWriteResponse}
+use Rattle.json_messages.proofs.Once.{answer_once, response_once, status_once}
 use Rattle.client_events.specs.declared.event.Event.TheVariants as event
 use Rattle.line_reader.specs.Faults.{LineFaults, caller}
-use Rattle.line_reader.specs.Grammar.{SpellsWriteLine, SpellsGetLine, SpellsListenerId, SpellsListenLine, SpellsUnlistenLine, SpellsOpenLine, SpellsClosingStatus, SpellsCloseLine, SpellsMessage, IsBadMessage, SpellsNamed, Spells, member_of, stream_text}
+use Rattle.line_reader.specs.Grammar.{SpellsWriteLine, SpellsGetLine, SpellsListenerId, SpellsListenLine, SpellsUnlistenLine, SpellsOpenLine, SpellsClosingStatus, SpellsCloseLine, IsGoodMessage, IsBadMessage, SpellsNamed, Spells, member_of, stream_text}
 use Rattle.line_reader.specs.Reading.{IsJson, Reads, IsListenerReading, IsReadingOf, refusal_of, too_long, no_json, a_fault, no_fault}
 use Rattle.line_reader.specs.declared.raw_event.RawEvent.{RawEvent}
 use Rattle.line_reader.specs.declared.raw_event.RawEvent.TheVariants as raw
@@ -121,18 +121,24 @@ close_line_once ms a b first second =
     let statuses = closing_status_once (given (codes "status") ms) a.1 b.1 first.why second.why in
     λ i. (names i, statuses i)
 
-one_message : (root : Root) (d : Data) → IsOne (WriteResponseFaults root d)
-one_message root d a b first second = faults_one (sent root) max_nesting (place.Object object.WriteResponse) (codes "written") d a b first second
+-- ---- messages
 
-bad_message_once : (root : Root) (d : Data) → IsOnce (IsBadMessage root d)
-bad_message_once root d a b first second =
-    let faults : Some first.fault ≡ Some second.fault = first_one (WriteResponseFaults root d) (one_message root d) (Some first.fault) (Some second.fault) first.first second.first in
+listen_one : (root : Root) (d : Data) → IsOne (ListenFaults root d)
+listen_one root d a b first second = faults_one (sent root) max_nesting (place.Object object.ListenResponse) (codes "watch") d a b first second
+
+write_one : (root : Root) (d : Data) → IsOne (WriteResponseFaults root d)
+write_one root d a b first second = faults_one (sent root) max_nesting (place.Object object.WriteResponse) (codes "written") d a b first second
+
+-- the first fault of a message is told by one member
+bad_message_once : (Faults : List JsonFault → Type 0) → IsOne Faults → IsOnce (IsBadMessage Faults)
+bad_message_once Faults one a b first second =
+    let faults : Some first.fault ≡ Some second.fault = first_one Faults one (Some first.fault) (Some second.fault) first.first second.first in
     let same : first.fault ≡ second.fault = cc in
     some_one (member_of second.fault) a b (ap member_of (sym same) ∙ first.told) second.told
 
 -- a message with faults is none without
-no_message : (root : Root) (d : Data) (response : WriteResponse) (member : List ℕ) → SpellsMessage root d response → IsBadMessage root d member → ⊥
-no_message root d response member good bad = none_first (WriteResponseFaults root d) (one_message root d) bad.fault good.clean bad.first
+no_message : {X : Type 0} (Faults : List JsonFault → Type 0) (Spells : X → Type 0) → IsOne Faults → (message : X) (member : List ℕ) → IsGoodMessage Faults Spells message → IsBadMessage Faults member → ⊥
+no_message {X} Faults Spells one message member good bad = none_first Faults one bad.fault good.clean bad.first
 
 -- ---- lines
 
@@ -144,9 +150,10 @@ line_name (raw.Listen id query) = codes "listen"
 line_name (raw.Unlisten id) = codes "unlisten"
 line_name (raw.Opened name) = codes "open"
 line_name (raw.Closed name status) = codes "close"
-line_name (raw.Written response) = codes "written"
+line_name (raw.Watch message) = codes "watch"
+line_name (raw.BadWatch member) = codes "watch"
+line_name (raw.Written message) = codes "written"
 line_name (raw.BadWritten member) = codes "written"
-line_name raw.Watched = codes "watch"
 line_name raw.Timer = codes "timer"
 
 named : (root : Root) (name : List ℕ) (d : Data) (e : RawEvent) → SpellsNamed root name d e → name ≡ line_name e
@@ -156,10 +163,11 @@ named root name d (raw.Listen id query) spelled = spelled.0
 named root name d (raw.Unlisten id) spelled = spelled.0
 named root name d (raw.Opened of) spelled = spelled.0
 named root name d (raw.Closed of status) spelled = spelled.0
-named root name d (raw.Written response) spelled = spelled.0
+named root name d (raw.Watch message) spelled = spelled.0
+named root name d (raw.BadWatch member) spelled = spelled.0
+named root name d (raw.Written message) spelled = spelled.0
 named root name d (raw.BadWritten member) spelled = spelled.0
-named root name d raw.Watched spelled = spelled
-named root name d raw.Timer spelled = spelled
+named root name d raw.Timer spelled = spelled.0
 
 apart : (a b : List ℕ) → bytes_eq a b ≡ false → a ≡ b → ⊥
 apart a b unlike is = let yes_is : bytes_eq a b ≡ true = (bytes_eq-Decides a b).1 is in cc
@@ -177,11 +185,14 @@ named_once root name d (raw.Opened a) (raw.Opened b) first second = ap raw.Opene
 named_once root name d (raw.Closed of a) (raw.Closed other b) first second =
     let same = object_once d (λ ms (x : Closing). SpellsCloseLine ms x.0 x.1) close_line_once (of, a) (other, b) first.1 second.1 in
     λ i. raw.Closed (same i).0 (same i).1
+named_once root name d (raw.Watch a) (raw.Watch b) first second = ap raw.Watch (response_once root d a b first.1.spells second.1.spells)
+named_once root name d (raw.Watch a) (raw.BadWatch b) first second = absurd (no_message (ListenFaults root d) (SpellsListenResponse root d) (listen_one root d) a b first.1 second.1)
+named_once root name d (raw.BadWatch a) (raw.Watch b) first second = absurd (no_message (ListenFaults root d) (SpellsListenResponse root d) (listen_one root d) b a second.1 first.1)
+named_once root name d (raw.BadWatch a) (raw.BadWatch b) first second = ap raw.BadWatch (bad_message_once (ListenFaults root d) (listen_one root d) a b first.1 second.1)
 named_once root name d (raw.Written a) (raw.Written b) first second = ap raw.Written (answer_once d a b first.1.spells second.1.spells)
-named_once root name d (raw.Written a) (raw.BadWritten b) first second = absurd (no_message root d a b first.1 second.1)
-named_once root name d (raw.BadWritten a) (raw.Written b) first second = absurd (no_message root d b a second.1 first.1)
-named_once root name d (raw.BadWritten a) (raw.BadWritten b) first second = ap raw.BadWritten (bad_message_once root d a b first.1 second.1)
-named_once root name d raw.Watched raw.Watched first second = refl
+named_once root name d (raw.Written a) (raw.BadWritten b) first second = absurd (no_message (WriteResponseFaults root d) (SpellsWriteResponse d) (write_one root d) a b first.1 second.1)
+named_once root name d (raw.BadWritten a) (raw.Written b) first second = absurd (no_message (WriteResponseFaults root d) (SpellsWriteResponse d) (write_one root d) b a second.1 first.1)
+named_once root name d (raw.BadWritten a) (raw.BadWritten b) first second = ap raw.BadWritten (bad_message_once (WriteResponseFaults root d) (write_one root d) a b first.1 second.1)
 named_once root name d raw.Timer raw.Timer first second = refl
 named_once root name d a b first second = absurd (apart (line_name a) (line_name b) refl (sym (named root name d a first) ∙ named root name d b second))
 
@@ -209,9 +220,10 @@ reading_one (raw.Listen id query) a b first second = listener_one id query a b f
 reading_one (raw.Unlisten id) a b first second = first ∙ sym second
 reading_one (raw.Opened name) a b first second = first ∙ sym second
 reading_one (raw.Closed name status) a b first second = first ∙ sym second
-reading_one (raw.Written response) a b first second = first ∙ sym second
+reading_one (raw.Watch message) a b first second = first ∙ sym second
+reading_one (raw.BadWatch member) a b first second = first ∙ sym second
+reading_one (raw.Written message) a b first second = first ∙ sym second
 reading_one (raw.BadWritten member) a b first second = first ∙ sym second
-reading_one raw.Watched a b first second = first ∙ sym second
 reading_one raw.Timer a b first second = first ∙ sym second
 
 -- ---- one reading

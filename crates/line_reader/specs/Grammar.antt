@@ -15,13 +15,12 @@ use Rattle.json_model.specs.Forms.{IsGiven, InObject, ByChoice, SpellsEach}
 use Rattle.json_model.specs.Grammar.{SpellsName, SpellsTime}
 use Rattle.json_model.specs.Members.{given}
 use Rattle.json_model.specs.Numbers.{SpellsUpTo, max_listener_id}
-use Rattle.mutations.specs.declared.results.WriteResponse.{WriteResponse}
 use Rattle.mutations.specs.declared.write.Write.{Write}
 use Rattle.json_rpc.specs.Grammar.{SpellsWrite}
 use Rattle.queries.specs.declared.raw.RawQuery.{RawQuery}
 use Rattle.json_queries.specs.Grammar.{SpellsQuery}
-use Rattle.json_messages.specs.Faults.{WriteResponseFaults}
-use Rattle.json_messages.specs.Grammar.{SpellsStatus, SpellsWriteResponse}
+use Rattle.json_messages.specs.Faults.{ListenFaults, WriteResponseFaults}
+use Rattle.json_messages.specs.Grammar.{SpellsStatus, SpellsListenResponse, SpellsWriteResponse}
 use Rattle.line_reader.specs.declared.raw_event.RawEvent.{RawEvent}
 use Rattle.line_reader.specs.declared.raw_event.RawEvent.TheVariants as raw
 
@@ -70,10 +69,11 @@ pub record SpellsCloseLine (ms : Members) (name : StreamName) (status : RpcStatu
   pub of : SpellsOpenLine ms name
   pub why : SpellsClosingStatus (given (codes "status") ms) status
 
--- what `written` holds, where it has no faults: a message of the stream of writes
-pub record SpellsMessage (root : Root) (d : Data) (response : WriteResponse) : Type 0 where
-  pub clean : WriteResponseFaults root d []
-  pub spells : SpellsWriteResponse d response
+-- a tree with no faults, which spells the message
+pub record IsGoodMessage {X : Type 0} (Faults : List JsonFault → Type 0) (Spells : X → Type 0)
+    (message : X) : Type 0 where
+  pub clean : Faults []
+  pub spells : Spells message
 
 -- the member that a fault of a message is told by; want of memory is no fault of it
 abbrev pub member_of : JsonFault → Option (List ℕ)
@@ -85,17 +85,21 @@ member_of (json_fault.Unsupported member) = Some member
 member_of (json_fault.BadName bad) = Some (codes "name")
 member_of json_fault.NoMemory = None
 
--- what `written` holds, where it has faults: the first of the least kind is told by this member
-pub record IsBadMessage (root : Root) (d : Data) (member : List ℕ) : Type 0 where
+-- a tree with faults, of which the first of the least kind is told by this member
+pub record IsBadMessage (Faults : List JsonFault → Type 0) (member : List ℕ) : Type 0 where
   pub fault : JsonFault
-  pub first : FirstOf (WriteResponseFaults root d) (Some fault)
+  pub first : FirstOf Faults (Some fault)
   pub told : member_of fault ≡ Some member
+
+-- the members of what `timer` holds: the name of the one timer
+abbrev pub SpellsTimerLine : Members → Type 0
+SpellsTimerLine ms = given (codes "name") ms ≡ Some (string (codes "online"))
 
 -- ---- lines
 
 -- What the only member of a line spells, by its name: `{"at":"..","writes":[..]}`, `{"name":".."}`,
--- `{"id":7,"target":{..}}`, `{"id":7}`, `{"stream":"write"}`, `{"status":{..},"stream":"write"}` or
--- a message. What `watch` and `timer` hold is told by none yet.
+-- `{"id":7,"target":{..}}`, `{"id":7}`, `{"stream":"write"}`, `{"status":{..},"stream":"write"}`,
+-- a message of a stream, or `{"name":"online"}`.
 abbrev pub SpellsNamed : Root → List ℕ → Data → RawEvent → Type 0
 SpellsNamed root name d (raw.Write at writes) =
     (name ≡ codes "write") × InObject d (λ ms. SpellsWriteLine root ms at writes)
@@ -109,12 +113,17 @@ SpellsNamed root name d (raw.Opened of) =
     (name ≡ codes "open") × InObject d (λ ms. SpellsOpenLine ms of)
 SpellsNamed root name d (raw.Closed of status) =
     (name ≡ codes "close") × InObject d (λ ms. SpellsCloseLine ms of status)
-SpellsNamed root name d (raw.Written response) =
-    (name ≡ codes "written") × SpellsMessage root d response
+SpellsNamed root name d (raw.Watch message) =
+    (name ≡ codes "watch")
+    × IsGoodMessage (ListenFaults root d) (SpellsListenResponse root d) message
+SpellsNamed root name d (raw.BadWatch member) =
+    (name ≡ codes "watch") × IsBadMessage (ListenFaults root d) member
+SpellsNamed root name d (raw.Written message) =
+    (name ≡ codes "written")
+    × IsGoodMessage (WriteResponseFaults root d) (SpellsWriteResponse d) message
 SpellsNamed root name d (raw.BadWritten member) =
-    (name ≡ codes "written") × IsBadMessage root d member
-SpellsNamed root name d raw.Watched = name ≡ codes "watch"
-SpellsNamed root name d raw.Timer = name ≡ codes "timer"
+    (name ≡ codes "written") × IsBadMessage (WriteResponseFaults root d) member
+SpellsNamed root name d raw.Timer = (name ≡ codes "timer") × InObject d SpellsTimerLine
 
 -- the tree of a line spells the event
 abbrev pub Spells : Root → Data → RawEvent → Type 0

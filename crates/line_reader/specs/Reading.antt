@@ -1,11 +1,10 @@
 -- What an item of a source is: an event, or why it is refused.
-use Rattle.std.specs.Prelude.{◌≡◌, ℕ, List, [], Bool, codes, Option, Some, None, IsUtf8, length, take, nat_lt, not, ◌&&◌, if◌then◌else◌}
+use Rattle.std.specs.Prelude.{◌≡◌, ℕ, List, [], Bool, Option, Some, None, IsUtf8, length, take, nat_lt, not, ◌&&◌, if◌then◌else◌}
 use Rattle.std.specs.List.{AllZip}
 use Rattle.host_api.specs.Items.{Item, Bytes, Overlong}
 use Rattle.serde_json.specs.Data.{Data}
 use Rattle.serde_json.specs.Read.{read}
 use Rattle.document_keys.specs.Names.{Root}
-use Rattle.value_model.specs.declared.message.StreamName.{StreamName}
 use Rattle.value_model.specs.declared.message.StreamName.TheVariants as stream
 use Rattle.value_model.specs.declared.timestamp.Timestamp.{Timestamp}
 use Rattle.json_model.specs.declared.fault.JsonFault.{JsonFault}
@@ -15,7 +14,6 @@ use Rattle.mutations.specs.declared.write.Write.{Write}
 use Rattle.queries.specs.declared.raw.RawQuery.{RawQuery}
 use Rattle.queries.specs.declared.raw.QueryFault.TheVariants as query_fault
 use Rattle.queries.specs.Queried.{IsQueryOf, HasQueryFault}
-use Rattle.client_events.specs.declared.event.Event.{Event}
 use Rattle.client_events.specs.declared.event.Event.TheVariants as event
 use Rattle.client_events.specs.Spelled.{max_writes}
 use Rattle.line_reader.specs.Faults.{LineFaults}
@@ -59,25 +57,20 @@ IsListenerReading id query (Refused (BadQuery rule)) =
     HasQueryFault query (query_fault.BadQuery rule)
 IsListenerReading id query _ = ⊥
 
--- an event of a stream: that of listeners isn't supported yet
-abbrev pub stream_reading : StreamName → Event → Reading
-stream_reading stream.Watch e = Refused (Unsupported (codes "stream"))
-stream_reading stream.Write e = Line e
-
--- What is made of what a line spells: an event, unless it breaks the rules of batches or of queries,
--- or isn't supported yet. A message with faults is an event too.
+-- What is made of what a line spells: an event, unless it breaks the rules of batches or of queries.
+-- A message with faults is an event too.
 abbrev pub IsReadingOf : RawEvent → Reading → Type 0
 IsReadingOf (raw.Write at writes) reading = reading ≡ batch_reading at writes
 IsReadingOf (raw.Get key) reading = reading ≡ Line (event.Get key)
 IsReadingOf (raw.Listen id query) reading = IsListenerReading id query reading
 IsReadingOf (raw.Unlisten id) reading = reading ≡ Line (event.Unlisten id)
-IsReadingOf (raw.Opened name) reading = reading ≡ stream_reading name (event.Opened name)
-IsReadingOf (raw.Closed name status) reading =
-    reading ≡ stream_reading name (event.Closed name status)
-IsReadingOf (raw.Written response) reading = reading ≡ Line (event.Written response)
+IsReadingOf (raw.Opened name) reading = reading ≡ Line (event.Opened name)
+IsReadingOf (raw.Closed name status) reading = reading ≡ Line (event.Closed name status)
+IsReadingOf (raw.Watch message) reading = reading ≡ Line (event.Watch message)
+IsReadingOf (raw.BadWatch member) reading = reading ≡ Line (event.BadMessage stream.Watch member)
+IsReadingOf (raw.Written message) reading = reading ≡ Line (event.Written message)
 IsReadingOf (raw.BadWritten member) reading = reading ≡ Line (event.BadMessage stream.Write member)
-IsReadingOf raw.Watched reading = reading ≡ Refused (Unsupported (codes "watch"))
-IsReadingOf raw.Timer reading = reading ≡ Refused (Unsupported (codes "timer"))
+IsReadingOf raw.Timer reading = reading ≡ Line event.Timer
 
 -- An item has one of these readings: it is too long, it is no JSON, it is JSON with faults, of
 -- which the first of the least kind is answered, or it is JSON without faults, and is what is made

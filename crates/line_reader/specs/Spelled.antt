@@ -5,7 +5,7 @@ use Rattle.value_model.specs.Storable.{IsCountable}
 use Rattle.value_model.specs.Time.{IsMoment}
 use Rattle.json_rpc.specs.Storable.{IsStorableWrite}
 use Rattle.json_queries.specs.Storable.{IsStorableRawQuery}
-use Rattle.json_messages.specs.Storable.{IsStorableAnswer}
+use Rattle.json_messages.specs.Storable.{IsStorableAnswer, IsStorableResponse}
 use Rattle.queries.specs.declared.target.Target.{Target}
 use Rattle.queries.specs.declared.target.Target.TheVariants.{Document, Collection}
 use Rattle.client_events.specs.Spelled.{IsSpelledEvent}
@@ -20,7 +20,8 @@ use Rattle.line_reader.specs.declared.reading.Reading.TheVariants.{Line, Refused
 abbrev pub HoldsStorable : RawEvent → Type 0
 HoldsStorable (raw.Write at writes) = IsMoment at × All IsStorableWrite writes
 HoldsStorable (raw.Listen id query) = IsStorableRawQuery query
-HoldsStorable (raw.Written response) = IsStorableAnswer response
+HoldsStorable (raw.Watch message) = IsStorableResponse message
+HoldsStorable (raw.Written message) = IsStorableAnswer message
 HoldsStorable _ = Unit {0}
 
 -- eight bytes have the number of a query's orders
@@ -38,7 +39,8 @@ abbrev pub HasCounts : Reading → Type 0
 HasCounts (Line e) = Unit {0}
 HasCounts (Refused refusal) = HasCount refusal
 
--- what an event commits has a spelling, and the count of a refusal fits eight bytes
+-- what an event commits, or brings to a later commit, has a spelling, and the count of a refusal fits
+-- eight bytes
 abbrev pub IsSpelledReading : Reading → Type 0
 IsSpelledReading (Line e) = IsSpelledEvent e
 IsSpelledReading (Refused refusal) = HasCount refusal

@@ -2,10 +2,9 @@
 //!
 //! `read_item` takes an item of a source to its `Reading`: the `Event` that it is, or the `Refusal` of one that is none. The
 //! line is read as JSON (`line.rt`). Its tree is taken apart by the tables of `json_model` into a `RawEvent`, or answered by its
-//! first fault (`tree.rt`). A message of the stream of writes that has faults is no bad line: it is an event that tells the
-//! member of the first one. What then breaks the rules of batches or of queries, or speaks of the stream of listeners or of a
-//! timer, which aren't supported yet, is refused last (`raw_event.rt`). Which reading an item has stands in
-//! `specs/Reading.antt`, and `one_reading` says that it has just one.
+//! first fault (`tree.rt`). A message of either stream that has faults is no bad line: it is an event that tells the member of
+//! the first one. What then breaks the rules of batches or of queries is refused last (`raw_event.rt`). Which reading an item has
+//! stands in `specs/Reading.antt`, and `one_reading` says that it has just one.
 #![tactic(auto)]
 
 mod laws;

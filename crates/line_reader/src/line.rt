@@ -43,9 +43,8 @@ fn read_line(alloc: Global, root: &Database, text: &[u8]) -> Result<Reading, NoM
 
 /// What the item that a source gave is: an event, or why it is refused. The refusal is by the first of these that holds: the
 /// line is too long; it isn't JSON in UTF-8, or is JSON with faults, of which the first of the least kind is told; it has no
-/// writes, or too many; its query breaks a rule, of which the least is told; it speaks of the stream of listeners or of a timer,
-/// which aren't supported yet. A message of the stream of writes with faults is an event, which tells the member of the first
-/// of the least kind. What an event commits has a spelling.
+/// writes, or too many; its query breaks a rule, of which the least is told. A message of either stream with faults is an event,
+/// which tells the member of the first of the least kind. What an event commits, or brings to a later commit, has a spelling.
 ///
 /// # Errors
 /// `NoMemory`

@@ -1,10 +1,10 @@
-ghost use Rattle.std.specs.Prelude.{◌≡◌, IfOk, codes};
+ghost use Rattle.std.specs.Prelude.{◌≡◌, IfOk};
 ghost use Rattle.std.specs.List.{All};
 ghost use Rattle.value_model.specs.Time.{IsMoment};
-ghost use Rattle.json_messages.specs.Storable.{IsStorableAnswer};
+ghost use Rattle.json_messages.specs.Storable.{IsStorableAnswer, IsStorableResponse};
 ghost use Rattle.json_queries.specs.Storable.{IsStorableRawQuery};
 ghost use Rattle.json_rpc.specs.Storable.{IsStorableWrite};
-ghost use Rattle.line_reader.specs.Reading.{is_batch as is_batch_of, batch_reading, IsListenerReading, IsReadingOf, stream_reading};
+ghost use Rattle.line_reader.specs.Reading.{is_batch as is_batch_of, batch_reading, IsListenerReading, IsReadingOf};
 ghost use Rattle.line_reader.specs.Spelled.{HasCountedOrders, HoldsStorable, IsSpelledReading};
 
 use crate::reading::Reading;
@@ -14,7 +14,7 @@ use document_keys::{DocumentKey, NoMemory, Text};
 use mutations::{WriteResponse, Writes};
 use queries::{Query, QueryFault, RawQuery, Target};
 use std::alloc::Global;
-use value_model::{RpcStatus, StreamName, Timestamp};
+use value_model::{ListenResponse, RpcStatus, StreamName, Timestamp};
 
 /// What the tree of a line spells, before the rules of batches and of queries are asked.
 #[derive(Debug, Drop)]
@@ -31,13 +31,15 @@ pub enum RawEvent {
     Opened(StreamName),
     /// The stream was closed, with this status.
     Closed(StreamName, RpcStatus),
+    /// A message came on the stream of listeners.
+    Watch(ListenResponse),
+    /// A message came on the stream of listeners that has faults, the first of the least kind in the member of this name.
+    BadWatch(Text),
     /// A message came on the stream of writes.
     Written(WriteResponse),
     /// A message came on the stream of writes that has faults, the first of the least kind in the member of this name.
     BadWritten(Text),
-    /// A message came on the stream of listeners, which isn't supported yet.
-    Watched,
-    /// A timer went off, which isn't supported yet.
+    /// The timer went off.
     Timer,
 }
 
@@ -98,39 +100,25 @@ fn read_end(id: u32) -> Reading
     Reading::Line(Event::Unlisten(id))
 }
 
-/// A line or a stream of that name, which isn't supported yet.
-fn unsupported(alloc: Global, name: &str) -> Result<Reading, NoMemory>
-    ensures is { IfOk result (λ reading. reading ≡ Reading.Refused (Refusal.Unsupported name.now)) }
-    ensures spelled { IfOk result IsSpelledReading }
+/// The stream was closed, with this status.
+fn read_close(name: StreamName, status: RpcStatus) -> Reading
+    ensures is { result ≡ Reading.Line (Event.Closed name status) }
+    ensures spelled { IsSpelledReading result }
 {
-    let member = Text::from_str(alloc, name)?;
-    Ok(Reading::Refused(Refusal::Unsupported(member)))
+    Reading::Line(Event::Closed(name, status))
 }
 
-/// The stream was opened, unless it isn't supported yet.
-fn read_open(alloc: Global, name: StreamName) -> Result<Reading, NoMemory>
-    ensures is { IfOk result (λ reading. reading ≡ stream_reading name (Event.Opened name)) }
-    ensures spelled { IfOk result IsSpelledReading }
+/// A message of the stream of listeners.
+fn read_watch(response: ListenResponse) -> Reading
+    requires { IsStorableResponse response }
+    ensures is { result ≡ Reading.Line (Event.Watch response) }
+    ensures spelled { IsSpelledReading result }
 {
-    match name {
-        StreamName::Watch => unsupported(alloc, "stream"),
-        StreamName::Write => Ok(Reading::Line(Event::Opened(name))),
-    }
-}
-
-/// The stream was closed, unless it isn't supported yet.
-fn read_close(alloc: Global, name: StreamName, status: RpcStatus) -> Result<Reading, NoMemory>
-    ensures is { IfOk result (λ reading. reading ≡ stream_reading name (Event.Closed name status)) }
-    ensures spelled { IfOk result IsSpelledReading }
-{
-    match name {
-        StreamName::Watch => unsupported(alloc, "stream"),
-        StreamName::Write => Ok(Reading::Line(Event::Closed(name, status))),
-    }
+    Reading::Line(Event::Watch(response))
 }
 
 /// A message of the stream of writes.
-fn read_message(response: WriteResponse) -> Reading
+fn read_written(response: WriteResponse) -> Reading
     requires { IsStorableAnswer response }
     ensures is { result ≡ Reading.Line (Event.Written response) }
     ensures spelled { IsSpelledReading result }
@@ -138,16 +126,16 @@ fn read_message(response: WriteResponse) -> Reading
     Reading::Line(Event::Written(response))
 }
 
-/// A message of the stream of writes that has a fault, in that member.
-fn read_bad_message(member: Text) -> Reading
-    ensures is { result ≡ Reading.Line (Event.BadMessage StreamName.Write member) }
+/// A message of the stream that has a fault, in that member.
+fn read_bad_message(name: StreamName, member: Text) -> Reading
+    ensures is { result ≡ Reading.Line (Event.BadMessage name member) }
     ensures spelled { IsSpelledReading result }
 {
-    Reading::Line(Event::BadMessage(StreamName::Write, member))
+    Reading::Line(Event::BadMessage(name, member))
 }
 
 impl RawEvent {
-    /// The event, unless it breaks the rules of batches or of queries, or isn't supported yet.
+    /// The event, unless it breaks the rules of batches or of queries.
     pub(crate) fn read(self, alloc: Global) -> Result<Reading, NoMemory>
         requires { HoldsStorable self }
         ensures is { IfOk result (λ reading. IsReadingOf self reading) }
@@ -158,12 +146,13 @@ impl RawEvent {
             RawEvent::Get(key) => Ok(Reading::Line(Event::Get(key))),
             RawEvent::Listen { id, query } => read_listener(alloc, id, query),
             RawEvent::Unlisten(id) => Ok(read_end(id)),
-            RawEvent::Opened(name) => read_open(alloc, name),
-            RawEvent::Closed(name, status) => read_close(alloc, name, status),
-            RawEvent::Written(response) => Ok(read_message(response)),
-            RawEvent::BadWritten(member) => Ok(read_bad_message(member)),
-            RawEvent::Watched => unsupported(alloc, "watch"),
-            RawEvent::Timer => unsupported(alloc, "timer"),
+            RawEvent::Opened(name) => Ok(Reading::Line(Event::Opened(name))),
+            RawEvent::Closed(name, status) => Ok(read_close(name, status)),
+            RawEvent::Watch(response) => Ok(read_watch(response)),
+            RawEvent::BadWatch(member) => Ok(read_bad_message(StreamName::Watch, member)),
+            RawEvent::Written(response) => Ok(read_written(response)),
+            RawEvent::BadWritten(member) => Ok(read_bad_message(StreamName::Write, member)),
+            RawEvent::Timer => Ok(Reading::Line(Event::Timer)),
         }
     }
 }

@@ -26,7 +26,7 @@ ghost use Rattle.line_reader.specs.Spelled.{HoldsStorable};
 use crate::raw_event::RawEvent;
 use crate::refusal::member_of;
 use document_keys::{Database, NoMemory, Text};
-use json_messages::{clean_status, read_write_response};
+use json_messages::{clean_status, read_listen_response, read_write_response};
 use json_model::{
     Constants, JsonFault, MAX_NESTING, Object, Place, Setting, Side, check, clean_choice,
     clean_constant, clean_listener_id, clean_member, clean_name, clean_object, clean_time,
@@ -231,8 +231,23 @@ fn build_close_line(alloc: Global, setting: &Setting<'_>, json: &Json) -> Result
     Ok(RawEvent::Closed(name, status))
 }
 
-/// What `written` holds, by the backend's side: a message, or the member that its first fault of the least kind is told by.
-fn build_message(alloc: Global, root: &Database, json: &Json) -> Result<RawEvent, NoMemory>
+/// What `watch` holds, by the backend's side: a message, or the member that its first fault of the least kind is told by.
+fn build_watch(alloc: Global, root: &Database, json: &Json) -> Result<RawEvent, NoMemory>
+    ensures event { IfOk result (λ event. SpellsNamed root.now (codes "watch")
+        (view json.now) event) }
+    ensures storable { IfOk result HoldsStorable }
+{
+    match read_listen_response(alloc, root, json) {
+        Ok(response) => Ok(RawEvent::Watch(response)),
+        Err(fault) => {
+            let member = member_of(alloc, fault)?;
+            Ok(RawEvent::BadWatch(member))
+        }
+    }
+}
+
+/// What `written` holds, in the same way.
+fn build_written(alloc: Global, root: &Database, json: &Json) -> Result<RawEvent, NoMemory>
     ensures event { IfOk result (λ event. SpellsNamed root.now (codes "written")
         (view json.now) event) }
     ensures storable { IfOk result HoldsStorable }
@@ -243,6 +258,23 @@ fn build_message(alloc: Global, root: &Database, json: &Json) -> Result<RawEvent
             let member = member_of(alloc, fault)?;
             Ok(RawEvent::BadWritten(member))
         }
+    }
+}
+
+/// What `timer` holds: the name of the one timer.
+#[tactic(auto, unfolding(json_model::specs::Constants::is_timer_name))]
+fn build_timer_line(setting: &Setting<'_>, json: &Json) -> RawEvent
+    requires { IsClean setting.now (places.Object objects.TimerLine) (view json.now) }
+    ensures event { SpellsNamed setting.now.root (codes "timer") (view json.now) result }
+    ensures storable { HoldsStorable result }
+{
+    let members = clean_object(setting, Object::TimerLine, json);
+    let Some(name) = clean_member(setting, Object::TimerLine, members, "name") else {
+        unreachable!();
+    };
+    match clean_constant(setting, Constants::TimerName, name) {
+        "online" => RawEvent::Timer,
+        _ => unreachable!(),
     }
 }
 
@@ -267,9 +299,9 @@ fn build_named(
         "unlisten" => build_unlisten_line(alloc, setting, json),
         "open" => Ok(build_open_line(setting, json)),
         "close" => build_close_line(alloc, setting, json),
-        "written" => build_message(alloc, setting.root, json),
-        "watch" => Ok(RawEvent::Watched),
-        "timer" => Ok(RawEvent::Timer),
+        "watch" => build_watch(alloc, setting.root, json),
+        "written" => build_written(alloc, setting.root, json),
+        "timer" => Ok(build_timer_line(setting, json)),
         _ => unreachable!(),
     }
 }

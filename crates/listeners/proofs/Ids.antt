@@ -9,7 +9,7 @@ use Rattle.listeners.specs.Concerns.{IsConcerned}
 use Rattle.listeners.specs.Ids.{has_id}
 use Rattle.listeners.specs.Table.{Table, is_id}
 
-is_equal : (o : Ordering) → is_eq o ≡ true → o ≡ Equal
+pub is_equal : (o : Ordering) → is_eq o ≡ true → o ≡ Equal
 is_equal Less e = cc
 is_equal Equal e = refl
 is_equal Greater e = cc

@@ -4,7 +4,7 @@ use Rattle.queries.specs.declared.target.Target.{Target}
 use Rattle.queries.specs.declared.target.Target.TheVariants.{Document, Collection}
 use Rattle.views.specs.Viewed.{Viewed}
 use Rattle.listeners.specs.Concerns.{Concerns, IsConcerned}
-use Rattle.listeners.specs.Places.{Index, IsIndexed, KeepsIds, KeepsOtherIds, least_in, place_of, stands_at}
+use Rattle.listeners.specs.Places.{Index, IsIndexed, KeepsOtherIds, least_in, place_of, stands_at}
 use Rattle.listeners.specs.Table.{Table, is_id, viewed}
 use Rattle.listeners.proofs.Ids.{one_id, other_ids}
 
@@ -16,9 +16,6 @@ module _ (old new : Table) (index after : Index) (id : ℕ) (w : Option Viewed) 
       by : (b : Bool) → is_id id q ≡ b → IsTrue (stands_at after (place_of view.target) q)
       by true e = subst (λ x. IsTrue (stands_at after (place_of view.target) x)) (one_id id q e) (stands view (sym (is q ∙ ap (λ b. cond b w (viewed old q)) e) ∙ there))
       by false e = keeps (place_of view.target) q (other_ids id q e) (indexed q view (sym (is q ∙ ap (λ b. cond b w (viewed old q)) e) ∙ there))
-
-pub others_kept : (id : ℕ) (index after : Index) → KeepsIds index after → KeepsOtherIds id index after
-others_kept id index after keeps place q other there = keeps place q there
 
 -- where no id changes, and the id that may have gone is no listener's
 pub indexed_without : (old new : Table) (index after : Index) (id : ℕ) → new ≡ old → viewed old id ≡ None → KeepsOtherIds id index after → IsIndexed old index → IsIndexed new after

@@ -1,6 +1,9 @@
 pub mod Ids
 pub mod Indexed
+pub mod Kept
 pub mod Outcomes
 pub mod Refreshed
 pub mod Settling
 pub mod Standing
+pub mod Tabled
+pub mod Targeted

@@ -1,8 +1,8 @@
 -- views of which nothing more is to be told
-use Rattle.std.proofs.Common.{◌≡◌, ◌∙◌, inl, inr, ◌↔◌, ℕ, ◌<◌, Bool, true, false, List, length, get_or, Option, Some, None, IfSome, refl, sym, ap, subst, arith}
+use Rattle.std.proofs.Common.{◌≡◌, ◌∙◌, inl, inr, ◌↔◌, ℕ, ◌<◌, Bool, true, false, List, ◌∷◌, length, get_or, suc, Option, Some, None, IfSome, refl, sym, ap, subst, arith}
 use Rattle.std.specs.FinMap as map
 use Rattle.std.specs.List.{All, Contains}
-use Rattle.std.specs.Option.{option_map}
+use Rattle.std.specs.Option.{IsSome, option_map}
 use Rattle.std.proofs.lemmas.List.Elements.{Contains-get_or}
 use Rattle.std.proofs.lemmas.List.{get_or-map, length-map}
 use Rattle.document_keys.specs.Names.{Root}
@@ -24,7 +24,7 @@ use Rattle.views.specs.Refresh.{IsOver, Raises, Refreshes, Shows}
 use Rattle.views.specs.Row.{IsPrinted, Prints, Row, keys_of}
 use Rattle.views.specs.Viewed.{Viewed}
 use Rattle.listeners.specs.Concerns.{Concerns}
-use Rattle.listeners.specs.Laws.{IsSettled, RefreshSettles, SettledStays}
+use Rattle.listeners.specs.Laws.{IsSettled, RaisedStaysSettled, RefreshSettles, SettledStays, SettledStaysTouched}
 
 -- what shows the answer and the flag isn't raised again
 shown_again : (documents : DocumentMap) (answer : List (List (List ℕ))) (from_cache may_start : Bool) (shown : Raised)
@@ -73,11 +73,21 @@ concerned (Document wanted) root key fields matches = matches
 concerned (Collection target) root key fields matches = matches.inside
 
 module _ {X : Type 0} where
+  -- a member of the rest is one
+  later : (x : X) (xs : List X) (z : X) → Contains xs z → Contains (x ∷ xs) z
+  later x xs z (k, inside, is) = (suc k, omega (arith, inside), is)
+
   -- the same is picked by what holds of the same
   pub picked_alike : {P Q : X → Type 0} (xs ys : List X) → ((x : X) → P x ↔ Q x) → Picks P xs ys → Picks Q xs ys
   picked_alike _ _ alike none = none
   picked_alike _ _ alike (takes x xs ys is rest) = takes x xs ys ((alike x).0 is) (picked_alike xs ys alike rest)
   picked_alike _ _ alike (leaves x xs ys never rest) = leaves x xs ys (λ is. never ((alike x).1 is)) (picked_alike xs ys alike rest)
+
+  -- the same is picked by what holds of the same members
+  pub picked_among : {P Q : X → Type 0} (xs ys : List X) → ((x : X) → Contains xs x → P x ↔ Q x) → Picks P xs ys → Picks Q xs ys
+  picked_among _ _ alike none = none
+  picked_among _ _ alike (takes x xs ys is rest) = takes x xs ys ((alike x (Contains-get_or (x ∷ xs) 0 x (omega arith))).0 is) (picked_among xs ys (λ z there. alike z (later x xs z there)) rest)
+  picked_among _ _ alike (leaves x xs ys never rest) = leaves x xs ys (λ is. never ((alike x (Contains-get_or (x ∷ xs) 0 x (omega arith))).1 is)) (picked_among xs ys (λ z there. alike z (later x xs z there)) rest)
 
   all_of : (P : X → Type 0) (xs : List X) → ((x : X) → Contains xs x → P x) → All P xs
   all_of P xs each_is k d inside = each_is (get_or xs k d) (Contains-get_or xs k d inside)
@@ -220,6 +230,64 @@ settled_stays root before after touched touched_after standing may_start view ne
         raised = λ yes. let no = settled.silent in cc;
         kept = λ _. refl;
         shows = shows_still view.target root before after same was.answer was.is_answer was.from_cache view.raised was.shows;
+      };
+      silent = settled.silent;
+    }
+
+-- the same are in limbo where the same are touched
+alike_touched : (standing : Standing) (touched others : List (List (List ℕ))) (key : List (List ℕ)) → Contains others key ↔ Contains touched key → IsInLimbo standing touched key ↔ IsInLimbo standing others key
+alike_touched standing touched others key same = (
+  λ is. record { current = is.current; not_told = is.not_told; not_touched = λ there. is.not_touched (same.0 there) },
+  λ is. record { current = is.current; not_told = is.not_told; not_touched = λ there. is.not_touched (same.1 there) },
+)
+
+pub settled_stays_touched : SettledStaysTouched
+settled_stays_touched root before after touched touched_after standing may_start view settled same touches =
+    let was = settled.refreshes in
+    let concerns = λ (key : List (List ℕ)) (there : Contains was.answer key).
+    let found = answer_found view.target root before after same was.answer was.is_answer key there in
+    concerned view.target root key found.stored.fields found.matches in
+    record {
+      refresh = settled.refresh;
+      refreshes = record {
+        answer = was.answer;
+        from_cache = was.from_cache;
+        is_answer = answer_still view.target root before after same was.answer was.is_answer;
+        limbo = picked_among was.answer settled.refresh.limbo.items (λ key there. alike_touched standing touched touched_after key (touches key (concerns key there))) was.limbo;
+        flag = was.flag;
+        wanted = λ yes. let no = settled.silent in cc;
+        unwanted = λ no raises. was.unwanted no (raises_then view.target root before after same was.answer was.is_answer was.from_cache may_start view.raised raises);
+        target = refl;
+        raised = λ yes. let no = settled.silent in cc;
+        kept = λ _. refl;
+        shows = shows_still view.target root before after same was.answer was.is_answer was.from_cache view.raised was.shows;
+      };
+      silent = settled.silent;
+    }
+
+-- a view that has raised a snapshot raises the next whether it may start or not
+raises_other : (documents : DocumentMap) (answer : List (List (List ℕ))) (from_cache may_start other : Bool) (last : Option Raised) → IsSome last
+    → Raises documents answer from_cache other last → Raises documents answer from_cache may_start last
+raises_other documents answer from_cache may_start other None never raises = cc
+raises_other documents answer from_cache may_start other (Some shown) there raises = raises
+
+pub raised_stays_settled : RaisedStaysSettled
+raised_stays_settled root documents touched standing may_start other view there settled =
+    let was = settled.refreshes in
+    record {
+      refresh = settled.refresh;
+      refreshes = record {
+        answer = was.answer;
+        from_cache = was.from_cache;
+        is_answer = was.is_answer;
+        limbo = was.limbo;
+        flag = was.flag;
+        wanted = λ yes. let no = settled.silent in cc;
+        unwanted = λ no raises. was.unwanted no (raises_other documents was.answer was.from_cache may_start other view.raised there raises);
+        target = refl;
+        raised = λ yes. let no = settled.silent in cc;
+        kept = λ _. refl;
+        shows = was.shows;
       };
       silent = settled.silent;
     }

@@ -1,6 +1,7 @@
 -- Laws of refreshes.
-use Rattle.std.specs.Prelude.{◌≡◌, ℕ, Bool, false, List}
+use Rattle.std.specs.Prelude.{◌≡◌, ◌↔◌, ℕ, Bool, false, List, IsSome}
 use Rattle.std.specs.FinMap as map
+use Rattle.std.specs.List.{Contains}
 use Rattle.document_keys.specs.Names.{Root}
 use Rattle.value_model.specs.Documents.{DocumentMap}
 use Rattle.views.specs.declared.standing.Standing.{Standing}
@@ -36,6 +37,28 @@ SettledStays = (root : Root) (before after : DocumentMap)
     (standing : Standing) (may_start : Bool) (view : Viewed)
     → standing.current ≡ false → IsSettled root before touched standing may_start view
     → KeepsConcerned before after view → IsSettled root after touched_after standing may_start view
+
+-- of the keys that the target concerns the touched ones stay touched, and the others untouched
+abbrev pub KeepsTouched : List (List (List ℕ)) → List (List (List ℕ)) → Viewed → Type 0
+KeepsTouched touched touched_after view = (key : List (List ℕ)) → Concerns view.target key
+    → Contains touched_after key ↔ Contains touched key
+
+-- a settled view stays settled where the documents that its target concerns stay, and of the keys
+-- that it concerns the touched ones
+abbrev pub SettledStaysTouched : Type 0
+SettledStaysTouched = (root : Root) (before after : DocumentMap)
+    (touched touched_after : List (List (List ℕ)))
+    (standing : Standing) (may_start : Bool) (view : Viewed)
+    → IsSettled root before touched standing may_start view → KeepsConcerned before after view
+    → KeepsTouched touched touched_after view
+    → IsSettled root after touched_after standing may_start view
+
+-- where a view has raised a snapshot, whether it may start says nothing of its being settled
+abbrev pub RaisedStaysSettled : Type 0
+RaisedStaysSettled = (root : Root) (documents : DocumentMap) (touched : List (List (List ℕ)))
+    (standing : Standing) (may_start other : Bool) (view : Viewed)
+    → IsSome view.raised → IsSettled root documents touched standing may_start view
+    → IsSettled root documents touched standing other view
 
 -- the two refreshes did the same, and left the same view
 pub record AreOneOutcome (new other : Viewed) (refresh another : Refresh) : Type 0 where

@@ -4,3 +4,4 @@ pub mod Laws
 pub mod Places
 pub mod Refreshing
 pub mod Table
+pub mod Targets

@@ -1,13 +1,17 @@
-ghost use Rattle.std.specs.Prelude.{◌≡◌, ◌↔◌, ℕ, None, Some, IfOk, IsSome, IsTrue, OnErr, OnOk, option_map};
+ghost use Rattle.std.specs.Prelude.{◌≡◌, ◌↔◌, ◌<◌, ◌<ℤ◌, ℕ, ℤ, None, Some, IfOk, IsSome, IsTrue, OnErr, OnOk, option_map};
+ghost use Rattle.std.specs.BTreeMap.{IsOrdered, keys};
+ghost use Rattle.std.specs.List.{AllPairs, Contains};
+ghost use Rattle.std.specs.Ordering.{nat_cmp};
 ghost use Rattle.listeners.specs.Concerns.{AddsConcernedOnly, HasAllConcerned, IsConcerned};
 ghost use Rattle.listeners.specs.Ids.{KeepsMembers, has_id};
 ghost use Rattle.listeners.specs.Places.{is_among};
 ghost use Rattle.listeners.specs.Refreshing.{IsOverAt, RefreshesAt};
-ghost use Rattle.listeners.specs.Table.{Changes, SameViews, fresh, viewed};
+ghost use Rattle.listeners.specs.Table.{Changes, ChangesTarget, IsWanted, KeepsTargets, SameViews, fresh, target_of, viewed};
 
+use crate::id_set;
+use crate::indexes::Indexes;
 use crate::listener::Listener;
 use crate::place::least_key;
-use crate::places::Places;
 use document_keys::{Database, DocumentKey, NoMemory};
 use queries::Query;
 use std::alloc::Global;
@@ -17,11 +21,11 @@ use value_model::Documents;
 use views::{Refresh, Standing, View};
 
 /// The listeners of a client, each under an id of its own. Contracts see the view of each id, by
-/// `viewed`.
+/// `viewed`, and the id of its target, by `target_of`.
 #[derive(Debug, Drop)]
 pub struct Listeners {
     listeners: BTreeMap<u32, Listener>,
-    places: Places,
+    indexes: Indexes,
 }
 
 impl Model for Listeners {
@@ -31,11 +35,12 @@ impl Model for Listeners {
 
     ghost coded = { table_code };
 
-    ghost use Rattle.listeners.specs.Places.{IsIndexed};
+    ghost use Rattle.listeners.specs.Targets.{AreFound};
 
     ghost view = { λ l. l.listeners.entries };
 
-    ghost invariant = { λ l. IsIndexed l.listeners.entries l.places.ids.entries };
+    ghost invariant = { λ l. AreFound l.listeners.entries
+        l.indexes.places.ids.entries l.indexes.targets.ids.entries };
 }
 
 /// Whether the id is that of a listener whom a change of the key's document concerns.
@@ -71,14 +76,24 @@ fn add_concerned(
     Ok(())
 }
 
+/// The ids under which listeners are kept, ascending.
+fn keys_of(alloc: Global, listeners: &BTreeMap<u32, Listener>) -> Result<Vec<u32>, NoMemory>
+    ensures items { IfOk result (λ ids. ids.items ≡ keys listeners.now) }
+    ensures ordered { OnOk result (IsOrdered nat_cmp listeners.now) }
+{
+    let ids: Vec<u32> = listeners.keys().copied().collect(alloc)?;
+    Ok(ids)
+}
+
 impl Listeners {
     /// No listeners. It takes no memory yet.
     pub fn new(alloc: Global) -> Listeners
-        ensures { (id : ℕ) → viewed result id ≡ None }
+        ensures views { (id : ℕ) → viewed result id ≡ None }
+        ensures targets { (id : ℕ) → target_of result id ≡ None }
     {
         Listeners {
             listeners: BTreeMap::new(alloc),
-            places: Places::new(alloc),
+            indexes: Indexes::new(alloc),
         }
     }
 
@@ -92,23 +107,54 @@ impl Listeners {
         }
     }
 
-    /// Adds a listener of the query under the id, which no other has. It has raised no snapshot.
+    /// Whether there is no listener.
+    pub fn is_empty(&self) -> bool
+        ensures { IsTrue result ↔ ((id : ℕ) → viewed self.now id ≡ None) }
+    {
+        self.listeners.is_empty()
+    }
+
+    /// The ids of the listeners, ascending.
+    ///
+    /// # Errors
+    /// `NoMemory`
+    pub fn ids(&self, alloc: Global) -> Result<Vec<u32>, NoMemory>
+        ensures ascending { IfOk result (λ ids. AllPairs (λ a b. a < b) ids.items) }
+        ensures members { IfOk result (λ ids. (id : ℕ) → Contains ids.items id
+            ↔ IsSome (viewed self.now id)) }
+    {
+        keys_of(alloc, &self.listeners)
+    }
+
+    /// The id of the target of the listener of the id; `None` exactly where there is none.
+    pub fn target_of(&self, id: u32) -> Option<i32>
+        ensures { result ≡ target_of self.now id }
+    {
+        match self.listeners.get(&id) {
+            Some(listener) => Some(*listener.target_id()),
+            None => None,
+        }
+    }
+
+    /// Adds a listener of the query under the id, which no other has, with the id of its target. It
+    /// has raised no snapshot.
     ///
     /// # Errors
     /// `NoMemory`: no listener was added then.
-    pub fn add(&mut self, alloc: Global, id: u32, query: Query) -> Result<(), NoMemory>
+    pub fn add(&mut self, alloc: Global, id: u32, query: Query, target: i32) -> Result<(), NoMemory>
         requires { viewed self.old id ≡ None }
         ensures done { OnOk result (Changes id (Some (fresh query)) self.old self.new) }
+        ensures target { OnOk result (ChangesTarget id (Some target) self.old self.new) }
         ensures undone { OnErr result (SameViews self.old self.new) }
+        ensures untaken { OnErr result (KeepsTargets self.old self.new) }
     {
-        let listener = Listener::new(alloc, query)?;
-        self.places.put(alloc, listener.place(), id)?;
+        let listener = Listener::new(alloc, query, target)?;
+        self.indexes.put(alloc, &listener, id)?;
         match self.listeners.insert(id, listener) {
             Ok(_) => Ok(()),
             Err(refused) => {
                 let (_, listener) = refused.value;
-                let place = listener.into_place();
-                self.places.take(&place, id);
+                self.indexes.take(&listener, id);
                 Err(NoMemory)
             }
         }
@@ -116,11 +162,11 @@ impl Listeners {
 
     /// Takes the listener of the id away, if there is one.
     pub fn remove(&mut self, id: u32)
-        ensures { Changes id None self.old self.new }
+        ensures done { Changes id None self.old self.new }
+        ensures target { ChangesTarget id None self.old self.new }
     {
         if let Some(listener) = self.listeners.remove(&id) {
-            let place = listener.into_place();
-            self.places.take(&place, id);
+            self.indexes.take(&listener, id);
         }
     }
 
@@ -142,6 +188,7 @@ impl Listeners {
             (D.touched_keys docs.now) standing.now may_start self.old self.new refresh) }
         ensures over { OnOk result (IsOverAt id self.new (D.documents docs.now)) }
         ensures undone { OnErr result (SameViews self.old self.new) }
+        ensures targets { KeepsTargets self.old self.new }
     {
         let Some(listener) = self.listeners.get_mut(&id) else {
             unreachable!();
@@ -165,7 +212,41 @@ impl Listeners {
         ensures each { OnOk result (HasAllConcerned self.now key.now ids.new) }
     {
         let least = least_key(alloc, &key.parent(alloc)?)?;
-        add_concerned(&self.listeners, self.places.at(key), key, ids)?;
-        add_concerned(&self.listeners, self.places.at(&least), key, ids)
+        add_concerned(&self.listeners, self.indexes.places.at(key), key, ids)?;
+        add_concerned(&self.listeners, self.indexes.places.at(&least), key, ids)
+    }
+
+    /// Whether the target is that of a listener.
+    pub fn is_wanted(&self, target: i32) -> bool
+        ensures { IsTrue result ↔ IsWanted self.now target }
+    {
+        self.indexes.targets.at(&target).is_some()
+    }
+
+    /// The ids of the listeners of the target, ascending.
+    ///
+    /// # Errors
+    /// `NoMemory`
+    pub fn of_target(&self, alloc: Global, target: i32) -> Result<Vec<u32>, NoMemory>
+        ensures ascending { IfOk result (λ ids. AllPairs (λ a b. a < b) ids.items) }
+        ensures members { IfOk result (λ ids. (id : ℕ) → Contains ids.items id
+            ↔ (target_of self.now id ≡ Some target)) }
+    {
+        match self.indexes.targets.at(&target) {
+            Some(ids) => id_set::to_vec(alloc, ids),
+            None => Ok(Vec::new(alloc)),
+        }
+    }
+
+    /// The targets of the listeners, ascending.
+    ///
+    /// # Errors
+    /// `NoMemory`
+    pub fn wanted(&self, alloc: Global) -> Result<Vec<i32>, NoMemory>
+        ensures ascending { IfOk result (λ targets. AllPairs ◌<ℤ◌ targets.items) }
+        ensures members { IfOk result (λ targets. (target : ℤ) → Contains targets.items target
+            ↔ IsWanted self.now target) }
+    {
+        self.indexes.targets.to_vec(alloc)
     }
 }

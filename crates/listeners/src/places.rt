@@ -1,9 +1,9 @@
-ghost use Rattle.std.specs.Prelude.{◌≡◌, ◌≢◌, ℕ, IsTrue, IfOk, OnOk, option_map};
+ghost use Rattle.std.specs.Prelude.{◌≡◌, IsTrue, OnOk, option_map};
 ghost use Rattle.std.specs.Map.{lookup};
 ghost use Rattle.document_keys.specs.KeySet.{is_key};
-ghost use Rattle.listeners.specs.Ids.{KeepsMembers, has_id};
 ghost use Rattle.listeners.specs.Places.{KeepsIds, KeepsOtherIds, stands_at};
 
+use crate::id_set::{only, put, take};
 use document_keys::{DocumentKey, NoMemory};
 use std::alloc::Global;
 use std::collections::{BTreeMap, BTreeSet};
@@ -12,33 +12,6 @@ use std::collections::{BTreeMap, BTreeSet};
 #[derive(Debug, Drop)]
 pub(crate) struct Places {
     ids: BTreeMap<DocumentKey, BTreeSet<u32>>,
-}
-
-/// Puts the id to the others.
-fn put(ids: &mut BTreeSet<u32>, id: u32) -> Result<(), NoMemory>
-    ensures done { OnOk result (IsTrue (has_id ids.new id)) }
-    ensures kept { KeepsMembers ids.old ids.new }
-{
-    ids.insert(id)?;
-    Ok(())
-}
-
-/// The set of the one id.
-fn only(alloc: Global, id: u32) -> Result<BTreeSet<u32>, NoMemory>
-    ensures { IfOk result (λ ids. IsTrue (has_id ids id)) }
-{
-    let mut ids = BTreeSet::new(alloc);
-    put(&mut ids, id)?;
-    Ok(ids)
-}
-
-/// Takes the id from the others, and tells whether none is left.
-fn take(ids: &mut BTreeSet<u32>, id: u32) -> bool
-    ensures kept { (q : ℕ) → q ≢ id → IsTrue (has_id ids.old q) → IsTrue (has_id ids.new q) }
-    ensures none { IsTrue result → (q : ℕ) → IsTrue (has_id ids.new q) → ⊥ }
-{
-    ids.remove(&id);
-    ids.is_empty()
 }
 
 impl Places {

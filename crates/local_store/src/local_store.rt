@@ -2,6 +2,7 @@ ghost use Rattle.std.specs.Prelude.{◌≡◌, ◌≢◌, ◌⊎◌, ◌↔◌, 
 ghost use Rattle.host_api.specs.Counts.{RisesAt};
 ghost use Rattle.host_api.specs.Host.{KeepsOut};
 ghost use Rattle.disk_journal.specs.Steps.{Opens, SettlesFirst};
+ghost use Rattle.durable_state.specs.Tables.{state_in};
 ghost use Rattle.record_codec.specs.Spelling.{HasSpelling, spelling};
 ghost use Rattle.local_store.specs.Documents.{sealed_entry_of, standing_of};
 ghost use Rattle.local_store.specs.Files.{FindsState, Moves, Refuses};
@@ -116,6 +117,13 @@ impl LocalStore {
         ensures { result.now.batches ≡ self.now.state.batches }
     {
         self.tables.pending()
+    }
+
+    /// The durable state, lent.
+    pub fn tables(&self) -> &DurableState
+        ensures { state_in result.now ≡ self.now.state }
+    {
+        &self.tables
     }
 
     /// The targets, lent.

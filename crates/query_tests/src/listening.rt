@@ -1,5 +1,5 @@
 //! Which listeners a change of a document concerns: of four, one of the rooms, one of the halls, and
-//! two of a room each. And that what they show is raised once.
+//! two of a room each. Which listeners a target has. And that what they show is raised once.
 
 use crate::fixtures::{key, root};
 use crate::shelf::Shelf;
@@ -34,20 +34,26 @@ fn room(alloc: Global, id: &str) -> Result<Query, Fail> {
     Ok(Query::check(alloc, RawQuery::Document(key))?)
 }
 
-/// Adds a listener, if its id is free.
-fn add(alloc: Global, listeners: &mut Listeners, id: u32, query: Query) -> Result<(), NoMemory> {
+/// Adds a listener of the target, if its id is free.
+fn add(
+    alloc: Global,
+    listeners: &mut Listeners,
+    id: u32,
+    query: Query,
+    target: i32,
+) -> Result<(), NoMemory> {
     match listeners.view(id) {
         Some(_) => Ok(()),
-        None => listeners.add(alloc, id, query),
+        None => listeners.add(alloc, id, query, target),
     }
 }
 
 fn four(alloc: Global) -> Result<Listeners, Fail> {
     let mut listeners = Listeners::new(alloc);
-    add(alloc, &mut listeners, 1, collection(alloc, "rooms")?)?;
-    add(alloc, &mut listeners, 2, collection(alloc, "halls")?)?;
-    add(alloc, &mut listeners, 3, room(alloc, "a")?)?;
-    add(alloc, &mut listeners, 4, room(alloc, "b")?)?;
+    add(alloc, &mut listeners, 1, collection(alloc, "rooms")?, 8)?;
+    add(alloc, &mut listeners, 2, collection(alloc, "halls")?, 2)?;
+    add(alloc, &mut listeners, 3, room(alloc, "a")?, 4)?;
+    add(alloc, &mut listeners, 4, room(alloc, "b")?, 4)?;
     Ok(listeners)
 }
 
@@ -92,6 +98,50 @@ fn check_removed(rt: &(impl Abort + AllocGlobal), listeners: &mut Listeners) -> 
 fn removed(rt: HostRuntime) -> Result<(), Fail> {
     let mut listeners = four(rt.alloc())?;
     check_removed(&rt, &mut listeners)
+}
+
+fn check_wanted(
+    rt: &(impl Abort + AllocGlobal),
+    listeners: &Listeners,
+    wanted: &[i32],
+) -> Result<(), Fail> {
+    let targets = listeners.wanted(rt.alloc())?;
+    assert!(rt; targets.as_slice() == wanted);
+    Ok(())
+}
+
+fn check_target(
+    rt: &(impl Abort + AllocGlobal),
+    listeners: &Listeners,
+    target: i32,
+    wanted: &[u32],
+) -> Result<(), Fail> {
+    let ids = listeners.of_target(rt.alloc(), target)?;
+    assert!(rt; ids.as_slice() == wanted, "{target}");
+    assert!(rt;
+        listeners.is_wanted(target) != wanted.is_empty(),
+        "{target}"
+    );
+    Ok(())
+}
+
+fn check_targets(rt: &(impl Abort + AllocGlobal), listeners: &mut Listeners) -> Result<(), Fail> {
+    check_wanted(rt, listeners, &[2, 4, 8])?;
+    check_target(rt, listeners, 4, &[3, 4])?;
+    listeners.remove(3);
+    listeners.remove(2);
+    check_wanted(rt, listeners, &[4, 8])?;
+    check_target(rt, listeners, 4, &[4])?;
+    check_target(rt, listeners, 2, &[])?;
+    assert!(rt; listeners.target_of(1) == Some(8));
+    assert!(rt; listeners.target_of(2) == None);
+    Ok(())
+}
+
+#[test]
+fn targets(rt: HostRuntime) -> Result<(), Fail> {
+    let mut listeners = four(rt.alloc())?;
+    check_targets(&rt, &mut listeners)
 }
 
 /// Refreshes the listener over no documents, if it is there, and tells whether it raised a snapshot.

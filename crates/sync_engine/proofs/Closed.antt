@@ -1,5 +1,5 @@
 -- what is handed out for what comes on the stream of writes
-use Rattle.std.proofs.Common.{◌≡◌, ⊎_elim, inl, inr, ℕ, ◌+◌, ◌≤◌, ◌<◌, Bool, true, false, List, [], ◌∷◌, ◌++◌, length, Option, Some, None, if◌then◌else◌, IfSome, Vec, Global, refl, sym, ap, subst, ◌∙◌, append-nil}
+use Rattle.std.proofs.Common.{◌≡◌, ⊎_elim, inl, inr, ℕ, ℤ, ◌+◌, ◌≤◌, ◌<◌, Bool, true, false, List, [], ◌∷◌, ◌++◌, length, Option, Some, None, if◌then◌else◌, IfSome, Vec, Global, refl, sym, ap, subst, ◌∙◌, arith}
 use Rattle.std.proofs.lemmas.Bool.{lt-ltb, le-ltb}
 use Rattle.std.proofs.lemmas.Option.{none-some}
 use Rattle.std.specs.List.{AllZip, Contains, slice_get}
@@ -8,6 +8,7 @@ use Rattle.client_events.specs.declared.event.Event.{Event}
 use Rattle.client_events.specs.declared.event.Event.TheVariants as event
 use Rattle.durable_state.specs.Cached.{first_writes}
 use Rattle.host_api.specs.Host.{View}
+use Rattle.listen_protocol.specs.Calls.{Calls}
 use Rattle.listeners.specs.Table.{Table, viewed}
 use Rattle.local_store.specs.Files.{Moves}
 use Rattle.durable_state.specs.State.{IsAnswered}
@@ -36,102 +37,82 @@ use Rattle.write_pipeline.specs.declared.answer.WriteMember.{WriteMember}
 use Rattle.sync_engine.specs.Answers.{Answers}
 use Rattle.sync_engine.specs.Concerned.{AreConcerned}
 use Rattle.sync_engine.specs.Lines.{Line, rejected, result, send}
-use Rattle.sync_engine.specs.Past.{Entry, Past, Turn, asked, listener, raised_in, sent_in, steps_by, steps_of}
-use Rattle.sync_engine.specs.Standing.{Kept, IsQuiet, GoesOn, StandsFor, StandsOn}
+use Rattle.sync_engine.specs.Past.{Past, Turn, listener, raised_in, steps_by, steps_of}
+use Rattle.sync_engine.specs.Settling.{Stance}
+use Rattle.sync_engine.specs.Standing.{Kept, IsQuiet, GoesOn, StandsFor, StandsOn, stance_in}
 use Rattle.sync_engine.specs.Telling.{HandsSettled, IsQuietOrAmong, IsShown, KeepsRest, MovesBy, Raises}
-use Rattle.sync_engine.specs.Turn.{is_heard, with_snapshots}
+use Rattle.sync_engine.specs.Turn.{answered_next, is_heard}
 use Rattle.sync_engine.specs.Turns.{after, answered, commits, refused}
+use Rattle.sync_engine.specs.Watching.{begun, listened, passes, requested_in, step_by}
 use Rattle.sync_engine.specs.Writing.{IsWritten, WrittenTurn, acknowledges, bad_turn, closed_turn, closes, fails, first_batch, is_open, member_name, opened_turn, rejects, settles, shakes}
 use Rattle.sync_engine.specs.declared.out.Out.{Out}
 use Rattle.sync_engine.specs.declared.out.Out.TheVariants.{Rejected, Result, SendHandshake}
 use Rattle.sync_engine.specs.declared.out.Outcome.TheVariants.{Done, Refused}
 use Rattle.sync_engine.specs.declared.refusal.Refusal.{Refusal}
 use Rattle.sync_engine.specs.declared.refusal.Refusal.TheVariants.{BadMessage, IdsSpent, StreamState}
+use Rattle.sync_engine.specs.declared.watch_stream.Due.TheVariants.{Nothing}
 use Rattle.sync_engine.specs.declared.write_stream.WriteStream.{WriteStream}
-use Rattle.sync_engine.proofs.Handing.{hands_settled}
-use Rattle.sync_engine.proofs.Quiet.{quiet_acknowledged, quiet_rejected, settles_none}
+use Rattle.sync_engine.proofs.Committed.{moves_by}
+use Rattle.sync_engine.proofs.Following.{AreQuiet, IsPlain, are_quiet, follows_plain, stance_kept}
+use Rattle.sync_engine.proofs.Handing.{Handed, as_done, as_refused, handed, keeps_all, no_reset, raises_none}
+use Rattle.sync_engine.specs.Asking.{resets_by}
+use Rattle.sync_engine.specs.Stream.{reset_of}
+use Rattle.sync_engine.specs.declared.watch_stream.WatchStream.{WatchStream}
+use Rattle.sync_engine.proofs.Quiet.{quiet_acknowledged, quiet_rejected}
 use Rattle.sync_engine.proofs.Steps.{few_by}
-use Rattle.sync_engine.proofs.Turning.{among_or_not, quiet_at}
+use Rattle.sync_engine.proofs.Turning.{among_or_not}
 
--- ---- nothing but the stream changes
+-- ---- nothing but the stream of writes changes
 
 -- the client keeps all but its stream of writes
-pub record KeepsButStream (old new : Kept) : Type 0 where
+pub record KeepsButWrites (old new : Kept) : Type 0 where
   pub root : new.root ≡ old.root
   pub store : new.store ≡ old.store
   pub listeners : new.listeners ≡ old.listeners
+  pub watch : new.watch ≡ old.watch
 
--- an event that is no listener's
-abbrev IsOfStream : Event → Type 0
-IsOfStream e = (id : ℕ) (v : Option Viewed) → asked id e v ≡ v
+quiet_kept : {old new : Kept} → KeepsButWrites old new → AreQuiet old → AreQuiet new
+quiet_kept {old} {new} rest quiet id view there =
+    subst (λ (r : Root). IsQuiet r new.store.state (stance_in new id) view) (sym rest.root)
+    (subst (λ (x : Store). IsQuiet old.root x.state (stance_in new id) view) (sym rest.store)
+    (subst (λ (k : Stance). IsQuiet old.root old.store.state k view) (sym (stance_kept old new rest.listeners rest.watch id))
+    (quiet id view (ap (λ (t : Table). viewed t id) (sym rest.listeners) ∙ there))))
 
-module _ (old new : Kept) (s : State) (past : Past) (e : Event) (turn : Turn) (stands : StandsFor old s past) (rest : KeepsButStream old new)
-    (plain : IsOfStream e) (unsaid : (id : ℕ) → raised_in id turn.lines ≡ None) (unsent : (h : Steps) → sent_in turn.lines h ≡ h) (unmade : turn.commit ≡ None)
-    (writes : StandsOn new.writes (steps_by e turn.refusal (steps_of past))) (answers : Answers s past e turn) where
-  abbrev entry : Entry
-  entry = record { state = s; event = e; turn = turn }
+-- an event that is none of the stream's of listeners, by which no listener begins or ends, and that makes no commit
+pub record IsOfWrites (s : State) (past : Past) (e : Event) (answer : Turn) : Type 0 where
+  pub is_plain : IsPlain s past e answer
+  pub unmade : answer.commit ≡ None
 
-  listeners : (id : ℕ) → viewed new.listeners id ≡ listener id (entry ∷ past)
-  listeners id =
-      ap (λ (t : Table). viewed t id) rest.listeners ∙ stands.listeners id ∙ sym (plain id (listener id past))
-      ∙ ap (λ r. Rattle.sync_engine.specs.Past.told r (asked id e (listener id past))) (sym (unsaid id))
-
-  pub stands_then : StandsFor new s (entry ∷ past)
-  stands_then = record {
-    state = ap (λ (x : Store). x.state) rest.store ∙ stands.state;
-    listeners = listeners;
-    quiet = λ id.
-        subst (λ (v : Option Viewed). IfSome v (IsQuiet new.root s)) (sym (stands.listeners id) ∙ sym (ap (λ (t : Table). viewed t id) rest.listeners) ∙ listeners id)
-        (subst (λ (r : Root). IfSome (listener id past) (IsQuiet r s)) (sym rest.root) (stands.quiet id));
-    writes = subst (StandsOn new.writes) (sym (unsent (steps_by e turn.refusal (steps_of past)))) writes;
-    pending = subst (λ (h : Steps). outstanding h ≤ length s.batches) (sym (unsent (steps_by e turn.refusal (steps_of past))))
-        (subst (λ (c : Option Commit). outstanding (steps_by e turn.refusal (steps_of past)) ≤ length (after s c).batches) unmade (few_by s past e turn answers stands.pending));
-  }
-
--- lines alone answer the event
-pub hands_plain : {old new : Kept} {s : State} {past : Past} {vec : Vec Out Global} (e : Event) (lines : List Line) → StandsFor old s past → KeepsButStream old new → IsOfStream e → ((id : ℕ) → raised_in id lines ≡ None) → ((h : Steps) → sent_in lines h ≡ h)
-    → StandsOn new.writes (steps_by e None (steps_of past)) → Answers s past e (answered lines) → AllZip (IsShown new) vec.items lines → HandsSettled s past e (Done vec) new
-hands_plain {old} {new} {s} {past} {vec} e lines stands rest plain unsaid unsent writes answers shown =
-    let same : lines ++ [] ≡ lines = append-nil lines in
-    let then_it = stands_then old new s past e (answered lines) stands rest plain unsaid unsent refl writes answers in
-    record {
-      turn = with_snapshots s (answered lines) [];
-      is_settled = record {
-        answer = answered lines;
-        answers = answers;
-        settles = record {
-          told = [];
-          settles = settles_none new.root s (λ id. asked id e (listener id past)) (λ id. subst (λ (v : Option Viewed). IfSome v (IsQuiet new.root s)) (sym (plain id (listener id past))) (subst (λ (r : Root). IfSome (listener id past) (IsQuiet r s)) (sym rest.root) (stands.quiet id)));
-          is = refl;
-        };
-      };
-      stands = subst (λ (ls : List Line). StandsFor new s (record { state = s; event = e; turn = answered ls } ∷ past)) (sym same) then_it;
-      outcome = (refl, subst (AllZip (IsShown new) vec.items) (sym same) shown);
-    }
+hands_of_writes : {old new : Kept} {s : State} {past : Past} {outs : List Out} (e : Event) (answer : Turn) → is_heard answer.refusal ≡ true → StandsFor old s past → KeepsButWrites old new → IsOfWrites s past e answer
+    → StandsOn new.writes (steps_of (answered_next s past e answer)) → outstanding (steps_of (answered_next s past e answer)) ≤ length (after s answer.commit).batches → Answers s past e answer → AllZip (IsShown new) outs answer.lines → Handed s past e answer outs new
+hands_of_writes {old} {new} {s} {past} {outs} e answer heard stands rest such writes pending answers shown =
+    handed s past e answer new new outs outs answers heard
+    (follows_plain new e answer stands such.is_plain
+    (ap (λ (x : Store). x.state) rest.store ∙ stands.state ∙ ap (after s) (sym such.unmade)) rest.listeners rest.watch (ap (λ (c : Option Commit). (after s c).rows) such.unmade) writes pending)
+    keeps_all (raises_none outs (quiet_kept rest (are_quiet stands))) such.is_plain.unraised shown
 
 -- a bad message closes the stream
-pub hands_closed : {old new : Kept} {s : State} {past : Past} (e : Event) (refusal : Refusal) → is_heard (Some refusal) ≡ true → StandsFor old s past → KeepsButStream old new → IsOfStream e
-    → StandsOn new.writes (steps_by e (Some refusal) (steps_of past)) → Answers s past e (refused refusal) → HandsSettled s past e (Refused refusal) new
-hands_closed {old} {new} {s} {past} e refusal heard stands rest plain writes answers =
-    let entry : Entry = record { state = s; event = e; turn = refused refusal } in
-    record {
-      turn = refused refusal;
-      is_settled = record { answer = refused refusal; answers = answers; settles = refl };
-      stands = subst (λ (b : Bool). StandsFor new s (if b then entry ∷ past else past)) (sym heard) (stands_then old new s past e (refused refusal) stands rest plain (λ id. refl) (λ h. refl) refl writes answers);
-      outcome = (refl, refl);
-    }
+pub hands_closed : {old new : Kept} {s : State} {past : Past} {vec : Vec Out Global} (e : Event) (refusal : Refusal) → is_heard (Some refusal) ≡ true → new.watch.due ≡ Nothing → StandsFor old s past → KeepsButWrites old new → IsOfWrites s past e (refused refusal)
+    → StandsOn new.writes (steps_by e (Some refusal) (steps_of past)) → Answers s past e (refused refusal) → vec.items ≡ [] → HandsSettled s past e (Refused refusal vec) new
+hands_closed {old} {new} {s} {past} {vec} e refusal heard idle stands rest such writes answers none =
+    as_refused refusal refl heard idle
+    (hands_of_writes {outs = vec.items} e (refused refusal) heard stands rest such writes (few_by s past e (refused refusal) answers stands.pending) answers (subst (λ (os : List Out). AllZip (IsShown new) os []) (sym none) tt))
 
 -- the stream is opened by the first request
-pub hands_opened : {old new : Kept} {s : State} {past : Past} {vec : Vec Out Global} (name : StreamName) → StandsFor old s past → KeepsButStream old new → StandsOn new.writes (opened ∷ steps_of past) → Answers s past (event.Opened name) (answered (send the_first ∷ []))
-    → vec.items ≡ SendHandshake ∷ [] → HandsSettled s past (event.Opened name) (Done vec) new
-hands_opened {old} {new} {s} {past} {vec} name stands rest writes answers is =
-    hands_plain (event.Opened name) (send the_first ∷ []) stands rest (λ id v. refl) (λ id. refl) (λ h. refl) writes answers (subst (λ (os : List Out). AllZip (IsShown new) os (send the_first ∷ [])) (sym is) (refl, tt))
+pub hands_opened : {old new : Kept} {s : State} {past : Past} {vec : Vec Out Global} → old.watch.due ≡ Nothing → StandsFor old s past → KeepsButWrites old new → StandsOn new.writes (opened ∷ steps_of past) → Answers s past (event.Opened stream.Write) (answered (send the_first ∷ []))
+    → vec.items ≡ SendHandshake ∷ [] → HandsSettled s past (event.Opened stream.Write) (Done vec) new
+hands_opened {old} {new} {s} {past} {vec} idle stands rest writes answers is =
+    as_done refl (no_reset past (event.Opened stream.Write) new (λ t. refl) (ap reset_of (ap (λ (w : WatchStream). w.due) rest.watch ∙ idle)))
+    (hands_of_writes {outs = vec.items} (event.Opened stream.Write) (answered (send the_first ∷ [])) refl stands rest
+    (record { is_plain = record { step = refl; plain = λ id. refl; targets = λ id. refl; began = refl; unrequested = λ h. refl; unraised = λ id. refl }; unmade = refl })
+    writes (omega arith) answers (subst (λ (os : List Out). AllZip (IsShown new) os (send the_first ∷ [])) (sym is) (refl, tt)))
 
 -- nothing is handed out
-pub hands_nothing : {old new : Kept} {s : State} {past : Past} {vec : Vec Out Global} (e : Event) → StandsFor old s past → KeepsButStream old new → IsOfStream e → StandsOn new.writes (steps_by e None (steps_of past)) → Answers s past e (answered [])
+pub hands_nothing : {old new : Kept} {s : State} {past : Past} {vec : Vec Out Global} (e : Event) → ((t : ℤ) → resets_by e past t ≡ false) → old.watch.due ≡ Nothing → StandsFor old s past → KeepsButWrites old new → IsOfWrites s past e (answered []) → StandsOn new.writes (steps_by e None (steps_of past)) → Answers s past e (answered [])
     → vec.items ≡ [] → HandsSettled s past e (Done vec) new
-hands_nothing {old} {new} {s} {past} {vec} e stands rest plain writes answers is =
-    hands_plain e [] stands rest plain (λ id. refl) (λ h. refl) writes answers (subst (λ (os : List Out). AllZip (IsShown new) os []) (sym is) tt)
+hands_nothing {old} {new} {s} {past} {vec} e never idle stands rest such writes answers is =
+    as_done refl (no_reset past e new never (ap reset_of (ap (λ (w : WatchStream). w.due) rest.watch ∙ idle)))
+    (hands_of_writes {outs = vec.items} e (answered []) refl stands rest such writes (few_by s past e (answered []) answers stands.pending) answers (subst (λ (os : List Out). AllZip (IsShown new) os []) (sym is) tt))
 
 -- ---- what the events come to
 
@@ -139,29 +120,29 @@ module _ {client : Kept} {s : State} {past : Past} (stands : StandsFor client s 
   open_is : (b : Bool) → client.writes.is_open ≡ b → is_open (steps_of past) ≡ b
   open_is b is = sym stands.writes.opening ∙ is
 
-  pub opened_twice : (name : StreamName) → client.writes.is_open ≡ true → Answers s past (event.Opened name) (refused (StreamState name true))
-  opened_twice name is = sym (ap (opened_turn name) (open_is true is))
+  pub opened_twice : client.writes.is_open ≡ true → Answers s past (event.Opened stream.Write) (refused (StreamState stream.Write true))
+  opened_twice is = sym (ap (opened_turn stream.Write) (open_is true is))
 
-  pub opened_now : (name : StreamName) → client.writes.is_open ≡ false → Answers s past (event.Opened name) (answered (send the_first ∷ []))
-  opened_now name is = sym (ap (opened_turn name) (open_is false is))
+  pub opened_now : client.writes.is_open ≡ false → Answers s past (event.Opened stream.Write) (answered (send the_first ∷ []))
+  opened_now is = sym (ap (opened_turn stream.Write) (open_is false is))
 
-  pub bad_unopened : (name : StreamName) (member : List ℕ) → client.writes.is_open ≡ false → Answers s past (event.BadMessage name member) (refused (StreamState name false))
-  bad_unopened name member is = sym (ap (bad_turn name member) (open_is false is))
+  pub bad_unopened : (member : List ℕ) → client.writes.is_open ≡ false → Answers s past (event.BadMessage stream.Write member) (refused (StreamState stream.Write false))
+  bad_unopened member is = sym (ap (bad_turn stream.Write member) (open_is false is))
 
-  pub bad_now : (name : StreamName) (member : List ℕ) → client.writes.is_open ≡ true → Answers s past (event.BadMessage name member) (refused (BadMessage name member))
-  bad_now name member is = sym (ap (bad_turn name member) (open_is true is))
+  pub bad_now : (member : List ℕ) → client.writes.is_open ≡ true → Answers s past (event.BadMessage stream.Write member) (refused (BadMessage stream.Write member))
+  bad_now member is = sym (ap (bad_turn stream.Write member) (open_is true is))
 
-  pub closed_unopened : (name : StreamName) (status : RpcStatus) → client.writes.is_open ≡ false → Answers s past (event.Closed name status) (refused (StreamState name false))
-  closed_unopened name status is = sym (ap (closed_turn s (steps_of past) name status) (open_is false is))
+  pub closed_unopened : (status : RpcStatus) → client.writes.is_open ≡ false → Answers s past (event.Closed stream.Write status) (refused (StreamState stream.Write false))
+  closed_unopened status is = sym (ap (closed_turn s (steps_of past) stream.Write status) (open_is false is))
 
-  closed_as : (name : StreamName) (status : RpcStatus) (closing : Closing) → client.writes.is_open ≡ true → closing_of (steps_of past) status.code ≡ closing → closes s status closing ≡ closed_turn s (steps_of past) name status (is_open (steps_of past))
-  closed_as name status closing is such = ap (closes s status) (sym such) ∙ sym (ap (closed_turn s (steps_of past) name status) (open_is true is))
+  closed_as : (status : RpcStatus) (closing : Closing) → client.writes.is_open ≡ true → closing_of (steps_of past) status.code ≡ closing → closes s status closing ≡ closed_turn s (steps_of past) stream.Write status (is_open (steps_of past))
+  closed_as status closing is such = ap (closes s status) (sym such) ∙ sym (ap (closed_turn s (steps_of past) stream.Write status) (open_is true is))
 
-  pub closed_kept : (name : StreamName) (status : RpcStatus) → client.writes.is_open ≡ true → closing_of (steps_of past) status.code ≡ KeepsAll → Answers s past (event.Closed name status) (answered [])
-  closed_kept name status is such = closed_as name status KeepsAll is such
+  pub closed_kept : (status : RpcStatus) → client.writes.is_open ≡ true → closing_of (steps_of past) status.code ≡ KeepsAll → Answers s past (event.Closed stream.Write status) (answered [])
+  closed_kept status is such = closed_as status KeepsAll is such
 
-  pub closed_rejects : (name : StreamName) (status : RpcStatus) → client.writes.is_open ≡ true → closing_of (steps_of past) status.code ≡ Rejects → Answers s past (event.Closed name status) (rejects s (first_batch s) status)
-  closed_rejects name status is such = closed_as name status Rejects is such
+  pub closed_rejects : (status : RpcStatus) → client.writes.is_open ≡ true → closing_of (steps_of past) status.code ≡ Rejects → Answers s past (event.Closed stream.Write status) (rejects s (first_batch s) status)
+  closed_rejects status is such = closed_as status Rejects is such
 
   pub written_unopened : (response : WriteResponse) → client.writes.is_open ≡ false → Answers s past (event.Written response) (refused (StreamState stream.Write false))
   written_unopened response is = subst (λ (b : Bool). WrittenTurn s (steps_of past) response b (refused (StreamState stream.Write false))) (sym (open_is false is)) refl
@@ -198,11 +179,11 @@ first_is (b ∷ bs) batch is = ap (λ (x : Batch). x.writes) (some_one b batch i
     some_one x y same = cc
 
 -- the listeners that no write of it concerns stay quiet
-quiet_or_first : {old : Kept} (mid : Kept) {past : Past} (batch : Batch) (ids : List ℕ) (commit : Commit) → StandsFor old old.store.state past → AreConcerned old.listeners batch.writes ids → first_batch old.store.state ≡ Some batch → mid.root ≡ old.root → mid.listeners ≡ old.listeners
+quiet_or_first : {old : Kept} (mid : Kept) {past : Past} (batch : Batch) (ids : List ℕ) (commit : Commit) → StandsFor old old.store.state past → AreConcerned old.listeners batch.writes ids → first_batch old.store.state ≡ Some batch → mid.root ≡ old.root → mid.listeners ≡ old.listeners → mid.watch ≡ old.watch
     → mid.store.state ≡ committed old.store.state commit
-    → ((view : Viewed) → ((write : Write) → Contains (first_writes old.store.state.batches) write → Rattle.listeners.specs.Concerns.Concerns view.target (written_key write) → ⊥) → IsQuiet old.root old.store.state view → IsQuiet old.root (committed old.store.state commit) view)
+    → ((stance : Stance) (view : Viewed) → ((write : Write) → Contains (first_writes old.store.state.batches) write → Rattle.listeners.specs.Concerns.Concerns view.target (written_key write) → ⊥) → IsQuiet old.root old.store.state stance view → IsQuiet old.root (committed old.store.state commit) stance view)
     → IsQuietOrAmong ids mid
-quiet_or_first {old} mid batch ids commit stands concerned first root listeners state stays id view there = ⊎_elim inl (λ never. inr (quiet never)) (among_or_not ids id)
+quiet_or_first {old} mid batch ids commit stands concerned first root listeners watch state stays id view there = ⊎_elim inl (λ never. inr (quiet never)) (among_or_not ids id)
   where
     was : viewed old.listeners id ≡ Some view
     was = ap (λ (t : Table). viewed t id) (sym listeners) ∙ there
@@ -210,13 +191,14 @@ quiet_or_first {old} mid batch ids commit stands concerned first root listeners 
     writes : first_writes old.store.state.batches ≡ batch.writes
     writes = first_is old.store.state.batches batch first
 
-    quiet : (Contains ids id → ⊥) → IsQuiet mid.root mid.store.state view
+    quiet : (Contains ids id → ⊥) → IsQuiet mid.root mid.store.state (stance_in mid id) view
     quiet never =
-        subst (λ (r : Root). IsQuiet r mid.store.state view) (sym root)
-        (subst (λ (t : State). IsQuiet old.root t view) (sym state)
-        (stays view
+        subst (λ (r : Root). IsQuiet r mid.store.state (stance_in mid id) view) (sym root)
+        (subst (λ (t : State). IsQuiet old.root t (stance_in mid id) view) (sym state)
+        (subst (λ (k : Stance). IsQuiet old.root (committed old.store.state commit) k view) (sym (stance_kept old mid listeners watch id))
+        (stays (stance_in old id) view
         (λ write one concerns. never (concerned.each id (record { write = write; one = subst (λ (ws : List Write). Contains ws write) writes one; concerned = record { view = view; there = was; concerns = concerns } })))
-        (quiet_at id view stands was)))
+        (are_quiet stands id view was))))
 
 pub rejects_is : (s : State) (batch : Batch) (status : RpcStatus) → s.number < most_commits → first_batch s ≡ Some batch → rejects s (first_batch s) status ≡ commits (Reject batch.id) (rejected batch.id (s.number + 1) status ∷ [])
 rejects_is s batch status few first = ap (λ (b : Option Batch). rejects s b status) first ∙ ap (λ b. if b then commits (Reject batch.id) (rejected batch.id (s.number + 1) status ∷ []) else refused IdsSpent) (lt-ltb s.number most_commits few)
@@ -234,41 +216,47 @@ pub settles_not : (s : State) (batch : ℕ) (time : Timestamp) (results : List W
 settles_not s batch time results many = ap (λ b. if b then commits (Acknowledge batch time results) (result batch (s.number + 1) time ∷ []) else refused IdsSpent) (le-ltb s.number most_commits many)
 
 -- a batch is rejected
-pub hands_rejected : {old new : Kept} (mid : Kept) {past : Past} {before : List Out} {vec : Vec Out Global} {given : List ℕ} (batch : Batch) (name : StreamName) (status : RpcStatus) (ids : List ℕ) → StandsFor old old.store.state past → AreConcerned old.listeners batch.writes ids
+pub hands_rejected : {old new : Kept} (mid : Kept) {past : Past} {before : List Out} {vec : Vec Out Global} {given : List ℕ} (batch : Batch) (status : RpcStatus) (ids : List ℕ) → old.watch.due ≡ Nothing → StandsFor old old.store.state past → AreConcerned old.listeners batch.writes ids
     → old.store.state.number < most_commits → first_batch old.store.state ≡ Some batch → old.writes.is_open ≡ true → closing_of (steps_of past) status.code ≡ Rejects
-    → mid.root ≡ old.root → mid.listeners ≡ old.listeners → GoesOn old.writes mid.writes (λ h. closed ∷ h) → mid.store.state ≡ committed old.store.state (Reject batch.id)
+    → mid.root ≡ old.root → mid.listeners ≡ old.listeners → mid.watch ≡ old.watch → GoesOn old.writes mid.writes (λ h. closed ∷ h) → mid.store.state ≡ committed old.store.state (Reject batch.id)
     → KeepsRest mid new → given ≡ ids → (IsQuietOrAmong given mid → Raises mid new before vec.items) → before ≡ Rejected batch.id (old.store.state.number + 1) status ∷ []
-    → HandsSettled old.store.state past (event.Closed name status) (Done vec) new
-hands_rejected {old} {new} mid {past} {before} {vec} {given} batch name status ids stands concerned few first opening such root listeners goes state rest same raises begins =
-    hands_settled old.store.state past (event.Closed name status) (commits (Reject batch.id) (rejected batch.id (old.store.state.number + 1) status ∷ [])) mid new before vec
-    (sym (rejects_is old.store.state batch status few first) ∙ closed_rejects stands name status opening such) state
-    (λ id. ap (λ (t : Table). viewed t id) listeners ∙ stands.listeners id) rest
-    (raises (subst (λ (l : List ℕ). IsQuietOrAmong l mid) (sym same) (quiet_or_first mid batch ids (Reject batch.id) stands concerned first root listeners state (λ view never quiet. quiet_rejected old.root old.store.state batch.id view never quiet))))
-    (goes (steps_of past) stands.writes) stands.pending
-    refl (λ id. refl) (λ h. refl)
-    (subst (λ (os : List Out). AllZip (IsShown new) os (rejected batch.id (old.store.state.number + 1) status ∷ [])) (sym begins) (refl, tt))
+    → HandsSettled old.store.state past (event.Closed stream.Write status) (Done vec) new
+hands_rejected {old} {new} mid {past} {before} {vec} {given} batch status ids idle stands concerned few first opening such root listeners watch goes state rest same raises begins =
+    let answer = commits (Reject batch.id) (rejected batch.id (old.store.state.number + 1) status ∷ []) in
+    let e = event.Closed stream.Write status in
+    let answers : Answers old.store.state past e answer = sym (rejects_is old.store.state batch status few first) ∙ closed_rejects stands status opening such in
+    as_done refl (no_reset past e new (λ t. refl) (ap reset_of (ap (λ (w : WatchStream). w.due) (rest.watch ∙ watch) ∙ idle)))
+    (handed old.store.state past e answer mid new before vec.items answers refl
+    (follows_plain mid e answer stands (record { step = refl; plain = λ id. refl; targets = λ id. refl; began = refl; unrequested = λ h. refl; unraised = λ id. refl }) state listeners watch refl (goes (steps_of past) stands.writes) (few_by old.store.state past e answer answers stands.pending))
+    rest
+    (raises (subst (λ (l : List ℕ). IsQuietOrAmong l mid) (sym same) (quiet_or_first mid batch ids (Reject batch.id) stands concerned first root listeners watch state (λ stance view never quiet. quiet_rejected old.root old.store.state stance batch.id view never quiet))))
+    (λ id. refl) (subst (λ (os : List Out). AllZip (IsShown new) os (rejected batch.id (old.store.state.number + 1) status ∷ [])) (sym begins) (refl, tt)))
 
 -- a batch is acknowledged
-pub hands_acknowledged : {old new : Kept} (mid : Kept) {past : Past} {before : List Out} {vec : Vec Out Global} {given : List ℕ} (batch : Batch) (time : Timestamp) (response : WriteResponse) (ids : List ℕ) → StandsFor old old.store.state past → AreConcerned old.listeners batch.writes ids
+pub hands_acknowledged : {old new : Kept} (mid : Kept) {past : Past} {before : List Out} {vec : Vec Out Global} {given : List ℕ} (batch : Batch) (time : Timestamp) (response : WriteResponse) (ids : List ℕ) → old.watch.due ≡ Nothing → StandsFor old old.store.state past → AreConcerned old.listeners batch.writes ids
     → old.store.state.number < most_commits → first_batch old.store.state ≡ Some batch → response.commit_time ≡ Some time → old.writes.is_open ≡ true → Fits (steps_of past) (first_batch old.store.state) response Acknowledges
-    → mid.root ≡ old.root → mid.listeners ≡ old.listeners → GoesOn old.writes mid.writes (λ h. kept response.token ∷ acknowledged ∷ h) → mid.store.state ≡ committed old.store.state (Acknowledge batch.id time response.results)
+    → mid.root ≡ old.root → mid.listeners ≡ old.listeners → mid.watch ≡ old.watch → GoesOn old.writes mid.writes (λ h. kept response.token ∷ acknowledged ∷ h) → mid.store.state ≡ committed old.store.state (Acknowledge batch.id time response.results)
     → KeepsRest mid new → given ≡ ids → (IsQuietOrAmong given mid → Raises mid new before vec.items) → before ≡ Result batch.id (old.store.state.number + 1) time ∷ []
     → HandsSettled old.store.state past (event.Written response) (Done vec) new
-hands_acknowledged {old} {new} mid {past} {before} {vec} {given} batch time response ids stands concerned few first at opening fits root listeners goes state rest same raises begins =
-    hands_settled old.store.state past (event.Written response) (commits (Acknowledge batch.id time response.results) (result batch.id (old.store.state.number + 1) time ∷ [])) mid new before vec
-    (written_as stands response _ opening (acknowledges batch time first at fits (sym (settles_is old.store.state batch.id time response.results few)))) state
-    (λ id. ap (λ (t : Table). viewed t id) listeners ∙ stands.listeners id) rest
-    (raises (subst (λ (l : List ℕ). IsQuietOrAmong l mid) (sym same) (quiet_or_first mid batch ids (Acknowledge batch.id time response.results) stands concerned first root listeners state (λ view never quiet. quiet_acknowledged old.root old.store.state batch.id time response.results view never quiet))))
-    (subst (λ (b : Bool). StandsOn mid.writes (kept response.token ∷ (if b then acknowledged else shaken) ∷ steps_of past)) (sym fits.0) (goes (steps_of past) stands.writes)) stands.pending
-    refl (λ id. refl) (λ h. refl)
-    (subst (λ (os : List Out). AllZip (IsShown new) os (result batch.id (old.store.state.number + 1) time ∷ [])) (sym begins) (refl, tt))
+hands_acknowledged {old} {new} mid {past} {before} {vec} {given} batch time response ids idle stands concerned few first at opening fits root listeners watch goes state rest same raises begins =
+    let answer = commits (Acknowledge batch.id time response.results) (result batch.id (old.store.state.number + 1) time ∷ []) in
+    let e = event.Written response in
+    let answers : Answers old.store.state past e answer = written_as stands response _ opening (acknowledges batch time first at fits (sym (settles_is old.store.state batch.id time response.results few))) in
+    as_done refl (no_reset past e new (λ t. refl) (ap reset_of (ap (λ (w : WatchStream). w.due) (rest.watch ∙ watch) ∙ idle)))
+    (handed old.store.state past e answer mid new before vec.items answers refl
+    (follows_plain mid e answer stands (record { step = refl; plain = λ id. refl; targets = λ id. refl; began = refl; unrequested = λ h. refl; unraised = λ id. refl }) state listeners watch refl
+    (subst (λ (b : Bool). StandsOn mid.writes (kept response.token ∷ (if b then acknowledged else shaken) ∷ steps_of past)) (sym fits.0) (goes (steps_of past) stands.writes)) (few_by old.store.state past e answer answers stands.pending))
+    rest
+    (raises (subst (λ (l : List ℕ). IsQuietOrAmong l mid) (sym same) (quiet_or_first mid batch ids (Acknowledge batch.id time response.results) stands concerned first root listeners watch state (λ stance view never quiet. quiet_acknowledged old.root old.store.state stance batch.id time response.results view never quiet))))
+    (λ id. refl) (subst (λ (os : List Out). AllZip (IsShown new) os (result batch.id (old.store.state.number + 1) time ∷ [])) (sym begins) (refl, tt)))
 
 pub some_moment : {found : Option Timestamp} {time : Timestamp} → found ≡ Some time → IfSome found IsMoment → IsMoment time
 some_moment {found} {time} is of_it = subst (λ (t : Option Timestamp). IfSome t IsMoment) is of_it
 
 pub opened_none : (name : StreamName) (opening : Bool) → (opened_turn name opening).commit ≡ None
 opened_none name true = refl
-opened_none name false = refl
+opened_none stream.Watch false = refl
+opened_none stream.Write false = refl
 
 pub bad_none : (name : StreamName) (member : List ℕ) (opening : Bool) → (bad_turn name member opening).commit ≡ None
 bad_none name member true = refl
@@ -288,26 +276,22 @@ pub acknowledge_fits : (s : State) (batch : Batch) (id : ℕ) (time : Timestamp)
 acknowledge_fits s batch id time response same first few has =
     (subst (λ (n : ℕ). IsAnswered s.batches n response.results) (sym same) (fits_first s.batches batch response first has), few)
 
-pub moves_rejected : {old : Kept} {past : Past} {before later : View} (batch : Batch) (name : StreamName) (status : RpcStatus) → StandsFor old old.store.state past → old.store.state.number < most_commits → first_batch old.store.state ≡ Some batch → old.writes.is_open ≡ true → closing_of (steps_of past) status.code ≡ Rejects
-    → Moves old.store.state (committed old.store.state (Reject batch.id)) before later → MovesBy old.store.state past (event.Closed name status) before later
-moves_rejected {old} {past} batch name status stands few first opening such moves = record {
-  answer = commits (Reject batch.id) (rejected batch.id (old.store.state.number + 1) status ∷ []);
-  answers = sym (rejects_is old.store.state batch status few first) ∙ closed_rejects stands name status opening such;
-  moves = moves;
-}
+pub moves_rejected : {old : Kept} {past : Past} {before later : View} (batch : Batch) (status : RpcStatus) → StandsFor old old.store.state past → old.store.state.number < most_commits → first_batch old.store.state ≡ Some batch → old.writes.is_open ≡ true → closing_of (steps_of past) status.code ≡ Rejects
+    → Moves old.store.state (committed old.store.state (Reject batch.id)) before later → MovesBy old.store.state past (event.Closed stream.Write status) before later
+moves_rejected {old} {past} batch status stands few first opening such moves =
+    moves_by (commits (Reject batch.id) (rejected batch.id (old.store.state.number + 1) status ∷ []))
+    (sym (rejects_is old.store.state batch status few first) ∙ closed_rejects stands status opening such) moves
 
 pub moves_acknowledged : {old : Kept} {past : Past} {before later : View} (batch : Batch) (time : Timestamp) (response : WriteResponse) → StandsFor old old.store.state past → old.store.state.number < most_commits → first_batch old.store.state ≡ Some batch → response.commit_time ≡ Some time → old.writes.is_open ≡ true
     → Fits (steps_of past) (first_batch old.store.state) response Acknowledges → Moves old.store.state (committed old.store.state (Acknowledge batch.id time response.results)) before later → MovesBy old.store.state past (event.Written response) before later
-moves_acknowledged {old} {past} batch time response stands few first at opening fits moves = record {
-  answer = commits (Acknowledge batch.id time response.results) (result batch.id (old.store.state.number + 1) time ∷ []);
-  answers = written_as stands response _ opening (acknowledges batch time first at fits (sym (settles_is old.store.state batch.id time response.results few)));
-  moves = moves;
-}
+moves_acknowledged {old} {past} batch time response stands few first at opening fits moves =
+    moves_by (commits (Acknowledge batch.id time response.results) (result batch.id (old.store.state.number + 1) time ∷ []))
+    (written_as stands response _ opening (acknowledges batch time first at fits (sym (settles_is old.store.state batch.id time response.results few)))) moves
 
 -- no number is left
-pub spent_rejects : {client : Kept} {past : Past} (batch : Batch) (name : StreamName) (status : RpcStatus) → StandsFor client client.store.state past → most_commits ≤ client.store.state.number → first_batch client.store.state ≡ Some batch → client.writes.is_open ≡ true → closing_of (steps_of past) status.code ≡ Rejects
-    → Answers client.store.state past (event.Closed name status) (refused IdsSpent)
-spent_rejects {client} {past} batch name status stands many first opening such = sym (rejects_not client.store.state batch status many first) ∙ closed_rejects stands name status opening such
+pub spent_rejects : {client : Kept} {past : Past} (batch : Batch) (status : RpcStatus) → StandsFor client client.store.state past → most_commits ≤ client.store.state.number → first_batch client.store.state ≡ Some batch → client.writes.is_open ≡ true → closing_of (steps_of past) status.code ≡ Rejects
+    → Answers client.store.state past (event.Closed stream.Write status) (refused IdsSpent)
+spent_rejects {client} {past} batch status stands many first opening such = sym (rejects_not client.store.state batch status many first) ∙ closed_rejects stands status opening such
 
 pub spent_acknowledges : {client : Kept} {past : Past} (response : WriteResponse) → StandsFor client client.store.state past → most_commits ≤ client.store.state.number → client.writes.is_open ≡ true → Fits (steps_of past) (first_batch client.store.state) response Acknowledges
     → Answers client.store.state past (event.Written response) (refused IdsSpent)

@@ -1,5 +1,5 @@
 -- What a store's files find.
-use Rattle.std.proofs.Common.{◌≡◌, ◌⊎◌, inl, ℕ, Option, Some, None, List, refl}
+use Rattle.std.proofs.Common.{◌≡◌, ◌⊎◌, inl, ℕ, Option, Some, None, IfSome, List, refl}
 use Rattle.std.specs.Option.{ForSome}
 use Rattle.host_api.specs.Host.{Files, View, Emits}
 use Rattle.host_api.proofs.Spans.{spans_none}
@@ -8,6 +8,12 @@ use Rattle.disk_journal.proofs.Held.{open_gives, open_crash, open_emits}
 use Rattle.local_store.specs.Files.{FindsState, Moves}
 use Rattle.local_store.specs.State.{State}
 use Rattle.local_store.specs.Store.{Store, IsOver, IsSpent, IsStored}
+use Rattle.client_events.specs.declared.event.Event.{Event}
+use Rattle.record_codec.specs.declared.commit.Commit.{Commit}
+use Rattle.sync_engine.specs.Answers.{Answers}
+use Rattle.sync_engine.specs.Past.{Past, Turn}
+use Rattle.sync_engine.specs.Telling.{Makes, MovesBy}
+use Rattle.sync_engine.specs.Turns.{after}
 
 over_finds : {s : State} {v : View} (place : Option Place) → (place ≡ None → ⊥) → ForSome place (IsOver s v) → (c : Files) → v.may_leave c → FindsState c s
 over_finds None whole is c left = absurd (whole refl)
@@ -34,3 +40,15 @@ nothing_moves {store} {v} to whole is = record {
   crash = λ c left. inl (stored_finds whole is c left);
   time = spans_none v (λ o c. (o ≡ v.out) × (FindsState c store.state ⊎ FindsState c to));
 }
+
+-- what moves to the state after the commit of an answer moves by the event
+pub moves_by : {s : State} {past : Past} {e : Event} {old new : View} (answer : Turn) → Answers s past e answer → Moves s (after s answer.commit) old new → MovesBy s past e old new
+moves_by {s} {past} {e} answer answers moves = record { commit = answer.commit; makes = by answer.commit refl; moves = moves }
+  where
+    by : (made : Option Commit) → answer.commit ≡ made → IfSome made (Makes s past e)
+    by None is = tt
+    by (Some made) is = (answer, answers, is)
+
+-- what moves nowhere does so at each event
+pub moves_still : {s : State} {past : Past} {e : Event} {old new : View} → Moves s s old new → MovesBy s past e old new
+moves_still moves = record { commit = None; makes = tt; moves = moves }

@@ -1,37 +1,42 @@
 -- what is handed out for an event
-use Rattle.std.proofs.Common.{◌≡◌, ℕ, ◌≤◌, ◌<◌, Bool, true, false, not, nat_eq, List, [], ◌∷◌, ◌++◌, map as each, length, Option, Some, None, option_map, is_some, IfSome, if◌then◌else◌, Vec, Global, refl, sym, ap, subst, ◌∙◌, arith}
+use Rattle.std.proofs.Common.{◌≡◌, ℕ, ◌≤◌, ◌<◌, ℤ, Bool, true, false, not, ◌||◌, nat_eq, List, [], ◌∷◌, ◌++◌, map as each, length, Option, Some, None, option_map, is_some, IfSome, if◌then◌else◌, Vec, Global, refl, sym, ap, subst, ◌∙◌, arith, append-nil}
 use Rattle.std.specs.List.{All, AllPairs, AllZip}
 use Rattle.std.proofs.lemmas.Bool.{eqb-true, eqb-false, true≢false}
 use Rattle.std.proofs.lemmas.Option.{none-some}
 use Rattle.std.proofs.lemmas.List.Elements.{All-nil, All-cons, All-head, All-tail, All-weaker}
 use Rattle.document_keys.specs.Names.{Root}
 use Rattle.client_events.specs.declared.event.Event.{Event}
-use Rattle.client_events.specs.declared.event.Event.TheVariants as event
 use Rattle.listeners.proofs.Ids.{one_id, other_ids}
-use Rattle.listeners.specs.Table.{Changes, is_id, viewed}
-use Rattle.local_store.specs.Documents.{document_of, standing_of}
+use Rattle.listeners.specs.Table.{is_id, viewed}
 use Rattle.local_store.specs.State.{State}
 use Rattle.local_store.specs.Store.{Store}
 use Rattle.queries.proofs.Counting.{pairs_tail}
 use Rattle.views.specs.Viewed.{Viewed}
-use Rattle.sync_engine.specs.Answers.{Answers, ends}
-use Rattle.sync_engine.specs.Turns.{after, answered, refused}
-use Rattle.sync_engine.specs.Lines.{Line, Told, wrote, listening, unlistened, document, result, rejected, snapshot, send}
+use Rattle.sync_engine.specs.Answers.{Answers}
+use Rattle.sync_engine.specs.Turns.{after, refused}
+use Rattle.sync_engine.specs.Lines.{Line, Told, wrote, listening, unlistened, document, result, rejected, error, snapshot, add, remove, send}
 use Rattle.write_pipeline.specs.Order.{Steps, outstanding}
-use Rattle.sync_engine.specs.Past.{Turn, Past, asked, listener, raised_in, sent_in, steps_by, steps_of, told}
-use Rattle.sync_engine.specs.Settling.{IsBelow, Settles, ShowsAt, told_to}
-use Rattle.sync_engine.specs.Standing.{Kept, IsQuiet, StandsFor, StandsOn}
-use Rattle.sync_engine.specs.Telling.{HandsOut, HandsSettled, IsOutcome, IsRaised, IsShown, KeepsRest, Raises}
-use Rattle.sync_engine.specs.Turn.{SettlesAfter, is_heard, snapshot_line, with_snapshots}
+use Rattle.sync_engine.specs.Past.{Turn, Past, asked, is_refused_in, listener, raised_in, sent_in, steps_by, steps_of, told, unless_refused}
+use Rattle.sync_engine.specs.Settling.{IsBelow, Settles, ShowsAt, Stance, stance_of, told_to}
+use Rattle.sync_engine.specs.Standing.{HasTargetRow, IsQuiet, Kept, StandsFor, StandsOn, Watches, stance_in}
+use Rattle.sync_engine.specs.Telling.{HandsOut, HandsSettled, IsOutcome, IsRaised, IsShown, KeepsRest, Raises, ResetsAsDue}
+use Rattle.sync_engine.specs.Asking.{resets_by}
+use Rattle.sync_engine.specs.Stream.{reset_of}
+use Rattle.sync_engine.specs.Turn.{IsSettled, SettlesAfter, answered_next, is_heard, snapshot_line, with_snapshots}
+use Rattle.sync_engine.specs.Watching.{begun_by, begun_in, listened, listened_by, listened_in, requested_by}
 use Rattle.sync_engine.specs.declared.out.Out.{Out}
-use Rattle.sync_engine.specs.declared.out.Out.TheVariants.{Document, Listening, Unlistened, Wrote, Result, Rejected, Raised as RaisedBy, SendHandshake, SendBatch}
+use Rattle.sync_engine.specs.declared.out.Out.TheVariants.{Document, Listening, Unlistened, Wrote, Result, Rejected, Error, Raised as RaisedBy, AddTarget, RemoveTarget, SendHandshake, SendBatch}
 use Rattle.sync_engine.specs.declared.out.Outcome.{Outcome}
 use Rattle.sync_engine.specs.declared.out.Outcome.TheVariants.{Done, Refused}
 use Rattle.sync_engine.specs.declared.refusal.Refusal.{Refusal}
 use Rattle.sync_engine.proofs.Ones.{head_below, told_first, told_later}
 use Rattle.sync_engine.proofs.Quiet.{settles_none}
-use Rattle.sync_engine.proofs.Steps.{few_by, sent_behind, sent_told}
+use Rattle.sync_engine.proofs.Following.{AreQuiet, Follows, stance_same}
+use Rattle.sync_engine.proofs.Reading.{fold_told, stance_behind, targets_behind, watches_behind}
+use Rattle.sync_engine.proofs.Steps.{sent_behind, sent_told}
 use Rattle.sync_engine.specs.Past.{Entry}
+use Rattle.sync_engine.specs.declared.watch_stream.Due.TheVariants.{Nothing}
+use Rattle.sync_engine.specs.declared.watch_stream.WatchStream.{WatchStream}
 use Rattle.sync_engine.specs.declared.write_stream.WriteStream.{WriteStream}
 
 -- ---- the snapshots among the lines
@@ -44,12 +49,34 @@ raised_behind id (unlistened i c ∷ xs) ys none = raised_behind id xs ys none
 raised_behind id (document k d h ∷ xs) ys none = raised_behind id xs ys none
 raised_behind id (result b c t ∷ xs) ys none = raised_behind id xs ys none
 raised_behind id (rejected b c t ∷ xs) ys none = raised_behind id xs ys none
+raised_behind id (error i t ∷ xs) ys none = raised_behind id xs ys none
+raised_behind id (add t r ∷ xs) ys none = raised_behind id xs ys none
+raised_behind id (remove t ∷ xs) ys none = raised_behind id xs ys none
 raised_behind id (send r ∷ xs) ys none = raised_behind id xs ys none
 raised_behind id (snapshot c r t ∷ xs) ys none = go (raised_behind id xs ys) (nat_eq t.id id) none
   where
     go : (raised_in id xs ≡ None → raised_in id (xs ++ ys) ≡ raised_in id ys) → (b : Bool) → (if b then Some t.raised else raised_in id xs) ≡ None → (if b then Some t.raised else raised_in id (xs ++ ys)) ≡ raised_in id ys
     go rest true is = absurd (none-some t.raised (sym is))
     go rest false is = rest is
+
+-- a listener is refused by what stands in either part
+pub refused_behind : (id : ℕ) (xs ys : List Line) → is_refused_in id ys ≡ false → is_refused_in id (xs ++ ys) ≡ is_refused_in id xs
+refused_behind id [] ys none = none
+refused_behind id (wrote b c ∷ xs) ys none = refused_behind id xs ys none
+refused_behind id (listening i t c ∷ xs) ys none = refused_behind id xs ys none
+refused_behind id (unlistened i c ∷ xs) ys none = refused_behind id xs ys none
+refused_behind id (document k d h ∷ xs) ys none = refused_behind id xs ys none
+refused_behind id (result b c t ∷ xs) ys none = refused_behind id xs ys none
+refused_behind id (rejected b c t ∷ xs) ys none = refused_behind id xs ys none
+refused_behind id (error i t ∷ xs) ys none = ap (λ b. nat_eq i id || b) (refused_behind id xs ys none)
+refused_behind id (snapshot c r t ∷ xs) ys none = refused_behind id xs ys none
+refused_behind id (add t r ∷ xs) ys none = refused_behind id xs ys none
+refused_behind id (remove t ∷ xs) ys none = refused_behind id xs ys none
+refused_behind id (send r ∷ xs) ys none = refused_behind id xs ys none
+
+pub refused_told : (id : ℕ) (s : State) (ts : List Told) → is_refused_in id (each (snapshot_line s) ts) ≡ false
+refused_told id s [] = refl
+refused_told id s (t ∷ ts) = refused_told id s ts
 
 pub raised_told : (id : ℕ) (s : State) (ts : List Told) → raised_in id (each (snapshot_line s) ts) ≡ told_to id ts
 raised_told id s [] = refl
@@ -76,59 +103,111 @@ zip_append R (x ∷ xs) (y ∷ ys) us vs first second = (first.0, zip_append R x
 
 -- ---- where the listeners were settled
 
-module _ (s : State) (past : Past) (e : Event) (answer : Turn) (mid new : Kept) (before : List Out) (vec : Vec Out Global)
-    (answers : Answers s past e answer) (state : mid.store.state ≡ after s answer.commit)
-    (listeners : (id : ℕ) → viewed mid.listeners id ≡ asked id e (listener id past))
-    (rest : KeepsRest mid new) (raises : Raises mid new before vec.items)
-    (writes : StandsOn mid.writes (steps_by e None (steps_of past))) (pending : outstanding (steps_of past) ≤ length s.batches) where
+-- what an event comes to and what is handed out, but for the requests that go out
+pub record Handed (s : State) (past : Past) (e : Event) (answer : Turn) (outs : List Out) (client : Kept) : Type 0 where
+  pub turn : Turn
+  pub is_settled : IsSettled client.root s past e turn
+  pub stands : StandsFor client (after s turn.commit) (record { state = s; event = e; turn = turn } ∷ past)
+  pub shown : AllZip (IsShown client) outs turn.lines
+  pub refusal : turn.refusal ≡ answer.refusal
+
+module _ (s : State) (past : Past) (e : Event) (answer : Turn) (mid new : Kept) (before after_them : List Out)
+    (answers : Answers s past e answer) (heard : is_heard answer.refusal ≡ true)
+    (it : Follows mid (after s answer.commit) (answered_next s past e answer))
+    (rest : KeepsRest mid new) (raises : Raises mid new before after_them)
+    (unraised : (id : ℕ) → raised_in id answer.lines ≡ None) where
   abbrev later : State
   later = after s answer.commit
+
+  abbrev next : Past
+  next = answered_next s past e answer
 
   abbrev ts : List Told
   ts = raises.told
 
+  abbrev snaps : List Line
+  snaps = each (snapshot_line later) ts
+
   abbrev turn : Turn
   turn = with_snapshots later answer ts
 
-  new_state : new.store.state ≡ later
-  new_state = ap (λ (x : Store). x.state) rest.store ∙ state
+  abbrev behind : Past
+  behind = answered_next s past e turn
 
-  settles : Settles new.root later (λ id. asked id e (listener id past)) ts
+  new_state : new.store.state ≡ later
+  new_state = ap (λ (x : Store). x.state) rest.store ∙ it.state
+
+  settles : Settles new.root later (stance_of next) (λ id. listener id next) ts
   settles = record {
     ascending = raises.settles.ascending;
     each = λ id.
-        subst (λ (root : Root). ShowsAt root later (asked id e (listener id past)) (told_to id ts)) (sym rest.root)
-        (subst (λ (v : Option Viewed). ShowsAt mid.root later v (told_to id ts)) (listeners id)
-        (subst (λ (x : State). ShowsAt mid.root x (viewed mid.listeners id) (told_to id ts)) state (raises.settles.each id)));
+        subst (λ (root : Root). ShowsAt root later (stance_of next id) (listener id next) (told_to id ts)) (sym rest.root)
+        (subst (λ (k : Stance). ShowsAt mid.root later k (listener id next) (told_to id ts)) (stance_same it id)
+        (subst (λ (v : Option Viewed). ShowsAt mid.root later (stance_in mid id) v (told_to id ts)) (it.listeners id)
+        (subst (λ (x : State). ShowsAt mid.root x (stance_in mid id) (viewed mid.listeners id) (told_to id ts)) it.state (raises.settles.each id))));
   }
 
-  lines_told : ((id : ℕ) → raised_in id answer.lines ≡ None) → (id : ℕ) → raised_in id turn.lines ≡ told_to id ts
-  lines_told none id = raised_behind id answer.lines (each (snapshot_line later) ts) (none id) ∙ raised_told id later ts
+  -- the listener of an id after the event, and after its snapshots
+  abbrev held : ℕ → Option Viewed
+  held id = unless_refused (is_refused_in id answer.lines) (asked id e (listener id past))
 
-  heard : ((id : ℕ) → raised_in id answer.lines ≡ None) → (id : ℕ) → viewed new.listeners id ≡ told (raised_in id turn.lines) (asked id e (listener id past))
-  heard none id = raises.listeners id ∙ ap (told (told_to id ts)) (listeners id) ∙ ap (λ r. told r (asked id e (listener id past))) (sym (lines_told none id))
+  held_is : (id : ℕ) → listener id next ≡ held id
+  held_is id = ap (λ r. told r (held id)) (unraised id)
 
-  silent : ((h : Steps) → sent_in answer.lines h ≡ h) → (h : Steps) → sent_in turn.lines h ≡ h
-  silent none h = sent_behind answer.lines (each (snapshot_line later) ts) h ∙ sent_told later ts (sent_in answer.lines h) ∙ none h
+  behind_is : (id : ℕ) → listener id behind ≡ told (told_to id ts) (listener id next)
+  behind_is id =
+      ap (λ r. told r (unless_refused (is_refused_in id (answer.lines ++ snaps)) (asked id e (listener id past)))) (raised_behind id answer.lines snaps (unraised id) ∙ raised_told id later ts)
+      ∙ ap (λ b. told (told_to id ts) (unless_refused b (asked id e (listener id past)))) (refused_behind id answer.lines snaps (refused_told id later ts))
+      ∙ ap (told (told_to id ts)) (sym (held_is id))
 
-  stands : ((id : ℕ) → raised_in id answer.lines ≡ None) → ((h : Steps) → sent_in answer.lines h ≡ h) → answer.refusal ≡ None → StandsFor new later (record { state = s; event = e; turn = turn } ∷ past)
-  stands none unsent done = record {
+  heard_then_is : (id : ℕ) → viewed new.listeners id ≡ listener id behind
+  heard_then_is id = raises.listeners id ∙ ap (told (told_to id ts)) (it.listeners id) ∙ sym (behind_is id)
+
+  silent : (h : Steps) → sent_in turn.lines h ≡ sent_in answer.lines h
+  silent h = sent_behind answer.lines snaps h ∙ sent_told later ts (sent_in answer.lines h)
+
+  steps_same : steps_of behind ≡ steps_of next
+  steps_same = silent (steps_by e answer.refusal (steps_of past))
+
+  no_target : (id : ℕ) (was : Option ℤ) → listened_in id snaps was ≡ was
+  no_target id was = fold_told (listened_by id) (λ b r t. refl) later ts was
+
+  no_begin : (ids : List ℕ) → begun_in snaps ids ≡ ids
+  no_begin ids = fold_told begun_by (λ b r t. refl) later ts ids
+
+  targets_are : (id : ℕ) → listened id behind ≡ listened id next
+  targets_are id = targets_behind past s e answer snaps no_target no_begin id
+
+  stances_are : (id : ℕ) → stance_of behind id ≡ stance_of next id
+  stances_are id = stance_behind past s e answer snaps no_target no_begin id
+
+  watch_is : Watches new.watch behind
+  watch_is =
+      subst (λ (w : WatchStream). Watches w behind) (sym rest.watch)
+      (watches_behind past s e answer snaps no_target no_begin (λ h. fold_told requested_by (λ b r t. refl) later ts h) it.watch)
+
+  stands : StandsFor new later behind
+  stands = record {
     state = new_state;
-    listeners = heard none;
-    writes = subst (λ (h : Steps). StandsOn new.writes h) (sym (silent unsent (steps_by e None (steps_of past)))) (subst (λ (w : WriteStream). StandsOn w (steps_by e None (steps_of past))) (sym rest.writes) writes);
-    pending = subst (λ (h : Steps). outstanding h ≤ length later.batches) (sym (silent unsent (steps_by e None (steps_of past)))) (subst (λ (r : Option Refusal). outstanding (steps_by e r (steps_of past)) ≤ length later.batches) done (few_by s past e answer answers pending));
+    listeners = heard_then_is;
+    targets = λ id. rest.targets id ∙ it.targets id ∙ sym (targets_are id);
+    rows = λ id. subst (λ (o : Option ℤ). IfSome o (HasTargetRow later.rows)) (sym (targets_are id)) (it.rows id);
     quiet = λ id.
-        subst (λ (v : Option Viewed). IfSome v (IsQuiet new.root later)) (heard none id)
-        (subst (λ (root : Root). IfSome (viewed new.listeners id) (IsQuiet root later)) (sym rest.root)
-        (subst (λ (x : State). IfSome (viewed new.listeners id) (IsQuiet mid.root x)) state (raises.quiet id)));
+        subst (λ (k : Stance). IfSome (listener id behind) (IsQuiet new.root later k)) (stance_same it id ∙ sym (stances_are id))
+        (subst (λ (v : Option Viewed). IfSome v (IsQuiet new.root later (stance_in mid id))) (heard_then_is id)
+        (subst (λ (root : Root). IfSome (viewed new.listeners id) (IsQuiet root later (stance_in mid id))) (sym rest.root)
+        (subst (λ (x : State). IfSome (viewed new.listeners id) (IsQuiet mid.root x (stance_in mid id))) it.state (raises.quiet id))));
+    watch = watch_is;
+    writes = subst (λ (h : Steps). StandsOn new.writes h) (sym steps_same) (subst (λ (w : WriteStream). StandsOn w (steps_of next)) (sym rest.writes) it.writes);
+    pending = subst (λ (h : Steps). outstanding h ≤ length later.batches) (sym steps_same) it.pending;
   }
 
   -- who raised a snapshot is a listener
   is_raised : (t : Told) → told_to t.id ts ≡ Some t.raised → IsRaised new t.id (snapshot_line later t)
-  is_raised t is = go (viewed mid.listeners t.id) refl (subst (ShowsAt mid.root mid.store.state (viewed mid.listeners t.id)) is (raises.settles.each t.id))
+  is_raised t is = go (viewed mid.listeners t.id) refl (subst (ShowsAt mid.root mid.store.state (stance_in mid t.id) (viewed mid.listeners t.id)) is (raises.settles.each t.id))
     where
-      go : (v : Option Viewed) → viewed mid.listeners t.id ≡ v → ShowsAt mid.root mid.store.state (viewed mid.listeners t.id) (Some t.raised) → IsRaised new t.id (snapshot_line later t)
-      go None there shows = absurd (none-some t.raised (sym (subst (λ (v : Option Viewed). ShowsAt mid.root mid.store.state v (Some t.raised)) there shows)))
+      go : (v : Option Viewed) → viewed mid.listeners t.id ≡ v → ShowsAt mid.root mid.store.state (stance_in mid t.id) (viewed mid.listeners t.id) (Some t.raised) → IsRaised new t.id (snapshot_line later t)
+      go None there shows = absurd (none-some t.raised (sym (subst (λ (v : Option Viewed). ShowsAt mid.root mid.store.state (stance_in mid t.id) v (Some t.raised)) there shows)))
       go (Some view) there shows = record {
         view = record { target = view.target; raised = Some t.raised };
         there = raises.listeners t.id ∙ ap (λ r. told r (viewed mid.listeners t.id)) is ∙ ap (told (Some t.raised)) there;
@@ -141,23 +220,83 @@ module _ (s : State) (past : Past) (e : Event) (answer : Turn) (mid new : Kept) 
   shown [] all = tt
   shown (u ∷ us) all = (is_raised u (All-head (λ (t : Told). told_to t.id ts ≡ Some t.raised) u us all), shown us (All-tail (λ (t : Told). told_to t.id ts ≡ Some t.raised) u us all))
 
-  pub hands_settled : answer.refusal ≡ None → ((id : ℕ) → raised_in id answer.lines ≡ None) → ((h : Steps) → sent_in answer.lines h ≡ h) → AllZip (IsShown new) before answer.lines → HandsSettled s past e (Done vec) new
-  hands_settled none quiet unsent first = record {
+  pub handed : AllZip (IsShown new) before answer.lines → Handed s past e answer after_them new
+  handed first = record {
     turn = turn;
     is_settled = record {
       answer = answer;
       answers = answers;
-      settles = subst (λ (r : Option Refusal). SettlesAfter new.root s past e answer r turn) (sym none) (record { told = ts; settles = settles; is = refl });
+      settles = subst (λ (b : Bool). SettlesAfter new.root s past e answer b turn) (sym heard) (record { told = ts; settles = settles; is = refl });
     };
-    stands = stands quiet unsent none;
-    outcome = (
-      refl,
-      subst (λ (os : List Out). AllZip (IsShown new) os turn.lines) (sym raises.outs)
-          (zip_append (IsShown new) before answer.lines (each (λ (t : Told). RaisedBy t.id) ts) (each (snapshot_line later) ts) first (shown ts (all_told ts raises.settles.ascending))),
-    );
+    stands = stands;
+    shown = subst (λ (os : List Out). AllZip (IsShown new) os turn.lines) (sym raises.outs)
+        (zip_append (IsShown new) before answer.lines (each (λ (t : Told). RaisedBy t.id) ts) snaps first (shown ts (all_told ts raises.settles.ascending)));
+    refusal = refl;
   }
 
+-- ---- the outcome
+
+pub as_done : {s : State} {past : Past} {e : Event} {answer : Turn} {client : Kept} {vec : Vec Out Global} → answer.refusal ≡ None → ResetsAsDue past e client → Handed s past e answer vec.items client → HandsSettled s past e (Done vec) client
+as_done {s} {past} {e} {answer} {client} {vec} none resets it = record {
+  turn = it.turn;
+  is_settled = it.is_settled;
+  stands = subst (λ (b : Bool). StandsFor client (after s it.turn.commit) (if b then record { state = s; event = e; turn = it.turn } ∷ past else past)) (sym (ap is_heard (it.refusal ∙ none))) it.stands;
+  outcome = (it.refusal ∙ none, it.shown);
+  idle = tt;
+  resets = resets;
+}
+
+-- an event that resets no target
+pub no_reset : (past : Past) (e : Event) (client : Kept) → ((t : ℤ) → resets_by e past t ≡ false) → reset_of client.watch.due ≡ None → ResetsAsDue past e client
+no_reset past e client never none t = (λ is. absurd (true≢false (sym is ∙ never t)), λ is. absurd (none-some t (sym none ∙ is)))
+
+pub as_refused : {s : State} {past : Past} {e : Event} {answer : Turn} {client : Kept} {vec : Vec Out Global} (refusal : Refusal) → answer.refusal ≡ Some refusal → is_heard (Some refusal) ≡ true → client.watch.due ≡ Nothing → Handed s past e answer vec.items client
+    → HandsSettled s past e (Refused refusal vec) client
+as_refused {s} {past} {e} {answer} {client} {vec} refusal is heard idle it = record {
+  turn = it.turn;
+  is_settled = it.is_settled;
+  stands = subst (λ (b : Bool). StandsFor client (after s it.turn.commit) (if b then record { state = s; event = e; turn = it.turn } ∷ past else past)) (sym (ap is_heard (it.refusal ∙ is) ∙ heard)) it.stands;
+  outcome = (it.refusal ∙ is, it.shown);
+  idle = idle;
+  resets = tt;
+}
+
 -- ---- where no listener raises anything
+
+-- where every listener is quiet, nothing is raised
+pub raises_none : {client : Kept} (outs : List Out) → AreQuiet client → Raises client client outs outs
+raises_none {client} outs quiet = record {
+  told = [];
+  settles = settles_none client.root client.store.state (stance_in client) (viewed client.listeners) all;
+  outs = sym (append-nil outs);
+  listeners = λ id. refl;
+  quiet = all;
+}
+  where
+    by : (id : ℕ) (v : Option Viewed) → viewed client.listeners id ≡ v → IfSome v (IsQuiet client.root client.store.state (stance_in client id))
+    by id None there = tt
+    by id (Some view) there = quiet id view there
+
+    all : (id : ℕ) → IfSome (viewed client.listeners id) (IsQuiet client.root client.store.state (stance_in client id))
+    all id = by id (viewed client.listeners id) refl
+
+pub keeps_all : {client : Kept} → KeepsRest client client
+keeps_all = record { root = refl; store = refl; targets = λ id. refl; watch = refl; writes = refl; spent = refl }
+
+-- ---- refusals that are not heard
+
+pub hands_refused : {client : Kept} {s : State} {past : Past} {e : Event} {vec : Vec Out Global} (refusal : Refusal) → is_heard (Some refusal) ≡ false → client.watch.due ≡ Nothing → StandsFor client s past → Answers s past e (refused refusal) → vec.items ≡ []
+    → HandsSettled s past e (Refused refusal vec) client
+hands_refused {client} {s} {past} {e} {vec} refusal unheard idle stands answers none =
+    let entry : Entry = record { state = s; event = e; turn = refused refusal } in
+    record {
+      turn = refused refusal;
+      is_settled = record { answer = refused refusal; answers = answers; settles = subst (λ (b : Bool). SettlesAfter client.root s past e (refused refusal) b (refused refusal)) (sym unheard) refl };
+      stands = subst (λ (b : Bool). StandsFor client s (if b then entry ∷ past else past)) (sym unheard) stands;
+      outcome = (refl, subst (λ (os : List Out). AllZip (IsShown client) os []) (sym none) tt);
+      idle = idle;
+      resets = tt;
+    }
 
 -- a listener stays, or another
 pub same_id : (id q : ℕ) → is_id id q ≡ nat_eq id q
@@ -168,57 +307,6 @@ same_id id q = by (is_id id q) refl (nat_eq id q) refl
     by true one false two = absurd (eqb-false id q two (one_id id q one))
     by false one true two = absurd (other_ids id q one (sym (eqb-true id q two)))
     by false one false two = one ∙ sym two
-
--- nothing of what the client keeps changes
-pub hands_got : {client : Kept} {s : State} {past : Past} {vec : Vec Out Global} (key : List (List ℕ)) → StandsFor client s past → vec.items ≡ Document key ∷ [] → HandsSettled s past (event.Get key) (Done vec) client
-hands_got {client} {s} {past} {vec} key stands is =
-    let line = document key (document_of s key) (standing_of s key) in
-    let answer = answered (line ∷ []) in
-    record {
-      turn = with_snapshots s answer [];
-      is_settled = record { answer = answer; answers = refl; settles = record { told = []; settles = settles_none client.root s (λ id. listener id past) stands.quiet; is = refl } };
-      stands = record { state = stands.state; listeners = stands.listeners; quiet = stands.quiet; writes = stands.writes; pending = stands.pending };
-      outcome = (refl, subst (λ (os : List Out). AllZip (IsShown client) os (line ∷ [])) (sym is) ((λ i. document key (document_of (sym stands.state i) key) (standing_of (sym stands.state i) key)), tt));
-    }
-
--- a listener ends
-pub hands_ended : {old new : Kept} {s : State} {past : Past} {vec : Vec Out Global} (id : ℕ) (view : Viewed) → viewed old.listeners id ≡ Some view → StandsFor old s past → new.root ≡ old.root → new.store ≡ old.store → new.writes ≡ old.writes → Changes id None old.listeners new.listeners
-    → vec.items ≡ Unlistened id old.store.state.number ∷ [] → HandsSettled s past (event.Unlisten id) (Done vec) new
-hands_ended {old} {new} {s} {past} {vec} id view there stands root store writes changes is =
-    let answer = answered (unlistened id s.number ∷ []) in
-    let ended : ends s id (listener id past) ≡ answer = ap (ends s id) (sym (stands.listeners id) ∙ there) in
-    record {
-      turn = with_snapshots s answer [];
-      is_settled = record {
-        answer = answer;
-        answers = sym ended;
-        settles = record { told = []; settles = settles_none new.root s (λ q. asked q (event.Unlisten id) (listener q past)) quiet; is = refl };
-      };
-      stands = record { state = ap (λ (x : Store). x.state) store ∙ stands.state; listeners = listeners; quiet = quiet; writes = subst (λ (w : WriteStream). StandsOn w (steps_of past)) (sym writes) stands.writes; pending = stands.pending };
-      outcome = (refl, subst (λ (os : List Out). AllZip (IsShown new) os (unlistened id s.number ∷ [])) (sym is) (ap (λ (x : State). unlistened id x.number) (sym stands.state), tt));
-    }
-  where
-    listeners : (q : ℕ) → viewed new.listeners q ≡ asked q (event.Unlisten id) (listener q past)
-    listeners q = changes q ∙ ap (λ b. if b then None else viewed old.listeners q) (same_id id q) ∙ ap (λ v. if nat_eq id q then None else v) (stands.listeners q)
-
-    quiet : (q : ℕ) → IfSome (asked q (event.Unlisten id) (listener q past)) (IsQuiet new.root s)
-    quiet q = go (nat_eq id q)
-      where
-        go : (b : Bool) → IfSome (if b then None else listener q past) (IsQuiet new.root s)
-        go true = tt
-        go false = subst (λ (r : Root). IfSome (listener q past) (IsQuiet r s)) (sym root) (stands.quiet q)
-
--- ---- refusals
-
-pub hands_refused : {client : Kept} {s : State} {past : Past} {e : Event} (refusal : Refusal) → is_heard (Some refusal) ≡ false → StandsFor client s past → Answers s past e (refused refusal) → HandsSettled s past e (Refused refusal) client
-hands_refused {client} {s} {past} {e} refusal unheard stands answers =
-    let entry : Entry = record { state = s; event = e; turn = refused refusal } in
-    record {
-      turn = refused refusal;
-      is_settled = record { answer = refused refusal; answers = answers; settles = refl };
-      stands = subst (λ (b : Bool). StandsFor client s (if b then entry ∷ past else past)) (sym unheard) stands;
-      outcome = (refl, refl);
-    }
 
 -- ---- whether there is a listener
 
@@ -233,10 +321,10 @@ some_viewed f (Some x) v b maps is so = (f x, sym maps)
 -- ---- whether it is spent says nothing of what it stands for
 
 abbrev as_spent : Kept → Bool → Kept
-as_spent k b = record { root = k.root; store = k.store; listeners = k.listeners; writes = k.writes; spent = b }
+as_spent k b = record { root = k.root; store = k.store; listeners = k.listeners; watch = k.watch; writes = k.writes; spent = b }
 
 pub stands_still : {k : Kept} {s : State} {past : Past} (b : Bool) → StandsFor k s past → StandsFor (as_spent k b) s past
-stands_still b stands = record { state = stands.state; listeners = stands.listeners; quiet = stands.quiet; writes = stands.writes; pending = stands.pending }
+stands_still b stands = record { state = stands.state; listeners = stands.listeners; targets = stands.targets; rows = stands.rows; quiet = stands.quiet; watch = stands.watch; writes = stands.writes; pending = stands.pending }
 
 shown_still : (k : Kept) (b : Bool) (out : Out) (line : Line) → IsShown k out line → IsShown (as_spent k b) out line
 shown_still k b (Wrote batch commit) line is = is
@@ -245,6 +333,9 @@ shown_still k b (Unlistened id commit) line is = is
 shown_still k b (Document key) line is = is
 shown_still k b (Result batch commit time) line is = is
 shown_still k b (Rejected batch commit status) line is = is
+shown_still k b (Error id status) line is = is
+shown_still k b (AddTarget t) line is = record { row = is.row; of_id = is.of_id; is = is.is }
+shown_still k b (RemoveTarget t) line is = is
 shown_still k b SendHandshake line is = is
 shown_still k b (SendBatch place) line is = record { steps = is.steps; stands = is.stands; batch = is.batch; there = is.there; is = is.is }
 shown_still k b (RaisedBy id) line is = record { view = is.view; there = is.there; raised = is.raised; last = is.last; is = is.is }
@@ -257,7 +348,7 @@ all_still k b (out ∷ outs) (line ∷ lines) all = (shown_still k b out line al
 
 outcome_still : (k : Kept) (b : Bool) (handed : Outcome) (t : Turn) → IsOutcome handed k t → IsOutcome handed (as_spent k b) t
 outcome_still k b (Done outs) t is = (is.0, all_still k b outs.items t.lines is.1)
-outcome_still k b (Refused refusal) t is = is
+outcome_still k b (Refused refusal outs) t is = (is.0, all_still k b outs.items t.lines is.1)
 
 pub hands_still : {k : Kept} {s : State} {past : Past} {e : Event} {handed : Outcome} (b : Bool) → HandsOut s past e handed k → HandsOut s past e handed (as_spent k b)
 hands_still {k} {s} {past} {e} {handed} b it = record { turn = it.turn; is_turn = it.is_turn; stands = stands_still b it.stands; outcome = outcome_still k b handed it.turn it.outcome }

@@ -1,5 +1,5 @@
 -- an event has one turn
-use Rattle.std.proofs.Common.{◌≡◌, ◌↔◌, ⊎_elim, ℕ, ◌<◌, ℤ, Bool, true, false, IsTrue, nat_eq, suc, List, [], ◌∷◌, length, Option, Some, None, if◌then◌else◌, refl, sym, ap, subst, ◌∙◌, arith}
+use Rattle.std.proofs.Common.{◌≡◌, ◌↔◌, ⊎_elim, ℕ, ◌<◌, ℤ, Bool, true, false, IsTrue, nat_eq, suc, List, [], ◌∷◌, length, ◌++◌, ◌&&◌, Option, Some, None, is_none, if◌then◌else◌, refl, sym, ap, subst, ◌∙◌, arith}
 use Rattle.std.specs.List.{All, AllPairs}
 use Rattle.std.specs.Prelude.{nat_lt}
 use Rattle.std.proofs.lemmas.Bool.{eqb-true, eq-eqb, eqb-false, ltb-true, ltb-false, true≢false}
@@ -23,7 +23,7 @@ use Rattle.sync_engine.specs.Answers.{Answers, Begins, listens}
 use Rattle.sync_engine.specs.Turns.{after}
 use Rattle.sync_engine.specs.Laws.{ATurnIsOne}
 use Rattle.sync_engine.specs.Lines.{Told}
-use Rattle.sync_engine.specs.Past.{Turn, Past, listener, asked, steps_of}
+use Rattle.sync_engine.specs.Past.{Turn, Past, listener, steps_of}
 use Rattle.sync_engine.specs.Turns.{refused}
 use Rattle.sync_engine.specs.Writing.{IsWritten, WrittenTurn, acknowledges, fails, first_batch, is_open, member_name, settles, shakes}
 use Rattle.sync_engine.specs.declared.refusal.Refusal.TheVariants.{BadMessage}
@@ -39,9 +39,11 @@ use Rattle.write_pipeline.specs.declared.answer.Answer.{Answer}
 use Rattle.write_pipeline.specs.declared.answer.Answer.TheVariants.{Handshake, Acknowledges}
 use Rattle.write_pipeline.specs.declared.answer.WriteMember.{WriteMember}
 use Rattle.write_pipeline.specs.declared.answer.WriteMember.TheVariants.{WriteResults, CommitTime, TransformResults}
-use Rattle.sync_engine.specs.Settling.{offline, Shows, ShowsAt, Settles, IsBelow, raised_by, told_to}
-use Rattle.sync_engine.specs.Turn.{IsSettled, Settled, SettlesAfter, with_requests, with_snapshots}
-use Rattle.sync_engine.specs.declared.refusal.Refusal.{Refusal}
+use Rattle.sync_engine.specs.Asking.{resets_by}
+use Rattle.sync_engine.specs.Settling.{Shows, ShowsAt, Settles, Stance, IsBelow, raised_by, stance_of, told_to}
+use Rattle.sync_engine.specs.Turn.{AsksBehind, IsSettled, Settled, SettlesAfter, answered_next, batches_behind, is_heard, with_lines, with_snapshots}
+use Rattle.sync_engine.specs.Watching.{is_watched}
+use Rattle.sync_engine.proofs.HeardOnes.{asks_one, heard_one}
 
 -- ---- what is shown of one listener
 
@@ -51,18 +53,18 @@ both_true true false first second = sym (second.1 (first.0 refl))
 both_true false true first second = first.1 (second.0 refl)
 both_true false false first second = refl
 
-shows_one : (root : Root) (s : State) (view : Viewed) (a b : Option Raised) → Shows root s view a → Shows root s view b → a ≡ b
-shows_one root s view a b first second =
+shows_one : (root : Root) (s : State) (stance : Stance) (view : Viewed) (a b : Option Raised) → Shows root s stance view a → Shows root s stance view b → a ≡ b
+shows_one root s stance view a b first second =
     let starts : first.may_start ≡ second.may_start = both_true first.may_start second.may_start first.start second.start in
-    let one = refresh_is_one root (documents_of s) (touched_keys_of s) offline second.may_start view first.new second.new first.refresh second.refresh (subst (λ (m : Bool). Refreshes root (documents_of s) (touched_keys_of s) offline m view first.new first.refresh) starts first.refreshes) second.refreshes in
+    let one = refresh_is_one root (documents_of s) (touched_keys_of s) stance.standing second.may_start view first.new second.new first.refresh second.refresh (subst (λ (m : Bool). Refreshes root (documents_of s) (touched_keys_of s) stance.standing m view first.new first.refresh) starts first.refreshes) second.refreshes in
     first.is ∙ raised_same first.refresh second.refresh first.new second.new one.raised one.view ∙ sym second.is
   where
     raised_same : (r q : Refresh) (v w : Viewed) → r.raised ≡ q.raised → v ≡ w → raised_by r v ≡ raised_by q w
     raised_same r q v w told same = (λ i. if told i then (same i).raised else None)
 
-shows_at_one : (root : Root) (s : State) (view : Option Viewed) (a b : Option Raised) → ShowsAt root s view a → ShowsAt root s view b → a ≡ b
-shows_at_one root s None a b first second = first ∙ sym second
-shows_at_one root s (Some view) a b first second = shows_one root s view a b first second
+shows_at_one : (root : Root) (s : State) (stance : Stance) (view : Option Viewed) (a b : Option Raised) → ShowsAt root s stance view a → ShowsAt root s stance view b → a ≡ b
+shows_at_one root s stance None a b first second = first ∙ sym second
+shows_at_one root s stance (Some view) a b first second = shows_one root s stance view a b first second
 
 -- ---- lists of snapshots
 
@@ -127,8 +129,8 @@ tolds_one (t ∷ ts) (u ∷ us) first second same = by_order (λ rest. tolds_one
         let others : ts ≡ us = again (λ n. rest ids n (nat_eq t.id n) refl) in
         λ i. one i ∷ others i
 
-settles_one : (root : Root) (s : State) (listening : ℕ → Option Viewed) (ts us : List Told) → Settles root s listening ts → Settles root s listening us → ts ≡ us
-settles_one root s listening ts us first second = tolds_one ts us first.ascending second.ascending (λ n. shows_at_one root s (listening n) (told_to n ts) (told_to n us) (first.each n) (second.each n))
+settles_one : (root : Root) (s : State) (stance : ℕ → Stance) (listening : ℕ → Option Viewed) (ts us : List Told) → Settles root s stance listening ts → Settles root s stance listening us → ts ≡ us
+settles_one root s stance listening ts us first second = tolds_one ts us first.ascending second.ascending (λ n. shows_at_one root s (stance n) (listening n) (told_to n ts) (told_to n us) (first.each n) (second.each n))
 
 -- ---- the answer
 
@@ -208,22 +210,27 @@ answers_one s past (event.Opened name) t u first second = first ∙ sym second
 answers_one s past (event.Closed name status) t u first second = first ∙ sym second
 answers_one s past (event.Written response) t u first second = message_one s (steps_of past) response (is_open (steps_of past)) t u first second
 answers_one s past (event.BadMessage name member) t u first second = first ∙ sym second
+answers_one s past (event.Watch response) t u first second = heard_one s past response (is_watched past) t u first second
+answers_one s past event.Timer t u first second = first ∙ sym second
 
 -- ---- the turn
 
 settled_one : (root : Root) (s : State) (past : Past) (e : Event) (answer t u : Turn) → Settled root s past e answer t → Settled root s past e answer u → t ≡ u
 settled_one root s past e answer t u first second =
-    first.is ∙ ap (with_snapshots (after s answer.commit) answer) (settles_one root (after s answer.commit) (λ id. asked id e (listener id past)) first.told second.told first.settles second.settles) ∙ sym second.is
+    first.is ∙ ap (with_snapshots (after s answer.commit) answer) (settles_one root (after s answer.commit) (stance_of (answered_next s past e answer)) (λ id. listener id (answered_next s past e answer)) first.told second.told first.settles second.settles) ∙ sym second.is
 
-after_one : (root : Root) (s : State) (past : Past) (e : Event) (answer : Turn) (refusal : Option Refusal) (t u : Turn) → SettlesAfter root s past e answer refusal t → SettlesAfter root s past e answer refusal u → t ≡ u
-after_one root s past e answer None t u first second = settled_one root s past e answer t u first second
-after_one root s past e answer (Some refusal) t u first second = first ∙ sym second
+after_one : (root : Root) (s : State) (past : Past) (e : Event) (answer : Turn) (heard : Bool) (t u : Turn) → SettlesAfter root s past e answer heard t → SettlesAfter root s past e answer heard u → t ≡ u
+after_one root s past e answer true t u first second = settled_one root s past e answer t u first second
+after_one root s past e answer false t u first second = first ∙ sym second
 
 settled_is_one : (root : Root) (s : State) (past : Past) (e : Event) (t u : Turn) → IsSettled root s past e t → IsSettled root s past e u → t ≡ u
 settled_is_one root s past e t u first second =
     let same = answers_one s past e first.answer second.answer first.answers second.answers in
-    after_one root s past e second.answer second.answer.refusal t u (subst (λ (a : Turn). SettlesAfter root s past e a a.refusal t) same first.settles) second.settles
+    after_one root s past e second.answer (is_heard second.answer.refusal) t u (subst (λ (a : Turn). SettlesAfter root s past e a (is_heard a.refusal) t) same first.settles) second.settles
 
 pub a_turn_is_one : ATurnIsOne
 a_turn_is_one root s past e t u first second =
-    first.is ∙ ap (with_requests s past e) (settled_is_one root s past e first.settled second.settled first.is_settled second.is_settled) ∙ sym second.is
+    let same : first.settled ≡ second.settled = settled_is_one root s past e first.settled second.settled first.is_settled second.is_settled in
+    let asks : first.asked ≡ second.asked = asks_one (is_none second.settled.refusal && is_watched (answered_next s past e second.settled)) (after s second.settled.commit) (answered_next s past e second.settled) (resets_by e past) first.asked second.asked
+    (subst (λ (a : Turn). AsksBehind s past e a first.asked) same first.asks) second.asks in
+    first.is ∙ (λ i. with_lines (same i) (asks i ++ batches_behind s past e (same i))) ∙ sym second.is

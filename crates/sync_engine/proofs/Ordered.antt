@@ -1,9 +1,9 @@
 -- the pending batches go out in order
-use Rattle.std.proofs.Common.{◌≡◌, ℕ, ◌+◌, ◌-◌, ◌≤◌, ◌<◌, suc, zero, Bool, true, false, nat_lt, List, [], ◌∷◌, ◌++◌, map as each, length, drop, take, Option, Some, None, if◌then◌else◌, refl, sym, ap, subst, ◌∙◌, append-nil, arith, length-append}
+use Rattle.std.proofs.Common.{◌≡◌, ℕ, ℤ, ◌+◌, ◌-◌, ◌≤◌, ◌<◌, suc, zero, Bool, true, false, nat_lt, List, [], ◌∷◌, ◌++◌, map as each, length, drop, take, Option, Some, None, is_none, ◌&&◌, if◌then◌else◌, refl, sym, ap, subst, ◌∙◌, append-nil, arith, length-append}
 use Rattle.std.proofs.lemmas.Bool.{true≢false}
 use Rattle.std.proofs.lemmas.List.{append_assoc, drop-append-le, length-drop, length-map, take-append-drop}
 use Rattle.std.proofs.lemmas.Option.{none-some}
-use Rattle.std.specs.List.{slice_get}
+use Rattle.std.specs.List.{AllZip, slice_get}
 use Rattle.document_keys.specs.Names.{Root}
 use Rattle.client_events.specs.declared.event.Event.{Event}
 use Rattle.client_events.specs.declared.event.Event.TheVariants as event
@@ -14,23 +14,29 @@ use Rattle.mutations.specs.declared.results.WriteResponse.{WriteResponse}
 use Rattle.mutations.specs.declared.write.Write.{Write}
 use Rattle.queries.specs.declared.target.Target.{Target}
 use Rattle.record_codec.specs.declared.commit.Commit.{Commit}
-use Rattle.record_codec.specs.declared.commit.Commit.TheVariants.{Acknowledge, Allocate, Enqueue, Reject}
+use Rattle.record_codec.specs.declared.commit.Commit.TheVariants.{Acknowledge, Allocate, Enqueue, Point, Reject, Reset}
 use Rattle.target_cache.specs.Cache.{id_at}
 use Rattle.value_model.specs.declared.document.RpcStatus.{RpcStatus}
+use Rattle.value_model.specs.declared.message.ListenResponse.{ListenResponse}
 use Rattle.value_model.specs.declared.message.StreamName.{StreamName}
+use Rattle.value_model.specs.declared.message.StreamName.TheVariants as stream
 use Rattle.views.specs.Viewed.{Viewed}
 use Rattle.write_pipeline.specs.Order.{Steps, acknowledged, closed, is_ready, kept as kept_token, latest_token, outstanding, sent, shaken}
 use Rattle.write_pipeline.specs.Standing.{closing_of}
 use Rattle.write_pipeline.specs.declared.answer.Closing.{Closing}
 use Rattle.write_pipeline.specs.declared.answer.Closing.TheVariants.{Kept as KeepsAll, Rejects}
 use Rattle.sync_engine.specs.Answers.{Answers, Begins, are_left, ends, listens}
-use Rattle.sync_engine.specs.Lines.{Line, document, listening, rejected, result, send, snapshot, unlistened, wrote}
+use Rattle.sync_engine.specs.Asking.{AsksIf, IsAddLine, resets_by}
+use Rattle.sync_engine.specs.Hearing.{Blanks, HeardTurn, ended, held, mismatch, none_held, nothing, old_point, point, point_spent}
+use Rattle.sync_engine.specs.Hearing.{fails as fails_heard}
+use Rattle.sync_engine.specs.Lines.{Line, add, document, error, listening, rejected, remove, result, send, snapshot, unlistened, wrote}
 use Rattle.sync_engine.specs.Order.{AreHeard, WritesGoInOrder, left_since, now, queue_since, sent_since, unless_opened, writes_in}
 use Rattle.sync_engine.specs.Past.{Past, Turn, listener, sent_in, steps_by, steps_of}
 use Rattle.sync_engine.specs.Sending.{sent_times}
-use Rattle.sync_engine.specs.Turn.{IsSettled, IsTurn, SettlesAfter, is_heard, requests_behind, with_requests}
+use Rattle.sync_engine.specs.Turn.{AsksBehind, IsSettled, SettlesAfter, answered_next, batches_behind, is_heard}
 use Rattle.sync_engine.specs.Turns.{after, commits, refused}
-use Rattle.sync_engine.specs.Writing.{WrittenTurn, acknowledges, bad_turn, closed_turn, closes, fails, first_batch, is_open, opened_turn, rejects, request_of, requests, shakes, to_send}
+use Rattle.sync_engine.specs.Watching.{is_watched}
+use Rattle.sync_engine.specs.Writing.{WrittenTurn, acknowledges, bad_turn, closed_turn, closes, fails, first_batch, is_open, is_stream_open, opened_turn, rejects, request_of, requests, shakes, to_send}
 use Rattle.sync_engine.specs.declared.refusal.Refusal.{Refusal}
 use Rattle.sync_engine.specs.declared.refusal.Refusal.TheVariants.{IdsSpent}
 use Rattle.sync_engine.proofs.Requests.{settled_silent}
@@ -192,8 +198,8 @@ same_again {out} {queue} {left} {h} {batches} it =
     zero_more = omega arith
 
 -- the stream is closed
-ended : {out : List (List Write)} {queue : List Batch} {left : ℕ} {h : Steps} {batches : List Batch} → Ordered out queue left h batches → Ordered out queue left (closed ∷ h) batches
-ended it = record { sent = it.sent; pending = it.pending; within = it.within; counts = λ opening. absurd (true≢false (sym opening)); few = omega arith; opening = λ ready. absurd (true≢false (sym ready)) }
+closed_now : {out : List (List Write)} {queue : List Batch} {left : ℕ} {h : Steps} {batches : List Batch} → Ordered out queue left h batches → Ordered out queue left (closed ∷ h) batches
+closed_now it = record { sent = it.sent; pending = it.pending; within = it.within; counts = λ opening. absurd (true≢false (sym opening)); few = omega arith; opening = λ ready. absurd (true≢false (sym ready)) }
 
 -- a batch joins
 joins : {out : List (List Write)} {queue : List Batch} {left : ℕ} {h : Steps} {batches : List Batch} (batch : Batch) → Ordered out queue left h batches → Ordered out (queue ++ batch ∷ []) (left + 0) h (batches ++ batch ∷ [])
@@ -259,7 +265,8 @@ module _ (first : State) (past : Past) (s : State) (state : s ≡ now first past
 
   stands_opened : (name : StreamName) (opening : Bool) → Stands (event.Opened name) (opened_turn name opening)
   stands_opened name true = λ heard. unheard heard
-  stands_opened name false = λ heard. record {
+  stands_opened stream.Watch false = λ heard. same_again it
+  stands_opened stream.Write false = λ heard. record {
     sent = refl;
     pending = sym (append-nil s.batches);
     within = omega arith;
@@ -268,23 +275,42 @@ module _ (first : State) (past : Past) (s : State) (state : s ≡ now first past
     opening = λ ready. refl;
   }
 
-  stands_rejects : (name : StreamName) (status : RpcStatus) (found : Option Batch) → first_batch s ≡ found → Stands (event.Closed name status) (rejects s found status)
-  stands_rejects name status None is = λ heard. same_again (ended it)
-  stands_rejects name status (Some batch) is = stands_if (event.Closed name status) (nat_lt s.number most_commits) (commits (Reject batch.id) (rejected batch.id (s.number + 1) status ∷ [])) (refused IdsSpent)
+  stands_rejects : (status : RpcStatus) (found : Option Batch) → first_batch s ≡ found → Stands (event.Closed stream.Write status) (rejects s found status)
+  stands_rejects status None is = λ heard. same_again (closed_now it)
+  stands_rejects status (Some batch) is = stands_if (event.Closed stream.Write status) (nat_lt s.number most_commits) (commits (Reject batch.id) (rejected batch.id (s.number + 1) status ∷ [])) (refused IdsSpent)
       (λ heard. leaves batch is it (λ opening. absurd (true≢false (sym opening))) (omega arith) (λ ready. absurd (true≢false (sym ready))))
       (λ heard. unheard heard)
 
-  stands_closes : (name : StreamName) (status : RpcStatus) (closing : Closing) → Stands (event.Closed name status) (closes s status closing)
-  stands_closes name status KeepsAll = λ heard. same_again (ended it)
-  stands_closes name status Rejects = stands_rejects name status (first_batch s) refl
+  stands_closes : (status : RpcStatus) (closing : Closing) → Stands (event.Closed stream.Write status) (closes s status closing)
+  stands_closes status KeepsAll = λ heard. same_again (closed_now it)
+  stands_closes status Rejects = stands_rejects status (first_batch s) refl
 
   stands_closed : (name : StreamName) (status : RpcStatus) (opening : Bool) → Stands (event.Closed name status) (closed_turn s h name status opening)
-  stands_closed name status true = stands_closes name status (closing_of h status.code)
   stands_closed name status false = λ heard. unheard heard
+  stands_closed stream.Watch status true = λ heard. same_again it
+  stands_closed stream.Write status true = stands_closes status (closing_of h status.code)
 
   stands_bad : (name : StreamName) (member : List ℕ) (opening : Bool) → Stands (event.BadMessage name member) (bad_turn name member opening)
-  stands_bad name member true = λ heard. same_again (ended it)
   stands_bad name member false = λ heard. unheard heard
+  stands_bad stream.Watch member true = λ heard. same_again it
+  stands_bad stream.Write member true = λ heard. same_again (closed_now it)
+
+  -- what comes on the stream of listeners leaves the batches alone
+  stands_blanks : (response : ListenResponse) (ids : List ℕ) (lines : List Line) (t : Turn) → Blanks s ids lines t → Stands (event.Watch response) t
+  stands_blanks response ids lines t (held any is) = subst (Stands (event.Watch response)) (sym is)
+      (stands_if (event.Watch response) (nat_lt s.number most_commits) (commits (Reset ids) lines) (refused IdsSpent) (λ heard. same_again it) (λ heard. unheard heard))
+  stands_blanks response ids lines t (none_held none is) = subst (Stands (event.Watch response)) (sym is) (λ heard. same_again it)
+
+  stands_heard : (response : ListenResponse) (opening : Bool) (t : Turn) → HeardTurn s past response opening t → Stands (event.Watch response) t
+  stands_heard response false t is = subst (Stands (event.Watch response)) (sym is) (λ heard. unheard heard)
+  stands_heard response true t (nothing gives is) = subst (Stands (event.Watch response)) (sym is) (λ heard. same_again it)
+  stands_heard response true t (old_point at gives old is) = subst (Stands (event.Watch response)) (sym is) (λ heard. same_again it)
+  stands_heard response true t (point at entries rows gives below commits_it is) = subst (Stands (event.Watch response)) (sym is)
+      (stands_if (event.Watch response) (nat_lt s.number most_commits) (commits (Point at entries rows) []) (refused IdsSpent) (λ heard. same_again it) (λ heard. unheard heard))
+  stands_heard response true t (point_spent at gives below many is) = subst (Stands (event.Watch response)) (sym is) (λ heard. unheard heard)
+  stands_heard response true t (mismatch id told count ids gives have blanks) = stands_blanks response ids [] t blanks
+  stands_heard response true t (ended ids status those listeners gives have are blanks) = stands_blanks response those (each (λ l. error l status) listeners) t blanks
+  stands_heard response true t (fails_heard why refuses is) = subst (Stands (event.Watch response)) (sym is) (λ heard. same_again it)
 
   shaken_now : (response : WriteResponse) → is_open h ≡ true → Ordered (sent_since past) (queue_since first past) (left_since past) (kept_token response.token ∷ shaken ∷ h) s.batches
   shaken_now response opening = record { sent = it.sent; pending = it.pending; within = it.within; counts = it.counts; few = it.few; opening = λ ready. opening }
@@ -297,7 +323,7 @@ module _ (first : State) (past : Past) (s : State) (state : s ≡ now first past
       (λ heard. subst (λ (b : Bool). Ordered (sent_since past) (queue_since first past ++ []) (left_since past + 1) (kept_token response.token ∷ (if b then acknowledged else shaken) ∷ h) (drop 1 s.batches)) (sym fits.0)
       (leaves batch there it (λ still. let all = it.counts opening in let some = fits.1 in omega (arith, all, some)) (let few = it.few in omega (arith, few)) (λ ready. opening)))
       (λ heard. unheard heard))
-  stands_written response true opening t (fails member not is) = subst (Stands (event.Written response)) (sym is) (λ heard. same_again (ended it))
+  stands_written response true opening t (fails member not is) = subst (Stands (event.Written response)) (sym is) (λ heard. same_again (closed_now it))
   stands_written response false opening t is = subst (Stands (event.Written response)) (sym is) (λ heard. unheard heard)
 
   stands_answered : (e : Event) (t : Turn) → Answers s past e t → Stands e t
@@ -307,10 +333,12 @@ module _ (first : State) (past : Past) (s : State) (state : s ≡ now first past
   stands_answered (event.Get key) t is = subst (Stands (event.Get key)) (sym is) (λ heard. same_again it)
   stands_answered (event.Listen id query) t is = stands_begins id query (listener id past) t is
   stands_answered (event.Unlisten id) t is = subst (Stands (event.Unlisten id)) (sym is) (stands_ends id (listener id past))
-  stands_answered (event.Opened name) t is = subst (Stands (event.Opened name)) (sym is) (stands_opened name (is_open h))
-  stands_answered (event.Closed name status) t is = subst (Stands (event.Closed name status)) (sym is) (stands_closed name status (is_open h))
+  stands_answered (event.Opened name) t is = subst (Stands (event.Opened name)) (sym is) (stands_opened name (is_stream_open name past))
+  stands_answered (event.Closed name status) t is = subst (Stands (event.Closed name status)) (sym is) (stands_closed name status (is_stream_open name past))
   stands_answered (event.Written response) t is = stands_written response (is_open h) refl t is
-  stands_answered (event.BadMessage name member) t is = subst (Stands (event.BadMessage name member)) (sym is) (stands_bad name member (is_open h))
+  stands_answered (event.BadMessage name member) t is = subst (Stands (event.BadMessage name member)) (sym is) (stands_bad name member (is_stream_open name past))
+  stands_answered (event.Watch response) t is = stands_heard response (is_watched past) t is
+  stands_answered event.Timer t is = subst (Stands event.Timer) (sym is) (λ heard. same_again it)
 
 -- ---- all that was heard
 
@@ -323,6 +351,9 @@ writes_behind (document k d w ∷ xs) ys = writes_behind xs ys
 writes_behind (result b c t ∷ xs) ys = writes_behind xs ys
 writes_behind (rejected b c t ∷ xs) ys = writes_behind xs ys
 writes_behind (snapshot c r t ∷ xs) ys = writes_behind xs ys
+writes_behind (error i t ∷ xs) ys = writes_behind xs ys
+writes_behind (add t r ∷ xs) ys = writes_behind xs ys
+writes_behind (remove t ∷ xs) ys = writes_behind xs ys
 writes_behind (send the_first ∷ xs) ys = writes_behind xs ys
 writes_behind (send (a_batch token writes) ∷ xs) ys = ap (λ l. writes ∷ l) (writes_behind xs ys)
 
@@ -336,6 +367,9 @@ counts_sent (document k d w ∷ xs) h = counts_sent xs h
 counts_sent (result b c t ∷ xs) h = counts_sent xs h
 counts_sent (rejected b c t ∷ xs) h = counts_sent xs h
 counts_sent (snapshot c r t ∷ xs) h = counts_sent xs h
+counts_sent (error i t ∷ xs) h = counts_sent xs h
+counts_sent (add t r ∷ xs) h = counts_sent xs h
+counts_sent (remove t ∷ xs) h = counts_sent xs h
 counts_sent (send the_first ∷ xs) h = counts_sent xs h
 counts_sent (send (a_batch token writes) ∷ xs) h = let rest = counts_sent xs (sent ∷ h) in omega (arith, rest)
 
@@ -353,26 +387,50 @@ requests_written : (token : List ℕ) (bs : List Batch) → writes_in (each (req
 requests_written token [] = refl
 requests_written token (b ∷ bs) = ap (λ l. b.writes ∷ l) (requests_written token bs)
 
-settled_refusal : (root : Root) (s : State) (past : Past) (e : Event) (answer : Turn) (refusal : Option Refusal) (t : Turn) → answer.refusal ≡ refusal → SettlesAfter root s past e answer refusal t → (t.refusal ≡ answer.refusal) × (t.commit ≡ answer.commit)
-settled_refusal root s past e answer None t same is = (ap (λ (x : Turn). x.refusal) is.is ∙ sym same, ap (λ (x : Turn). x.commit) is.is)
-settled_refusal root s past e answer (Some refusal) t same is = (ap (λ (x : Turn). x.refusal) is, ap (λ (x : Turn). x.commit) is)
+-- requests on the stream of listeners send no batch
+removes_silent : (ids : List ℤ) (g : Steps) → sent_in (each remove ids) g ≡ g
+removes_silent [] g = refl
+removes_silent (id ∷ ids) g = removes_silent ids g
+
+adds_silent : (s : State) (ids : List ℤ) (lines : List Line) → AllZip (IsAddLine s) ids lines → (g : Steps) → sent_in lines g ≡ g
+adds_silent s [] [] all g = refl
+adds_silent s [] (line ∷ lines) all g = absurd all
+adds_silent s (id ∷ ids) [] all g = absurd all
+adds_silent s (id ∷ ids) (line ∷ lines) all g = ap (λ (l : Line). sent_in (l ∷ lines) g) all.0.is ∙ adds_silent s ids lines all.1 g
+
+asked_silent : (goes : Bool) (s : State) (next : Past) (reset : ℤ → Bool) (lines : List Line) → AsksIf goes s next reset lines → (g : Steps) → sent_in lines g ≡ g
+asked_silent true s next reset lines asks g =
+    ap (λ (l : List Line). sent_in l g) asks.is ∙ sent_behind (each remove asks.removed) asks.adds g
+    ∙ ap (sent_in asks.adds) (removes_silent asks.removed g) ∙ adds_silent s asks.added asks.adds asks.rows g
+asked_silent false s next reset lines none g = ap (λ (l : List Line). sent_in l g) none
+
+settled_same : (root : Root) (s : State) (past : Past) (e : Event) (answer : Turn) (heard : Bool) (t : Turn) → SettlesAfter root s past e answer heard t → (t.refusal ≡ answer.refusal) × (t.commit ≡ answer.commit)
+settled_same root s past e answer true t is = (ap (λ (x : Turn). x.refusal) is.is, ap (λ (x : Turn). x.commit) is.is)
+settled_same root s past e answer false t is = (ap (λ (x : Turn). x.refusal) is, ap (λ (x : Turn). x.commit) is)
 
 module _ (root : Root) (first : State) (past : Past) (s : State) (e : Event) (settled : Turn) (state : s ≡ now first past)
-    (it : Ordered (sent_since past) (queue_since first past) (left_since past) (steps_of past) s.batches) (is_settled : IsSettled root s past e settled) where
-  silent : (g : Steps) → sent_in settled.lines g ≡ g
-  silent = settled_silent root s past e settled is_settled
+    (it : Ordered (sent_since past) (queue_since first past) (left_since past) (steps_of past) s.batches) (is_settled : IsSettled root s past e settled)
+    (asked : List Line) (asks : AsksBehind s past e settled asked) where
+  -- the lines before the batches
+  abbrev lead : List Line
+  lead = settled.lines ++ asked
+
+  silent : (g : Steps) → sent_in lead g ≡ g
+  silent g =
+      sent_behind settled.lines asked g ∙ ap (sent_in asked) (settled_silent root s past e settled is_settled g)
+      ∙ asked_silent (is_none settled.refusal && is_watched (answered_next s past e settled)) (after s settled.commit) (answered_next s past e settled) (resets_by e past) asked asks g
 
   stands : StandsBy first past s state it e settled.refusal settled.commit
   stands =
       let answer = is_settled.answer in
-      let same = settled_refusal root s past e answer answer.refusal settled refl is_settled.settles in
+      let same = settled_same root s past e answer (is_heard answer.refusal) settled is_settled.settles in
       subst (λ (r : Option Refusal). StandsBy first past s state it e r settled.commit) (sym same.0)
       (subst (λ (c : Option Commit). StandsBy first past s state it e answer.refusal c) (sym same.1)
       (stands_answered first past s state it e answer is_settled.answers))
 
   -- the event with its lines
   abbrev entry_with : Option Refusal → List Line → Past
-  entry_with refusal more = record { state = s; event = e; turn = record { refusal = refusal; commit = settled.commit; lines = settled.lines ++ more } } ∷ past
+  entry_with refusal more = record { state = s; event = e; turn = record { refusal = refusal; commit = settled.commit; lines = lead ++ more } } ∷ past
 
   by_refusal : (refusal : Option Refusal) → settled.refusal ≡ refusal → is_heard refusal ≡ true
       → let more = Rattle.sync_engine.specs.Turn.unless_refused refusal (requests (steps_by e refusal (steps_of past)) (after s settled.commit).batches) in
@@ -382,21 +440,21 @@ module _ (root : Root) (first : State) (past : Past) (s : State) (e : Event) (se
       let bs : List Batch = (after s settled.commit).batches in
       let more : List Line = requests g bs in
       let before = subst (λ (r : Option Refusal). StandsBy first past s state it e r settled.commit) is stands heard in
-      let written : writes_in (settled.lines ++ more) ≡ each writes_of (to_send g bs) =
-      writes_behind settled.lines more ∙ ap (λ l. l ++ writes_in more) (nothing_written settled.lines silent) ∙ requests_written (latest_token g) (to_send g bs) in
-      let steps : sent_in (settled.lines ++ more) g ≡ sent_times (length (to_send g bs)) g =
-      sent_behind settled.lines more g ∙ ap (sent_in more) (silent g) ∙ requests_sent (latest_token g) (to_send g bs) g in
-      subst (λ l. Ordered (unless_opened e (sent_since past) ++ l) (queue_since first (entry_with None more)) (left_since (entry_with None more)) (sent_in (settled.lines ++ more) g) bs) (sym written)
+      let written : writes_in (lead ++ more) ≡ each writes_of (to_send g bs) =
+      writes_behind lead more ∙ ap (λ l. l ++ writes_in more) (nothing_written lead silent) ∙ requests_written (latest_token g) (to_send g bs) in
+      let steps : sent_in (lead ++ more) g ≡ sent_times (length (to_send g bs)) g =
+      sent_behind lead more g ∙ ap (sent_in more) (silent g) ∙ requests_sent (latest_token g) (to_send g bs) g in
+      subst (λ l. Ordered (unless_opened e (sent_since past) ++ l) (queue_since first (entry_with None more)) (left_since (entry_with None more)) (sent_in (lead ++ more) g) bs) (sym written)
       (subst (λ (x : Steps). Ordered (unless_opened e (sent_since past) ++ each writes_of (to_send g bs)) (queue_since first (entry_with None more)) (left_since (entry_with None more)) x bs) (sym steps)
       (behind (unless_opened e (sent_since past)) (queue_since first (entry_with None more)) (left_since (entry_with None more)) g bs before))
   by_refusal (Some refusal) is heard =
       let g : Steps = steps_by e (Some refusal) (steps_of past) in
       let bs : List Batch = (after s settled.commit).batches in
       let before = subst (λ (r : Option Refusal). StandsBy first past s state it e r settled.commit) is stands heard in
-      let same : settled.lines ++ [] ≡ settled.lines = append-nil settled.lines in
-      let written : writes_in (settled.lines ++ []) ≡ [] = ap writes_in same ∙ nothing_written settled.lines silent in
-      let steps : sent_in (settled.lines ++ []) g ≡ g = ap (λ (l : List Line). sent_in l g) same ∙ silent g in
-      subst (λ l. Ordered (unless_opened e (sent_since past) ++ l) (queue_since first (entry_with (Some refusal) [])) (left_since (entry_with (Some refusal) [])) (sent_in (settled.lines ++ []) g) bs) (sym written)
+      let same : lead ++ [] ≡ lead = append-nil lead in
+      let written : writes_in (lead ++ []) ≡ [] = ap writes_in same ∙ nothing_written lead silent in
+      let steps : sent_in (lead ++ []) g ≡ g = ap (λ (l : List Line). sent_in l g) same ∙ silent g in
+      subst (λ l. Ordered (unless_opened e (sent_since past) ++ l) (queue_since first (entry_with (Some refusal) [])) (left_since (entry_with (Some refusal) [])) (sent_in (lead ++ []) g) bs) (sym written)
       (subst (λ (x : Steps). Ordered (unless_opened e (sent_since past) ++ []) (queue_since first (entry_with (Some refusal) [])) (left_since (entry_with (Some refusal) [])) x bs) (sym steps)
       (subst (λ l. Ordered l (queue_since first (entry_with (Some refusal) [])) (left_since (entry_with (Some refusal) [])) g bs) (sym (append-nil (unless_opened e (sent_since past)))) before))
 
@@ -405,11 +463,15 @@ ordered_all root first [] heard = record { sent = refl; pending = refl; within =
 ordered_all root first (entry ∷ past) heard =
     let next = heard.1 in
     let it = subst (λ (x : State). Ordered (sent_since past) (queue_since first past) (left_since past) (steps_of past) x.batches) (sym next.state) (ordered_all root first past heard.0) in
-    let settled = next.turn.settled in
-    let is : entry.turn ≡ with_requests entry.state past entry.event settled = next.turn.is in
+    let turn = next.turn in
+    let settled = turn.settled in
+    let sends = batches_behind entry.state past entry.event settled in
+    let all : settled.lines ++ (turn.asked ++ sends) ≡ (settled.lines ++ turn.asked) ++ sends = sym (append_assoc settled.lines turn.asked sends) in
+    let is : entry.turn ≡ record { refusal = settled.refusal; commit = settled.commit; lines = (settled.lines ++ turn.asked) ++ sends } =
+    turn.is ∙ (λ i. record { refusal = settled.refusal; commit = settled.commit; lines = all i }) in
     subst (λ (t : Turn). Ordered (sent_since (record { state = entry.state; event = entry.event; turn = t } ∷ past)) (queue_since first (record { state = entry.state; event = entry.event; turn = t } ∷ past)) (left_since (record { state = entry.state; event = entry.event; turn = t } ∷ past))
     (steps_of (record { state = entry.state; event = entry.event; turn = t } ∷ past)) (after entry.state t.commit).batches) (sym is)
-    (by_refusal root first past entry.state entry.event settled next.state it next.turn.is_settled settled.refusal refl (ap (λ (t : Turn). is_heard t.refusal) (sym is) ∙ next.heard))
+    (by_refusal root first past entry.state entry.event settled next.state it turn.is_settled turn.asked turn.asks settled.refusal refl (ap (λ (t : Turn). is_heard t.refusal) (sym is) ∙ next.heard))
 
 pub writes_go_in_order : WritesGoInOrder
 writes_go_in_order root first past heard =

@@ -1,10 +1,11 @@
 -- listeners that are quiet, and stay so
-use Rattle.std.proofs.Common.{◌≡◌, ◌↔◌, ◌⊎◌, ⊎_elim, inl, inr, ℕ, Bool, true, false, ◌||◌, List, [], ◌∷◌, ◌++◌, map as each, drop, cond, Option, Some, None, IfSome, if◌then◌else◌, refl, sym, ap, subst, ◌∙◌, arith, suc, zero}
+use Rattle.std.proofs.Common.{◌≡◌, ◌↔◌, ◌⊎◌, ⊎_elim, inl, inr, ℕ, ℤ, Bool, true, false, ◌||◌, List, [], ◌∷◌, ◌++◌, map as each, drop, cond, Option, Some, None, IfSome, if◌then◌else◌, refl, sym, ap, subst, ◌∙◌, arith, suc, zero}
 use Rattle.std.proofs.lemmas.List.Elements.{All-nil, All-cons, All-head, All-tail, All-weaker, All-contains, All-contains_itself}
+use Rattle.std.proofs.lemmas.Bool.{true≢false}
 use Rattle.std.proofs.lemmas.Option.{none-some}
 use Rattle.std.specs.FinMap as map
 use Rattle.std.specs.List.{All, Contains, cons_option, filter_map, slice_get}
-use Rattle.std.specs.Option.{IsSome, option_map}
+use Rattle.std.specs.Option.{IsSome, is_some, option_map, unwrap_or}
 use Rattle.document_keys.specs.Names.{Root}
 use Rattle.mutation_queue.specs.Queue.{keys_of, named_keys, written_key}
 use Rattle.mutations.specs.declared.batch.Batch.{Batch}
@@ -12,7 +13,7 @@ use Rattle.mutations.specs.declared.write.Write.{Write}
 use Rattle.value_model.specs.Documents.{DocumentMap, Stored}
 use Rattle.value_model.specs.declared.document.Document.{Document}
 use Rattle.durable_state.proofs.Changed.{get_changed}
-use Rattle.durable_state.proofs.Laid.{among-append, among_in, first_false, local_more, named_more, not_so, not_written, second_false}
+use Rattle.durable_state.proofs.Laid.{among-append, among_in, first_false, in_among, local_more, named_more, not_so, not_written, second_false}
 use Rattle.durable_state.specs.Cached.{Changed, acknowledged_keys, answered_by, cached, first_writes, with_all, with_changed}
 use Rattle.acknowledgements.specs.Acked.{acked}
 use Rattle.document_keys.specs.KeySet.{is_key}
@@ -23,7 +24,8 @@ use Rattle.value_model.specs.declared.document.Seal.{Seal}
 use Rattle.value_model.specs.declared.document.Seal.TheVariants.{Committed}
 use Rattle.value_model.specs.declared.timestamp.Timestamp.{Timestamp}
 use Rattle.durable_state.proofs.Local.{documents_local}
-use Rattle.durable_state.specs.Documents.{documents_of, is_among, is_named, sealed_entry_of, standing_by, stored}
+use Rattle.durable_state.proofs.Lent.{touches}
+use Rattle.durable_state.specs.Documents.{documents_of, is_among, is_named, is_uncovered, sealed_entry_of, standing_by, stored}
 use Rattle.value_model.specs.declared.document.DocState.TheVariants as stands
 use Rattle.local_store.specs.Documents.{document_of, entry_of, touched_keys_of}
 use Rattle.local_store.specs.State.{State, committed}
@@ -34,18 +36,22 @@ use Rattle.target_cache.specs.Cache.{blank}
 use Rattle.target_cache.specs.declared.row.Row.{Row}
 use Rattle.listeners.specs.Concerns.{Concerns}
 use Rattle.listeners.specs.Table.{viewed}
-use Rattle.listeners.proofs.Settling.{refresh_settles, settled_stays}
+use Rattle.listeners.proofs.Settling.{raised_stays_settled, refresh_settles, settled_stays_touched}
+use Rattle.listeners.specs.Laws.{IsSettled}
 use Rattle.views.proofs.Refreshing.{is_over}
-use Rattle.views.specs.Refresh.{IsOver, Refreshes}
+use Rattle.views.specs.Refresh.{IsOver, Raises, Refreshes}
+use Rattle.views.specs.declared.raised.Raised.{Raised}
+use Rattle.views.specs.declared.standing.Standing.{Standing}
 use Rattle.views.specs.Viewed.{Viewed}
 use Rattle.views.specs.declared.view.Refresh.{Refresh}
-use Rattle.sync_engine.specs.Settling.{IsHeldTarget, MayStart, offline, Shows, ShowsAt, Settles}
+use Rattle.sync_engine.specs.Settling.{IsHeldFor, IsHeldRow, MayStart, Shows, ShowsAt, Settles, Stance}
 use Rattle.sync_engine.specs.Past.{Past}
-use Rattle.sync_engine.specs.Standing.{IsQuiet, Kept, StandsFor}
+use Rattle.sync_engine.specs.Standing.{IsQuiet, Kept, StandsFor, stance_in}
+use Rattle.sync_engine.proofs.Following.{are_quiet}
 
 -- a quiet listener raises nothing
-pub quiet_shows : (root : Root) (s : State) (view : Viewed) → IsQuiet root s view → Shows root s view None
-quiet_shows root s view quiet = record {
+pub quiet_shows : (root : Root) (s : State) (stance : Stance) (view : Viewed) → IsQuiet root s stance view → Shows root s stance view None
+quiet_shows root s stance view quiet = record {
   may_start = quiet.may_start;
   start = quiet.start;
   new = view;
@@ -54,31 +60,36 @@ quiet_shows root s view quiet = record {
   is = ap (λ b. if b then view.raised else None) (sym quiet.settled.silent);
 }
 
-pub quiet_shows_at : (root : Root) (s : State) (view : Option Viewed) → IfSome view (IsQuiet root s) → ShowsAt root s view None
-quiet_shows_at root s None quiet = refl
-quiet_shows_at root s (Some view) quiet = quiet_shows root s view quiet
+pub quiet_shows_at : (root : Root) (s : State) (stance : Stance) (view : Option Viewed) → IfSome view (IsQuiet root s stance) → ShowsAt root s stance view None
+quiet_shows_at root s stance None quiet = refl
+quiet_shows_at root s stance (Some view) quiet = quiet_shows root s stance view quiet
 
 -- where every listener is quiet, nothing is raised
-pub settles_none : (root : Root) (s : State) (listening : ℕ → Option Viewed) → ((id : ℕ) → IfSome (listening id) (IsQuiet root s)) → Settles root s listening []
-settles_none root s listening quiet = record {
+pub settles_none : (root : Root) (s : State) (stance : ℕ → Stance) (listening : ℕ → Option Viewed) → ((id : ℕ) → IfSome (listening id) (IsQuiet root s (stance id))) → Settles root s stance listening []
+settles_none root s stance listening quiet = record {
   ascending = λ i j d less inside. absurd (omega (arith, inside));
-  each = λ id. quiet_shows_at root s (listening id) (quiet id);
+  each = λ id. quiet_shows_at root s (stance id) (listening id) (quiet id);
 }
 
 -- a listener is quiet once it was refreshed
-pub refreshed_quiet : (root : Root) (s : State) (old new : Viewed) (may_start : Bool) (refresh : Refresh) → MayStart s old.target may_start → Refreshes root (documents_of s) (touched_keys_of s) offline may_start old new refresh → IsQuiet root s new
-refreshed_quiet root s old new may_start refresh start refreshes = record {
+pub refreshed_quiet : (root : Root) (s : State) (stance : Stance) (old new : Viewed) (may_start : Bool) (refresh : Refresh) → MayStart s stance may_start → Refreshes root (documents_of s) (touched_keys_of s) stance.standing may_start old new refresh → IsQuiet root s stance new
+refreshed_quiet root s stance old new may_start refresh start refreshes = record {
   may_start = may_start;
-  start = subst (λ (t : Target). MayStart s t may_start) (sym refreshes.target) start;
-  settled = refresh_settles root (documents_of s) (touched_keys_of s) offline may_start old new refresh refreshes;
+  start = start;
+  settled = refresh_settles root (documents_of s) (touched_keys_of s) stance.standing may_start old new refresh refreshes;
 }
 
--- a listener stays quiet where the documents that concern it stay, and its target's row is held as before
-pub quiet_stays : (root : Root) (s t : State) (view : Viewed) → ((key : List (List ℕ)) → Concerns view.target key → map.get (documents_of t) key ≡ map.get (documents_of s) key) → IsHeldTarget t.rows view.target ↔ IsHeldTarget s.rows view.target → IsQuiet root s view → IsQuiet root t view
-quiet_stays root s t view same held quiet = record {
+-- the keys that the target concerns are touched as before
+abbrev pub TouchesSame : State → State → Viewed → Type 0
+TouchesSame s t view = (key : List (List ℕ)) → Concerns view.target key → Contains (touched_keys_of t) key ↔ Contains (touched_keys_of s) key
+
+-- a listener stays quiet where the documents that concern it stay, and so do whether they are touched, and its target's row is
+-- held as before
+pub quiet_stays : (root : Root) (s t : State) (stance : Stance) (view : Viewed) → ((key : List (List ℕ)) → Concerns view.target key → map.get (documents_of t) key ≡ map.get (documents_of s) key) → TouchesSame s t view → IsHeldFor t.rows stance.target ↔ IsHeldFor s.rows stance.target → IsQuiet root s stance view → IsQuiet root t stance view
+quiet_stays root s t stance view same touched held quiet = record {
   may_start = quiet.may_start;
-  start = (λ is. held.1 (quiet.start.0 is), λ is. quiet.start.1 (held.0 is));
-  settled = settled_stays root (documents_of s) (documents_of t) (touched_keys_of s) (touched_keys_of t) offline quiet.may_start view refl quiet.settled same;
+  start = (λ is. ⊎_elim (λ h. inl (held.1 h)) inr (quiet.start.0 is), λ is. quiet.start.1 (⊎_elim (λ h. inl (held.0 h)) inr is));
+  settled = settled_stays_touched root (documents_of s) (documents_of t) (touched_keys_of s) (touched_keys_of t) stance.standing quiet.may_start view quiet.settled same touched;
 }
 
 -- ---- behind an allocation
@@ -90,31 +101,51 @@ slice_get_front [] x y (suc i) is = absurd (none-some y is)
 slice_get_front (z ∷ xs) x y zero is = inl is
 slice_get_front (z ∷ xs) x y (suc i) is = slice_get_front xs x y i is
 
-slice_get_more : {X : Type 0} (xs : List X) (x y : X) (i : ℕ) → slice_get xs i ≡ Some y → slice_get (xs ++ x ∷ []) i ≡ Some y
+pub slice_get_more : {X : Type 0} (xs : List X) (x y : X) (i : ℕ) → slice_get xs i ≡ Some y → slice_get (xs ++ x ∷ []) i ≡ Some y
 slice_get_more [] x y i is = absurd (none-some y is)
 slice_get_more (z ∷ xs) x y zero is = is
 slice_get_more (z ∷ xs) x y (suc i) is = slice_get_more xs x y i is
 
-held_allocated : (rows : List Row) (target wanted : Target) → IsHeldTarget (rows ++ blank target ∷ []) wanted ↔ IsHeldTarget rows wanted
-held_allocated rows target wanted = (down, up)
+held_allocated : (rows : List Row) (target : Target) (wanted : Option ℤ) → IsHeldFor (rows ++ blank target ∷ []) wanted ↔ IsHeldFor rows wanted
+held_allocated rows target None = (λ never. never, λ never. never)
+held_allocated rows target (Some wanted) = (down, up)
   where
-    down : IsHeldTarget (rows ++ blank target ∷ []) wanted → IsHeldTarget rows wanted
+    down : IsHeldRow (rows ++ blank target ∷ []) wanted → IsHeldRow rows wanted
     down it = ⊎_elim
-        (λ there. record { id = it.id; row = it.row; of_id = record { place = it.of_id.place; is = it.of_id.is; there = there }; same = it.same; held = it.held })
+        (λ there. record { row = it.row; of_id = record { place = it.of_id.place; is = it.of_id.is; there = there }; held = it.held })
         (λ new. let none : IsSome (blank target).held = subst (λ (r : Row). IsSome r.held) new it.held in cc)
         (slice_get_front rows (blank target) it.row it.of_id.place it.of_id.there)
 
-    up : IsHeldTarget rows wanted → IsHeldTarget (rows ++ blank target ∷ []) wanted
-    up it = record { id = it.id; row = it.row; of_id = record { place = it.of_id.place; is = it.of_id.is; there = slice_get_more rows (blank target) it.row it.of_id.place it.of_id.there }; same = it.same; held = it.held }
+    up : IsHeldRow rows wanted → IsHeldRow (rows ++ blank target ∷ []) wanted
+    up it = record { row = it.row; of_id = record { place = it.of_id.place; is = it.of_id.is; there = slice_get_more rows (blank target) it.row it.of_id.place it.of_id.there }; held = it.held }
 
 documents_allocated : (s : State) (id : ℕ) (target : Target) → documents_of (committed s (Allocate id target)) ≡ documents_of s
 unfolding documents_of
 documents_allocated s id target = refl
 
-pub quiet_allocated : (root : Root) (s : State) (id : ℕ) (target : Target) (view : Viewed) → IsQuiet root s view → IsQuiet root (committed s (Allocate id target)) view
-quiet_allocated root s id target view = quiet_stays root s (committed s (Allocate id target)) view (λ key concerns. ap (λ (m : DocumentMap). map.get m key) (documents_allocated s id target)) (held_allocated s.rows target view.target)
+touched_allocated : (s : State) (id : ℕ) (target : Target) → touched_keys_of (committed s (Allocate id target)) ≡ touched_keys_of s
+touched_allocated s id target = refl
+
+pub quiet_allocated : (root : Root) (s : State) (stance : Stance) (id : ℕ) (target : Target) (view : Viewed) → IsQuiet root s stance view → IsQuiet root (committed s (Allocate id target)) stance view
+quiet_allocated root s stance id target view = quiet_stays root s (committed s (Allocate id target)) stance view
+    (λ key concerns. ap (λ (m : DocumentMap). map.get m key) (documents_allocated s id target))
+    (λ key concerns. (λ it. it, λ it. it)) (held_allocated s.rows target stance.target)
 
 -- ---- behind a batch
+
+-- whether a key is touched rests on whether it is named, on its entry, and on the last read time
+touched_same : (s t : State) (key : List (List ℕ)) → is_named t key ≡ is_named s key → sealed_entry_of t key ≡ sealed_entry_of s key → t.last_read ≡ s.last_read → Contains (touched_keys_of t) key ↔ Contains (touched_keys_of s) key
+touched_same s t key named entry read = (λ in_t. among_in key (touched_keys_of s) (sym same ∙ in_among key (touched_keys_of t) in_t), λ in_s. among_in key (touched_keys_of t) (same ∙ in_among key (touched_keys_of s) in_s))
+  where
+    same : is_among (touched_keys_of t) key ≡ is_among (touched_keys_of s) key
+    same = touches t key ∙ (λ i. named i || unwrap_or (option_map (λ p. is_uncovered (read i) p.1) (entry i)) false) ∙ sym (touches s key)
+
+named_enqueued : (s : State) (batch : Batch) (key : List (List ℕ)) → is_among (keys_of batch.writes) key ≡ false → is_named (committed s (Enqueue batch)) key ≡ is_named s key
+named_enqueued s batch key none = ap (λ ks. is_among ks key) (named_more s.batches batch) ∙ among-append (named_keys s.batches) (keys_of batch.writes) key ∙ ap (λ b. is_named s key || b) none ∙ or_none (is_named s key)
+  where
+    or_none : (b : Bool) → (b || false) ≡ b
+    or_none true = refl
+    or_none false = refl
 
 -- a key that the batch doesn't name has the document that it had
 unnamed_stays : (s : State) (batch : Batch) (key : List (List ℕ)) → is_among (keys_of batch.writes) key ≡ false → map.get (documents_of (committed s (Enqueue batch))) key ≡ map.get (documents_of s) key
@@ -122,14 +153,9 @@ unnamed_stays s batch key none =
     let t = committed s (Enqueue batch) in
     let document : document_of t key ≡ document_of s key =
     local_more key (base_of (entry_of s key)) s.batches batch ∙ not_written key batch.at batch.writes (document_of s key) none in
-    let named : is_named t key ≡ is_named s key =
-    ap (λ ks. is_among ks key) (named_more s.batches batch) ∙ among-append (named_keys s.batches) (keys_of batch.writes) key ∙ ap (λ b. is_named s key || b) none ∙ or_none (is_named s key) in
+    let named : is_named t key ≡ is_named s key = named_enqueued s batch key none in
     let same : (d : Document) → stored t key d ≡ stored s key d = λ d i. record { fields = d.fields; update_time = d.update_time; state = if named i then stands.Pending else standing_by (sealed_entry_of s key) } in
     documents_local t key ∙ ap (λ (f : Document → Stored). option_map f (document_of t key)) (λ i d. same d i) ∙ ap (option_map (stored s key)) document ∙ sym (documents_local s key)
-  where
-    or_none : (b : Bool) → (b || false) ≡ b
-    or_none true = refl
-    or_none false = refl
 
 module _ (target : Target) where
   abbrev Apart : List (List ℕ) → Type 0
@@ -143,9 +169,14 @@ module _ (target : Target) where
   named_write ws key among concerns never =
       All-contains Apart (keys_of ws) key (all_keys ws (All-weaker (Contains ws) (λ (x : Write). Apart (written_key x)) never ws (All-contains_itself ws))) among concerns
 
-pub quiet_enqueued : (root : Root) (s : State) (batch : Batch) (view : Viewed) → ((write : Write) → Contains batch.writes write → Concerns view.target (written_key write) → ⊥) → IsQuiet root s view → IsQuiet root (committed s (Enqueue batch)) view
-quiet_enqueued root s batch view never = quiet_stays root s (committed s (Enqueue batch)) view
-    (λ key concerns. unnamed_stays s batch key (not_so (is_among (keys_of batch.writes) key) (λ among. named_write view.target batch.writes key (among_in key (keys_of batch.writes) among) concerns never)))
+-- a key that a target concerns isn't among those of writes that don't concern it
+apart_from : (writes : List Write) (target : Target) → ((write : Write) → Contains writes write → Concerns target (written_key write) → ⊥) → (key : List (List ℕ)) → Concerns target key → is_among (keys_of writes) key ≡ false
+apart_from writes target never key concerns = not_so (is_among (keys_of writes) key) (λ among. named_write target writes key (among_in key (keys_of writes) among) concerns never)
+
+pub quiet_enqueued : (root : Root) (s : State) (stance : Stance) (batch : Batch) (view : Viewed) → ((write : Write) → Contains batch.writes write → Concerns view.target (written_key write) → ⊥) → IsQuiet root s stance view → IsQuiet root (committed s (Enqueue batch)) stance view
+quiet_enqueued root s stance batch view never = quiet_stays root s (committed s (Enqueue batch)) stance view
+    (λ key concerns. unnamed_stays s batch key (apart_from batch.writes view.target never key concerns))
+    (λ key concerns. touched_same s (committed s (Enqueue batch)) key (named_enqueued s batch key (apart_from batch.writes view.target never key concerns)) refl refl)
     ((λ it. it), (λ it. it))
 
 -- ---- behind the first batch's answer
@@ -185,29 +216,57 @@ first_stays s t key batches entries none =
     let same : (d : Document) → stored t key d ≡ stored s key d = λ d i. record { fields = d.fields; update_time = d.update_time; state = if named i then stands.Pending else standing_by (entries i) } in
     documents_local t key ∙ ap (λ (f : Document → Stored). option_map f (document_of t key)) (λ i d. same d i) ∙ ap (option_map (stored s key)) document ∙ sym (documents_local s key)
 
--- what is said of a batch that joined holds of one that leaves: a listener that none of its writes concerns stays quiet
-apart_from : (writes : List Write) (target : Target) → ((write : Write) → Contains writes write → Concerns target (written_key write) → ⊥) → (key : List (List ℕ)) → Concerns target key → is_among (keys_of writes) key ≡ false
-apart_from writes target never key concerns = not_so (is_among (keys_of writes) key) (λ among. named_write target writes key (among_in key (keys_of writes) among) concerns never)
-
-pub quiet_rejected : (root : Root) (s : State) (id : ℕ) (view : Viewed) → ((write : Write) → Contains (first_writes s.batches) write → Concerns view.target (written_key write) → ⊥) → IsQuiet root s view → IsQuiet root (committed s (Reject id)) view
-quiet_rejected root s id view never = quiet_stays root s (committed s (Reject id)) view
+pub quiet_rejected : (root : Root) (s : State) (stance : Stance) (id : ℕ) (view : Viewed) → ((write : Write) → Contains (first_writes s.batches) write → Concerns view.target (written_key write) → ⊥) → IsQuiet root s stance view → IsQuiet root (committed s (Reject id)) stance view
+quiet_rejected root s stance id view never = quiet_stays root s (committed s (Reject id)) stance view
     (λ key concerns. first_stays s (committed s (Reject id)) key refl refl (apart_from (first_writes s.batches) view.target never key concerns))
+    (λ key concerns. touched_same s (committed s (Reject id)) key (first_named s.batches key (apart_from (first_writes s.batches) view.target never key concerns)) refl refl)
     ((λ it. it), (λ it. it))
 
-pub quiet_acknowledged : (root : Root) (s : State) (id : ℕ) (at : Timestamp) (results : List WriteResult) (view : Viewed) → ((write : Write) → Contains (first_writes s.batches) write → Concerns view.target (written_key write) → ⊥) → IsQuiet root s view → IsQuiet root (committed s (Acknowledge id at results)) view
-quiet_acknowledged root s id at results view never = quiet_stays root s (committed s (Acknowledge id at results)) view
-    (λ key concerns.
-    let none = apart_from (first_writes s.batches) view.target never key concerns in
-    first_stays s (committed s (Acknowledge id at results)) key refl
-    (get_all s.entries (acknowledged_keys s.entries (first_writes s.batches) results at) key (apart s.entries (first_writes s.batches) results at (keys_of (first_writes s.batches)) key none)) none)
+pub quiet_acknowledged : (root : Root) (s : State) (stance : Stance) (id : ℕ) (at : Timestamp) (results : List WriteResult) (view : Viewed) → ((write : Write) → Contains (first_writes s.batches) write → Concerns view.target (written_key write) → ⊥) → IsQuiet root s stance view → IsQuiet root (committed s (Acknowledge id at results)) stance view
+quiet_acknowledged root s stance id at results view never = quiet_stays root s (committed s (Acknowledge id at results)) stance view
+    (λ key concerns. first_stays s (committed s (Acknowledge id at results)) key refl (entry_same key concerns) (apart_from (first_writes s.batches) view.target never key concerns))
+    (λ key concerns. touched_same s (committed s (Acknowledge id at results)) key (first_named s.batches key (apart_from (first_writes s.batches) view.target never key concerns)) (entry_same key concerns) refl)
     ((λ it. it), (λ it. it))
+  where
+    entry_same : (key : List (List ℕ)) → Concerns view.target key → map.get (committed s (Acknowledge id at results)).entries key ≡ map.get s.entries key
+    entry_same key concerns =
+        get_all s.entries (acknowledged_keys s.entries (first_writes s.batches) results at) key
+        (apart s.entries (first_writes s.batches) results at (keys_of (first_writes s.batches)) key (apart_from (first_writes s.batches) view.target never key concerns))
 
 -- ---- what a quiet listener has raised
 
-quiet_over : (root : Root) (s : State) (view : Viewed) → IsQuiet root s view → IsOver view (documents_of s)
-quiet_over root s view quiet = let is = quiet.settled.refreshes in is_over (documents_of s) is.answer is.from_cache view.raised is.shows
+quiet_over : (root : Root) (s : State) (stance : Stance) (view : Viewed) → IsQuiet root s stance view → IsOver view (documents_of s)
+quiet_over root s stance view quiet = let is = quiet.settled.refreshes in is_over (documents_of s) is.answer is.from_cache view.raised is.shows
 
 pub standing_over : {client : Kept} {s : State} {past : Past} (id : ℕ) (view : Viewed) → StandsFor client s past → Some view ≡ viewed client.listeners id → IsOver view (documents_of client.store.state)
-standing_over {client} {s} {past} id view stands there =
-    let quiet : IsQuiet client.root s view = subst (λ (v : Option Viewed). IfSome v (IsQuiet client.root s)) (sym (there ∙ stands.listeners id)) (stands.quiet id) in
-    subst (λ (t : State). IsOver view (documents_of t)) (sym stands.state) (quiet_over client.root s view quiet)
+standing_over {client} {s} {past} id view stands there = quiet_over client.root client.store.state (stance_in client id) view (are_quiet stands id view (sym there))
+
+-- ---- a client that is offline, or not
+
+-- a view that may start and is quiet has raised a snapshot
+quiet_raised : (root : Root) (s : State) (stance : Stance) (view : Viewed) (quiet : IsQuiet root s stance view) → quiet.may_start ≡ true → IsSome view.raised
+quiet_raised root s stance view quiet may = by view.raised refl
+  where
+    by : (r : Option Raised) → view.raised ≡ r → IsSome view.raised
+    by (Some raised) is = ap is_some is
+    by None is =
+        let it = quiet.settled.refreshes in
+        absurd (it.unwanted quiet.settled.silent (subst (λ (r : Option Raised). Raises (documents_of s) it.answer it.from_cache quiet.may_start r) (sym is) (inr (inr may))))
+
+-- a quiet listener stays so where it may start no more, or as before
+pub quiet_falls : (root : Root) (s t : State) (stance other : Stance) (view : Viewed) → ((key : List (List ℕ)) → Concerns view.target key → map.get (documents_of t) key ≡ map.get (documents_of s) key) → TouchesSame s t view → other.standing ≡ stance.standing
+    → ((IsHeldFor t.rows other.target ⊎ (other.offline ≡ true)) → IsHeldFor s.rows stance.target ⊎ (stance.offline ≡ true)) → (may : Bool) → MayStart t other may → IsQuiet root s stance view → IsQuiet root t other view
+quiet_falls root s t stance other view same touched standing falls may start quiet =
+    record {
+      may_start = may;
+      start = start;
+      settled = subst (λ (k : Standing). IsSettled root (documents_of t) (touched_keys_of t) k may view) (sym standing) (by may refl quiet.may_start refl);
+    }
+  where
+    stays : IsSettled root (documents_of t) (touched_keys_of t) stance.standing quiet.may_start view
+    stays = settled_stays_touched root (documents_of s) (documents_of t) (touched_keys_of s) (touched_keys_of t) stance.standing quiet.may_start view quiet.settled same touched
+
+    by : (b : Bool) → may ≡ b → (was : Bool) → quiet.may_start ≡ was → IsSettled root (documents_of t) (touched_keys_of t) stance.standing may view
+    by b is true was = raised_stays_settled root (documents_of t) (touched_keys_of t) stance.standing quiet.may_start may view (quiet_raised root s stance view quiet was) stays
+    by true is false was = absurd (true≢false (sym (quiet.start.1 (falls (start.0 is))) ∙ was))
+    by false is false was = subst (λ (m : Bool). IsSettled root (documents_of t) (touched_keys_of t) stance.standing m view) (was ∙ sym is) stays

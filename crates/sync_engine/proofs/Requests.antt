@@ -1,20 +1,23 @@
 -- the requests behind an event's turn
-use Rattle.std.proofs.Common.{◌≡◌, ℕ, ◌+◌, ◌≤◌, Bool, true, false, nat_lt, nat_eq, List, [], ◌∷◌, ◌++◌, map as each, length, Option, Some, None, if◌then◌else◌, IfSome, Vec, Global, refl, sym, ap, subst, ◌∙◌}
+use Rattle.std.proofs.Common.{◌≡◌, ℕ, ◌+◌, ◌≤◌, ℤ, Bool, true, false, nat_lt, nat_eq, List, [], ◌∷◌, ◌++◌, map as each, length, Option, Some, None, if◌then◌else◌, IfSome, Vec, Global, refl, sym, ap, subst, ◌∙◌}
+use Rattle.std.proofs.lemmas.List.{append-nil, append_assoc}
 use Rattle.std.proofs.lemmas.Option.{none-some}
 use Rattle.std.specs.List.{AllZip, slice_get}
 use Rattle.document_keys.specs.Names.{Root}
 use Rattle.client_events.specs.declared.event.Event.{Event}
 use Rattle.client_events.specs.declared.event.Event.TheVariants as event
-use Rattle.listeners.specs.Table.{Table, viewed}
+use Rattle.listen_protocol.specs.Calls.{Calls}
+use Rattle.listeners.specs.Table.{Table, target_of, viewed}
 use Rattle.local_store.specs.State.{State, most_commits}
 use Rattle.local_store.specs.Store.{Store}
 use Rattle.mutations.specs.declared.batch.Batch.{Batch}
 use Rattle.mutations.specs.declared.results.WriteResponse.{WriteResponse}
 use Rattle.queries.specs.declared.target.Target.{Target}
 use Rattle.record_codec.specs.declared.commit.Commit.{Commit}
-use Rattle.record_codec.specs.declared.commit.Commit.TheVariants.{Acknowledge, Allocate, Enqueue, Reject}
+use Rattle.record_codec.specs.declared.commit.Commit.TheVariants.{Acknowledge, Allocate, Enqueue, Point, Reject, Reset}
 use Rattle.target_cache.specs.Cache.{id_at}
 use Rattle.value_model.specs.declared.document.RpcStatus.{RpcStatus}
+use Rattle.value_model.specs.declared.message.ListenResponse.{ListenResponse}
 use Rattle.value_model.specs.declared.message.StreamName.{StreamName}
 use Rattle.views.specs.Viewed.{Viewed}
 use Rattle.write_pipeline.specs.Order.{Steps, latest_token, outstanding}
@@ -24,21 +27,28 @@ use Rattle.write_pipeline.specs.declared.answer.Closing.TheVariants.{Kept as Kee
 use Rattle.sync_engine.specs.Answers.{Answers, Begins, are_left, ends, listens}
 use Rattle.local_store.specs.Documents.{document_of, standing_of}
 use Rattle.mutations.specs.declared.results.WriteRequest.TheVariants.{Handshake as the_first}
-use Rattle.sync_engine.specs.Lines.{Line, document, listening, rejected, result, send, snapshot, unlistened, wrote}
-use Rattle.sync_engine.specs.Past.{Past, Turn, asked, listener, raised_in, sent_in, steps_by, steps_of, told}
+use Rattle.sync_engine.specs.Asking.{IsAddLine}
+use Rattle.sync_engine.specs.Hearing.{Blanks, HeardTurn, commits_if_left, ended, held, mismatch, none_held, nothing, old_point, point, point_spent, watch_member_name}
+use Rattle.sync_engine.specs.Hearing.{fails as fails_heard}
+use Rattle.sync_engine.specs.Lines.{Line, add, document, error, listening, rejected, remove, result, send, snapshot, unlistened, wrote}
+use Rattle.sync_engine.specs.Past.{Past, Turn, asked as asked_of, is_refused_in, listener, raised_in, sent_in, steps_by, steps_of, told, unless_refused}
+use Rattle.sync_engine.specs.Settling.{Stance, stance_of}
 use Rattle.sync_engine.specs.Sending.{KeepsButPipeline, Sends, from_place, sent_times}
-use Rattle.sync_engine.specs.Standing.{ComesAs, IsQuiet, Kept, StandsFor, StandsOn}
+use Rattle.sync_engine.specs.Standing.{ComesAs, HasTargetRow, IsQuiet, Kept, StandsFor, StandsOn, Watches}
 use Rattle.sync_engine.specs.Telling.{HandsOut, HandsSettled, IsShown}
-use Rattle.sync_engine.specs.Turn.{IsSettled, IsTurn, SettlesAfter, heard_then, snapshot_line}
+use Rattle.sync_engine.specs.Turn.{AsksBehind, IsSettled, IsTurn, SettlesAfter, answered_next, heard_then, is_heard, snapshot_line, with_lines}
+use Rattle.sync_engine.specs.Watching.{begun_by, begun_in, is_watched, listened, listened_by, listened_in, requested_by, requested_in}
 use Rattle.sync_engine.specs.Turns.{after, answered, commits, refused}
-use Rattle.sync_engine.specs.Writing.{WrittenTurn, acknowledges, bad_turn, closed_turn, closes, fails, first_batch, is_open, member_name, opened_turn, rejects, request_of, requests, shakes, to_send}
+use Rattle.sync_engine.specs.Writing.{WrittenTurn, acknowledges, bad_turn, closed_turn, closes, fails, first_batch, is_open, is_stream_open, member_name, opened_turn, rejects, request_of, requests, shakes, to_send}
 use Rattle.sync_engine.specs.declared.out.Out.{Out}
-use Rattle.sync_engine.specs.declared.out.Out.TheVariants.{Wrote, Listening, Unlistened, Document, Result, Rejected, Raised as RaisedBy, SendHandshake, SendBatch}
+use Rattle.sync_engine.specs.declared.out.Out.TheVariants.{Wrote, Listening, Unlistened, Document, Result, Rejected, Error, Raised as RaisedBy, AddTarget, RemoveTarget, SendHandshake, SendBatch}
+use Rattle.sync_engine.specs.declared.watch_stream.WatchStream.{WatchStream}
 use Rattle.sync_engine.specs.declared.out.Outcome.TheVariants.{Done, Refused}
 use Rattle.sync_engine.specs.declared.refusal.Refusal.{Refusal}
 use Rattle.sync_engine.specs.declared.refusal.Refusal.TheVariants.{BadMessage, IdsSpent, ListenerTaken, NoListener, StreamState}
 use Rattle.value_model.specs.declared.message.StreamName.TheVariants as stream
-use Rattle.sync_engine.proofs.Handing.{zip_append}
+use Rattle.sync_engine.proofs.Handing.{refused_behind, zip_append}
+use Rattle.sync_engine.proofs.Reading.{fold_sent, stance_behind, targets_behind, watches_behind}
 use Rattle.sync_engine.proofs.Sent.{requests_sent, sent_open, sent_token, shown_sent, within}
 use Rattle.sync_engine.proofs.Steps.{sent_behind, sent_told}
 
@@ -75,7 +85,8 @@ shape_ends s id (Some view) = is_answered (unlistened id s.number ∷ []) (λ h.
 
 shape_opened : (name : StreamName) (b : Bool) → Shape (opened_turn name b)
 shape_opened name true = is_refused (StreamState name true) refl
-shape_opened name false = is_answered (send the_first ∷ []) (λ h. refl) refl
+shape_opened stream.Watch false = is_answered [] (λ h. refl) refl
+shape_opened stream.Write false = is_answered (send the_first ∷ []) (λ h. refl) refl
 
 shape_bad : (name : StreamName) (member : List ℕ) (b : Bool) → Shape (bad_turn name member b)
 shape_bad name member true = is_refused (BadMessage name member) refl
@@ -90,8 +101,9 @@ shape_closes s status KeepsAll = is_answered [] (λ h. refl) refl
 shape_closes s status Rejects = shape_rejects s status (first_batch s)
 
 shape_closed : (s : State) (h : Steps) (name : StreamName) (status : RpcStatus) (b : Bool) → Shape (closed_turn s h name status b)
-shape_closed s h name status true = shape_closes s status (closing_of h status.code)
 shape_closed s h name status false = is_refused (StreamState name false) refl
+shape_closed s h stream.Watch status true = is_answered [] (λ g. refl) refl
+shape_closed s h stream.Write status true = shape_closes s status (closing_of h status.code)
 
 shape_written : (s : State) (h : Steps) (response : WriteResponse) (b : Bool) (t : Turn) → WrittenTurn s h response b t → Shape t
 shape_written s h response true t (shakes fits is) = is_answered [] (λ g. refl) is
@@ -99,16 +111,39 @@ shape_written s h response true t (acknowledges batch time first at fits is) = s
 shape_written s h response true t (fails member not is) = is_refused (BadMessage stream.Write (member_name member)) is
 shape_written s h response false t is = is_refused (StreamState stream.Write false) is
 
+errors_silent : (status : RpcStatus) (ls : List ℕ) → SendsNone (each (λ l. error l status) ls)
+errors_silent status [] h = refl
+errors_silent status (l ∷ ls) h = errors_silent status ls h
+
+shape_committing : (s : State) (commit : Commit) (lines : List Line) → SendsNone lines → Shape (commits_if_left s commit lines)
+shape_committing s commit lines silent = shape_left (nat_lt s.number most_commits) commit lines silent
+
+shape_blanks : (s : State) (ids : List ℕ) (lines : List Line) (t : Turn) → SendsNone lines → Blanks s ids lines t → Shape t
+shape_blanks s ids lines t silent (held any is) = subst Shape (sym is) (shape_committing s (Reset ids) lines silent)
+shape_blanks s ids lines t silent (none_held none is) = is_answered lines silent is
+
+shape_heard : (s : State) (past : Past) (response : ListenResponse) (b : Bool) (t : Turn) → HeardTurn s past response b t → Shape t
+shape_heard s past response false t is = is_refused (StreamState stream.Watch false) is
+shape_heard s past response true t (nothing gives is) = is_answered [] (λ g. refl) is
+shape_heard s past response true t (old_point at gives old is) = is_answered [] (λ g. refl) is
+shape_heard s past response true t (point at entries rows gives below commits is) = subst Shape (sym is) (shape_committing s (Point at entries rows) [] (λ g. refl))
+shape_heard s past response true t (point_spent at gives below many is) = is_refused IdsSpent is
+shape_heard s past response true t (mismatch id told count ids gives have blanks) = shape_blanks s ids [] t (λ g. refl) blanks
+shape_heard s past response true t (ended ids status those listeners gives have are blanks) = shape_blanks s those (each (λ l. error l status) listeners) t (errors_silent status listeners) blanks
+shape_heard s past response true t (fails_heard why refuses is) = is_refused (BadMessage stream.Watch (watch_member_name why)) is
+
 answer_shape : (s : State) (past : Past) (e : Event) (t : Turn) → Answers s past e t → Shape t
 answer_shape s past (event.Write at writes) t is =
     subst Shape (sym is) (shape_left (nat_lt s.number most_commits) (Enqueue (record { id = s.next_batch; at = at; writes = writes })) (wrote s.next_batch (s.number + 1) ∷ []) (λ h. refl))
 answer_shape s past (event.Get key) t is = is_answered (document key (document_of s key) (standing_of s key) ∷ []) (λ h. refl) is
 answer_shape s past (event.Listen id query) t is = shape_begins s id query (listener id past) t is
 answer_shape s past (event.Unlisten id) t is = subst Shape (sym is) (shape_ends s id (listener id past))
-answer_shape s past (event.Opened name) t is = subst Shape (sym is) (shape_opened name (is_open (steps_of past)))
-answer_shape s past (event.Closed name status) t is = subst Shape (sym is) (shape_closed s (steps_of past) name status (is_open (steps_of past)))
+answer_shape s past (event.Opened name) t is = subst Shape (sym is) (shape_opened name (is_stream_open name past))
+answer_shape s past (event.Closed name status) t is = subst Shape (sym is) (shape_closed s (steps_of past) name status (is_stream_open name past))
 answer_shape s past (event.Written response) t is = shape_written s (steps_of past) response (is_open (steps_of past)) t is
-answer_shape s past (event.BadMessage name member) t is = subst Shape (sym is) (shape_bad name member (is_open (steps_of past)))
+answer_shape s past (event.BadMessage name member) t is = subst Shape (sym is) (shape_bad name member (is_stream_open name past))
+answer_shape s past (event.Watch response) t is = shape_heard s past response (is_watched past) t is
+answer_shape s past event.Timer t is = is_answered [] (λ h. refl) is
 
 shape_silent : (t : Turn) → Shape t → SendsNone t.lines
 shape_silent t (is_refused refusal is) = subst (λ (x : Turn). SendsNone x.lines) (sym is) (λ h. refl)
@@ -127,24 +162,24 @@ Silent t = SendsNone t.lines
 answer_silent : (s : State) (past : Past) (e : Event) (t : Turn) → Answers s past e t → Silent t
 answer_silent s past e t is = shape_silent t (answer_shape s past e t is)
 
-silent_then : (root : Root) (s : State) (past : Past) (e : Event) (answer : Turn) (refusal : Option Refusal) (t : Turn) → SettlesAfter root s past e answer refusal t → Silent answer → Silent t
-silent_then root s past e answer None t is silent =
+silent_then : (root : Root) (s : State) (past : Past) (e : Event) (answer : Turn) (heard : Bool) (t : Turn) → SettlesAfter root s past e answer heard t → Silent answer → Silent t
+silent_then root s past e answer true t is silent =
     subst Silent (sym is.is) (λ h. sent_behind answer.lines (each (snapshot_line (after s answer.commit)) is.told) h ∙ sent_told (after s answer.commit) is.told (sent_in answer.lines h) ∙ silent h)
-silent_then root s past e answer (Some refusal) t is silent = subst Silent (sym is) silent
+silent_then root s past e answer false t is silent = subst Silent (sym is) silent
 
 pub settled_silent : (root : Root) (s : State) (past : Past) (e : Event) (t : Turn) → IsSettled root s past e t → Silent t
-settled_silent root s past e t it = silent_then root s past e it.answer it.answer.refusal t it.settles (answer_silent s past e it.answer it.answers)
+settled_silent root s past e t it = silent_then root s past e it.answer (is_heard it.answer.refusal) t it.settles (answer_silent s past e it.answer it.answers)
 
 -- a refused event makes no commit
-unmade_then : (root : Root) (s : State) (past : Past) (e : Event) (answer : Turn) (refusal : Option Refusal) (t : Turn) → answer.refusal ≡ refusal → SettlesAfter root s past e answer refusal t → Shape answer → (other : Refusal) → t.refusal ≡ Some other → t.commit ≡ None
-unmade_then root s past e answer None t same is shape other so = absurd (none-some other (sym (ap (λ (x : Turn). x.refusal) is.is) ∙ so))
-unmade_then root s past e answer (Some refusal) t same is shape other so = ap (λ (x : Turn). x.commit) is ∙ shape_unmade answer shape refusal same
+unmade_then : (root : Root) (s : State) (past : Past) (e : Event) (answer : Turn) (heard : Bool) (t : Turn) → SettlesAfter root s past e answer heard t → Shape answer → (other : Refusal) → t.refusal ≡ Some other → t.commit ≡ None
+unmade_then root s past e answer true t is shape other so = ap (λ (x : Turn). x.commit) is.is ∙ shape_unmade answer shape other (sym (ap (λ (x : Turn). x.refusal) is.is) ∙ so)
+unmade_then root s past e answer false t is shape other so = ap (λ (x : Turn). x.commit) is ∙ shape_unmade answer shape other (sym (ap (λ (x : Turn). x.refusal) is) ∙ so)
 
 pub refused_unmade : (root : Root) (s : State) (past : Past) (e : Event) (t : Turn) → IsTurn root s past e t → (refusal : Refusal) → t.refusal ≡ Some refusal → t.commit ≡ None
 refused_unmade root s past e t it refusal so =
     let settled = it.is_settled in
     ap (λ (x : Turn). x.commit) it.is
-    ∙ unmade_then root s past e settled.answer settled.answer.refusal it.settled refl settled.settles (answer_shape s past e settled.answer settled.answers) refusal (sym (ap (λ (x : Turn). x.refusal) it.is) ∙ so)
+    ∙ unmade_then root s past e settled.answer (is_heard settled.answer.refusal) it.settled settled.settles (answer_shape s past e settled.answer settled.answers) refusal (sym (ap (λ (x : Turn). x.refusal) it.is) ∙ so)
 
 -- ---- requests are no snapshots
 
@@ -152,7 +187,31 @@ raised_no : (id : ℕ) (token : List ℕ) (bs : List Batch) → raised_in id (ea
 raised_no id token [] = refl
 raised_no id token (b ∷ bs) = raised_no id token bs
 
-raised_before : (id : ℕ) (xs ys : List Line) → raised_in id ys ≡ None → raised_in id (xs ++ ys) ≡ raised_in id xs
+pub raised_removes : (id : ℕ) (ids : List ℤ) → raised_in id (each remove ids) ≡ None
+raised_removes id [] = refl
+raised_removes id (x ∷ ids) = raised_removes id ids
+
+pub raised_adds : (id : ℕ) (s : State) (ids : List ℤ) (lines : List Line) → AllZip (IsAddLine s) ids lines → raised_in id lines ≡ None
+raised_adds id s [] [] all = refl
+raised_adds id s [] (line ∷ lines) all = absurd all
+raised_adds id s (x ∷ ids) [] all = absurd all
+raised_adds id s (x ∷ ids) (line ∷ lines) all = ap (λ (l : Line). raised_in id (l ∷ lines)) all.0.is ∙ raised_adds id s ids lines all.1
+
+refused_no : (id : ℕ) (token : List ℕ) (bs : List Batch) → is_refused_in id (each (request_of token) bs) ≡ false
+refused_no id token [] = refl
+refused_no id token (b ∷ bs) = refused_no id token bs
+
+pub refused_removes : (id : ℕ) (ids : List ℤ) → is_refused_in id (each remove ids) ≡ false
+refused_removes id [] = refl
+refused_removes id (x ∷ ids) = refused_removes id ids
+
+pub refused_adds : (id : ℕ) (s : State) (ids : List ℤ) (lines : List Line) → AllZip (IsAddLine s) ids lines → is_refused_in id lines ≡ false
+refused_adds id s [] [] all = refl
+refused_adds id s [] (line ∷ lines) all = absurd all
+refused_adds id s (x ∷ ids) [] all = absurd all
+refused_adds id s (x ∷ ids) (line ∷ lines) all = ap (λ (l : Line). is_refused_in id (l ∷ lines)) all.0.is ∙ refused_adds id s ids lines all.1
+
+pub raised_before : (id : ℕ) (xs ys : List Line) → raised_in id ys ≡ None → raised_in id (xs ++ ys) ≡ raised_in id xs
 raised_before id [] ys none = none
 raised_before id (wrote b c ∷ xs) ys none = raised_before id xs ys none
 raised_before id (listening i t c ∷ xs) ys none = raised_before id xs ys none
@@ -160,6 +219,9 @@ raised_before id (unlistened i c ∷ xs) ys none = raised_before id xs ys none
 raised_before id (document k d w ∷ xs) ys none = raised_before id xs ys none
 raised_before id (result b c t ∷ xs) ys none = raised_before id xs ys none
 raised_before id (rejected b c t ∷ xs) ys none = raised_before id xs ys none
+raised_before id (error i t ∷ xs) ys none = raised_before id xs ys none
+raised_before id (add t r ∷ xs) ys none = raised_before id xs ys none
+raised_before id (remove t ∷ xs) ys none = raised_before id xs ys none
 raised_before id (send r ∷ xs) ys none = raised_before id xs ys none
 raised_before id (snapshot c r t ∷ xs) ys none = ap (λ o. if nat_eq t.id id then Some t.raised else o) (raised_before id xs ys none)
 
@@ -179,6 +241,9 @@ shown_kept mid new count kept stands (RaisedBy id) line is = record {
   last = is.last;
   is = is.is ∙ ap (λ (x : Store). snapshot x.state.number x.state.last_read (record { id = id; raised = is.raised })) (sym kept.store);
 }
+shown_kept mid new count kept stands (Error id status) line is = is
+shown_kept mid new count kept stands (AddTarget t) line is = subst (λ (x : Store). IsAddLine x.state t line) (sym kept.store) is
+shown_kept mid new count kept stands (RemoveTarget t) line is = is
 shown_kept mid new count kept stands SendHandshake line is = is
 shown_kept mid new count kept stands (SendBatch place) line is = record {
   steps = sent_times count is.steps;
@@ -196,86 +261,119 @@ all_kept mid new count kept stands (out ∷ outs) (line ∷ lines) all = (shown_
 
 -- ---- the turn of an event whose requests went out
 
-module _ (mid new : Kept) (s : State) (past : Past) (e : Event) (commit : Option Commit) (lines : List Line) (outs : List Out) (vec : Vec Out Global)
-    (kept : KeepsButPipeline mid new) (sends : Sends mid new outs vec.items)
-    (settled : IsSettled mid.root s past e (record { refusal = None; commit = commit; lines = lines }))
-    (stands : StandsFor mid (after s commit) (record { state = s; event = e; turn = record { refusal = None; commit = commit; lines = lines } } ∷ past))
-    (shown : AllZip (IsShown mid) outs lines) where
+-- what an event comes to with its requests on the stream of listeners
+pub record HandsAsked (s : State) (past : Past) (e : Event) (outs : List Out) (client : Kept) : Type 0 where
+  pub commit : Option Commit
+  pub lines : List Line
+  pub settled : IsSettled client.root s past e (record { refusal = None; commit = commit; lines = lines })
+  pub asked : List Line
+  pub asks : AsksBehind s past e (record { refusal = None; commit = commit; lines = lines }) asked
+  pub silent : (g : Steps) → sent_in (lines ++ asked) g ≡ g
+  pub stands : StandsFor client (after s commit) (record { state = s; event = e; turn = record { refusal = None; commit = commit; lines = lines ++ asked } } ∷ past)
+  pub shown : AllZip (IsShown client) outs (lines ++ asked)
+
+module _ (mid new : Kept) (s : State) (past : Past) (e : Event) (outs : List Out) (vec : Vec Out Global)
+    (kept : KeepsButPipeline mid new) (sends : Sends mid new outs vec.items) (it : HandsAsked s past e outs mid) where
   abbrev h : Steps
   h = steps_by e None (steps_of past)
 
+  abbrev later : State
+  later = after s it.commit
+
   abbrev batches : List Batch
-  batches = (after s commit).batches
+  batches = later.batches
+
+  abbrev lines : List Line
+  lines = it.lines ++ it.asked
 
   abbrev behind : List Line
   behind = requests h batches
 
-  silent : (g : Steps) → sent_in lines g ≡ g
-  silent = settled_silent mid.root s past e (record { refusal = None; commit = commit; lines = lines }) settled
+  abbrev turn : Turn
+  turn = record { refusal = None; commit = it.commit; lines = lines }
 
   on : StandsOn mid.writes h
-  on = subst (StandsOn mid.writes) (silent h) stands.writes
+  on = subst (StandsOn mid.writes) (it.silent h) it.stands.writes
 
   same_batches : mid.store.state.batches ≡ batches
-  same_batches = ap (λ (t : State). t.batches) stands.state
+  same_batches = ap (λ (t : State). t.batches) it.stands.state
 
   all : sends.count ≡ length (to_send h batches)
   all = sends.all h on.pipeline ∙ ap (λ bs. length (to_send h bs)) same_batches
 
   steps : sent_in (lines ++ behind) h ≡ sent_times sends.count h
-  steps = sent_behind lines behind h ∙ ap (sent_in behind) (silent h) ∙ requests_sent (latest_token h) (to_send h batches) h ∙ ap (λ n. sent_times n h) (sym all)
+  steps = sent_behind lines behind h ∙ ap (sent_in behind) (it.silent h) ∙ requests_sent (latest_token h) (to_send h batches) h ∙ ap (λ n. sent_times n h) (sym all)
 
   unsaid : (id : ℕ) → raised_in id (lines ++ behind) ≡ raised_in id lines
   unsaid id = raised_before id lines behind (raised_no id (latest_token h) (to_send h batches))
 
-  heard : (id : ℕ) → viewed new.listeners id ≡ told (raised_in id (lines ++ behind)) (asked id e (listener id past))
-  heard id = ap (λ (t : Table). viewed t id) kept.listeners ∙ stands.listeners id ∙ ap (λ r. told r (asked id e (listener id past))) (sym (unsaid id))
+  unrefused : (id : ℕ) → is_refused_in id (lines ++ behind) ≡ is_refused_in id lines
+  unrefused id = refused_behind id lines behind (refused_no id (latest_token h) (to_send h batches))
 
-  now : StandsFor new (after s commit) (record { state = s; event = e; turn = record { refusal = None; commit = commit; lines = lines ++ behind } } ∷ past)
+  same_listener : (id : ℕ) → listener id (answered_next s past e (with_lines turn behind)) ≡ listener id (answered_next s past e turn)
+  same_listener id =
+      ap (λ r. told r (unless_refused (is_refused_in id (lines ++ behind)) (asked_of id e (listener id past)))) (unsaid id)
+      ∙ ap (λ b. told (raised_in id lines) (unless_refused b (asked_of id e (listener id past)))) (unrefused id)
+
+  no_target : (id : ℕ) (was : Option ℤ) → listened_in id behind was ≡ was
+  no_target id was = fold_sent (listened_by id) (λ b token x. refl) (latest_token h) (to_send h batches) was
+
+  no_begin : (ids : List ℕ) → begun_in behind ids ≡ ids
+  no_begin ids = fold_sent begun_by (λ b token x. refl) (latest_token h) (to_send h batches) ids
+
+  no_request : (g : Calls) → requested_in behind g ≡ g
+  no_request g = fold_sent requested_by (λ b token x. refl) (latest_token h) (to_send h batches) g
+
+  now : StandsFor new later (answered_next s past e (with_lines turn behind))
   now = record {
-    state = ap (λ (x : Store). x.state) kept.store ∙ stands.state;
-    listeners = heard;
+    state = ap (λ (x : Store). x.state) kept.store ∙ it.stands.state;
+    listeners = λ id. ap (λ (t : Table). viewed t id) kept.listeners ∙ it.stands.listeners id ∙ sym (same_listener id);
+    targets = λ id. ap (λ (t : Table). target_of t id) kept.listeners ∙ it.stands.targets id ∙ sym (targets_behind past s e turn behind no_target no_begin id);
+    rows = λ id. subst (λ (o : Option ℤ). IfSome o (HasTargetRow later.rows)) (sym (targets_behind past s e turn behind no_target no_begin id)) (it.stands.rows id);
     quiet = λ id.
-        subst (λ (v : Option Viewed). IfSome v (IsQuiet new.root (after s commit))) (ap (λ r. told r (asked id e (listener id past))) (sym (unsaid id)))
-        (subst (λ (r : Root). IfSome (told (raised_in id lines) (asked id e (listener id past))) (IsQuiet r (after s commit))) (sym kept.root) (stands.quiet id));
+        subst (λ (k : Stance). IfSome (listener id (answered_next s past e (with_lines turn behind))) (IsQuiet new.root later k)) (sym (stance_behind past s e turn behind no_target no_begin id))
+        (subst (λ (v : Option Viewed). IfSome v (IsQuiet new.root later (stance_of (answered_next s past e turn) id))) (sym (same_listener id))
+        (subst (λ (r : Root). IfSome (listener id (answered_next s past e turn)) (IsQuiet r later (stance_of (answered_next s past e turn) id))) (sym kept.root) (it.stands.quiet id)));
+    watch = subst (λ (w : WatchStream). Watches w (answered_next s past e (with_lines turn behind))) (sym kept.watch) (watches_behind past s e turn behind no_target no_begin no_request it.stands.watch);
     writes = subst (StandsOn new.writes) (sym steps) (record { opening = kept.opening ∙ on.opening ∙ sym (sent_open sends.count h); pipeline = sends.stands h on.pipeline });
     pending = subst (λ (g : Steps). outstanding g ≤ length batches) (sym steps)
-        (within h batches sends.count all (subst (λ (g : Steps). outstanding g ≤ length batches) (silent h) stands.pending));
+        (within h batches sends.count all (subst (λ (g : Steps). outstanding g ≤ length batches) (it.silent h) it.stands.pending));
   }
+
+  same_lines : lines ++ behind ≡ it.lines ++ (it.asked ++ behind)
+  same_lines = append_assoc it.lines it.asked behind
+
+  abbrev full : List Line → Turn
+  full ls = record { refusal = None; commit = it.commit; lines = ls }
 
   pub hands_out : HandsOut s past e (Done vec) new
   hands_out = record {
-    turn = record { refusal = None; commit = commit; lines = lines ++ behind };
-    is_turn = record { settled = record { refusal = None; commit = commit; lines = lines }; is_settled = subst (λ (r : Root). IsSettled r s past e (record { refusal = None; commit = commit; lines = lines })) (sym kept.root) settled; is = refl };
-    stands = now;
+    turn = full (it.lines ++ (it.asked ++ behind));
+    is_turn = record { settled = full it.lines; is_settled = subst (λ (r : Root). IsSettled r s past e (full it.lines)) (sym kept.root) it.settled; asked = it.asked; asks = it.asks; is = refl };
+    stands = subst (λ (ls : List Line). StandsFor new later (answered_next s past e (full ls))) same_lines now;
     outcome = (
       refl,
-      subst (λ (os : List Out). AllZip (IsShown new) os (lines ++ behind)) (sym (sends.outs h on.pipeline))
+      subst (AllZip (IsShown new) vec.items) same_lines
+          (subst (λ (os : List Out). AllZip (IsShown new) os (lines ++ behind)) (sym (sends.outs h on.pipeline))
           (zip_append (IsShown new) outs lines (from_place (outstanding h) sends.count) behind
-          (all_kept mid new sends.count kept sends.stands outs lines shown)
-          (shown_sent new h batches sends.count (ap (λ (x : Store). x.state.batches) kept.store ∙ same_batches) all (sends.stands h on.pipeline))),
+          (all_kept mid new sends.count kept sends.stands outs lines it.shown)
+          (shown_sent new h batches sends.count (ap (λ (x : Store). x.state.batches) kept.store ∙ same_batches) all (sends.stands h on.pipeline)))),
     );
   }
 
-pub hands_sent : {mid new : Kept} {s : State} {past : Past} {e : Event} {outs vec : Vec Out Global} → HandsSettled s past e (Done outs) mid → KeepsButPipeline mid new → Sends mid new outs.items vec.items → HandsOut s past e (Done vec) new
-hands_sent {mid} {new} {s} {past} {e} {outs} {vec} it kept sends = go it.turn.refusal it.outcome.0 it.is_settled it.stands
-  where
-    go : (refusal : Option Refusal) → refusal ≡ None → IsSettled mid.root s past e (record { refusal = refusal; commit = it.turn.commit; lines = it.turn.lines })
-        → StandsFor mid (after s it.turn.commit) (heard_then (record { state = s; event = e; turn = record { refusal = refusal; commit = it.turn.commit; lines = it.turn.lines } }) past) → HandsOut s past e (Done vec) new
-    go None none settled stands = hands_out mid new s past e it.turn.commit it.turn.lines outs.items vec kept sends settled stands it.outcome.1
-    go (Some refusal) none settled stands = absurd (none-some refusal (sym none))
-
 -- a refused event sends nothing
-pub hands_unsent : {client : Kept} {s : State} {past : Past} {e : Event} (refusal : Refusal) → HandsSettled s past e (Refused refusal) client → HandsOut s past e (Refused refusal) client
-hands_unsent {client} {s} {past} {e} refusal it = go it.turn.refusal it.outcome.0 it.turn.lines it.outcome.1 it.is_settled it.stands
+pub hands_unsent : {client : Kept} {s : State} {past : Past} {e : Event} {outs : Vec Out Global} (refusal : Refusal) → HandsSettled s past e (Refused refusal outs) client → HandsOut s past e (Refused refusal outs) client
+hands_unsent {client} {s} {past} {e} {outs} refusal it = go it.turn.refusal it.outcome.0 it.is_settled it.stands
   where
-    go : (found : Option Refusal) → found ≡ Some refusal → (lines : List Line) → lines ≡ [] → IsSettled client.root s past e (record { refusal = found; commit = it.turn.commit; lines = lines })
-        → StandsFor client (after s it.turn.commit) (heard_then (record { state = s; event = e; turn = record { refusal = found; commit = it.turn.commit; lines = lines } }) past) → HandsOut s past e (Refused refusal) client
-    go None is lines none settled stands = absurd (none-some refusal is)
-    go (Some found) is [] none settled stands = record {
-      turn = record { refusal = Some found; commit = it.turn.commit; lines = [] };
-      is_turn = record { settled = record { refusal = Some found; commit = it.turn.commit; lines = [] }; is_settled = settled; is = refl };
-      stands = stands;
-      outcome = (is, refl);
+    as_turn : Option Refusal → List Line → Turn
+    as_turn found ls = record { refusal = found; commit = it.turn.commit; lines = ls }
+
+    go : (found : Option Refusal) → found ≡ Some refusal → IsSettled client.root s past e (as_turn found it.turn.lines)
+        → StandsFor client (after s it.turn.commit) (heard_then (record { state = s; event = e; turn = as_turn found it.turn.lines }) past) → HandsOut s past e (Refused refusal outs) client
+    go None is settled stands = absurd (none-some refusal is)
+    go (Some found) is settled stands = record {
+      turn = as_turn (Some found) (it.turn.lines ++ []);
+      is_turn = record { settled = as_turn (Some found) it.turn.lines; is_settled = settled; asked = []; asks = refl; is = refl };
+      stands = subst (λ (ls : List Line). StandsFor client (after s it.turn.commit) (heard_then (record { state = s; event = e; turn = as_turn (Some found) ls }) past)) (sym (append-nil it.turn.lines)) stands;
+      outcome = (is, subst (AllZip (IsShown client) outs.items) (sym (append-nil it.turn.lines)) it.outcome.1);
     }
-    go (Some found) is (line ∷ lines) none settled stands = absurd (cc)

@@ -1,5 +1,5 @@
 -- how the listeners are refreshed, one after another
-use Rattle.std.proofs.Common.{◌≡◌, ◌⊎◌, ⊎_elim, inl, inr, ℕ, ◌+◌, ◌<◌, ◌≤◌, suc, zero, Bool, true, false, nat_eq, List, [], ◌∷◌, ◌++◌, map as each, length, take, Option, Some, None, is_some, IfSome, if◌then◌else◌, refl, sym, ap, subst, ◌∙◌, arith, get_or}
+use Rattle.std.proofs.Common.{◌≡◌, ◌⊎◌, ⊎_elim, inl, inr, ℕ, ◌+◌, ◌<◌, ◌≤◌, Bool, true, false, nat_eq, List, [], ◌∷◌, ◌++◌, map as each, length, take, Option, Some, None, is_some, IfSome, if◌then◌else◌, refl, sym, ap, subst, ◌∙◌, arith, get_or}
 use Rattle.std.specs.List.{All, AllPairs, Contains}
 use Rattle.std.proofs.lemmas.Bool.{eqb-true, eq-eqb, eqb-false}
 use Rattle.std.proofs.lemmas.Option.{none-some}
@@ -15,8 +15,8 @@ use Rattle.views.specs.Viewed.{Viewed}
 use Rattle.views.specs.declared.raised.Raised.{Raised}
 use Rattle.sync_engine.specs.Lines.{Told}
 use Rattle.sync_engine.specs.Past.{told}
-use Rattle.sync_engine.specs.Settling.{IsBelow, ShowsAt, told_to}
-use Rattle.sync_engine.specs.Standing.{Kept, IsQuiet}
+use Rattle.sync_engine.specs.Settling.{IsBelow, ShowsAt, Stance, stance_by, told_to}
+use Rattle.sync_engine.specs.Standing.{Kept, IsQuiet, stance_in, standing_in}
 use Rattle.sync_engine.specs.Telling.{IsQuietOrAmong, KeepsRest, Raises, ShowsOne}
 use Rattle.sync_engine.specs.declared.out.Out.{Out}
 use Rattle.sync_engine.specs.declared.out.Out.TheVariants.{Raised as RaisedBy}
@@ -30,11 +30,22 @@ pub record Settling (old now : Kept) (before outs : List Out) (ids : List ℕ) (
   pub ascending : AllPairs IsBelow ts
   pub among : All (λ (t : Told). Contains (take done ids) t.id) ts
   pub views : (id : ℕ) → viewed now.listeners id ≡ told (told_to id ts) (viewed old.listeners id)
-  pub shown : (id : ℕ) → Contains (take done ids) id → ShowsAt old.root old.store.state (viewed old.listeners id) (told_to id ts)
-  pub quiet : (id : ℕ) → Contains (take done ids) id → IfSome (viewed now.listeners id) (IsQuiet old.root old.store.state)
+  pub shown : (id : ℕ) → Contains (take done ids) id → ShowsAt old.root old.store.state (stance_in old id) (viewed old.listeners id) (told_to id ts)
+  pub quiet : (id : ℕ) → Contains (take done ids) id → IfSome (viewed now.listeners id) (IsQuiet old.root old.store.state (stance_in old id))
 
 pub keeps_then : {old mid new : Kept} → KeepsRest old mid → KeepsRest mid new → KeepsRest old new
-keeps_then first second = record { root = second.root ∙ first.root; store = second.store ∙ first.store; writes = second.writes ∙ first.writes; spent = second.spent ∙ first.spent }
+keeps_then first second = record {
+  root = second.root ∙ first.root;
+  store = second.store ∙ first.store;
+  targets = λ id. second.targets id ∙ first.targets id;
+  watch = second.watch ∙ first.watch;
+  writes = second.writes ∙ first.writes;
+  spent = second.spent ∙ first.spent;
+}
+
+-- the targets of listeners stand as before
+pub stance_rest : {old new : Kept} → KeepsRest old new → (id : ℕ) → stance_in new id ≡ stance_in old id
+stance_rest rest id = λ i. stance_by (rest.targets id i) (standing_in (rest.watch i).current.targets.items) (rest.watch i).online
 
 told_none : (v : Option Viewed) → told None v ≡ v
 told_none v = refl
@@ -45,7 +56,7 @@ nothing_among it = absurd (omega (arith, it.1))
 pub none_settled : (old : Kept) (outs : List Out) (ids : List ℕ) → Settling old old outs outs ids 0
 none_settled old outs ids = record {
   ts = [];
-  rest = record { root = refl; store = refl; writes = refl; spent = refl };
+  rest = record { root = refl; store = refl; targets = λ id. refl; watch = refl; writes = refl; spent = refl };
   outs_are = sym (append-nil outs);
   ascending = λ i j d less inside. absurd (omega (arith, inside));
   among = All-nil (λ (t : Told). Contains (take 0 ids) t.id);
@@ -151,34 +162,36 @@ module _ (old now new : Kept) (before outs after : List Out) (ids : List ℕ) (d
       let apart : x ≡ id → ⊥ = eqb-false x id is in
       one.others id (λ same. apart (sym same)) ∙ it.views id ∙ ap (λ r. told r (viewed old.listeners id)) (sym (told_other id x one.raised it.ts apart))
 
-  shown_here : ShowsAt old.root old.store.state (viewed old.listeners x) (told_to x all_ts)
+  shown_here : ShowsAt old.root old.store.state (stance_in old x) (viewed old.listeners x) (told_to x all_ts)
   shown_here =
-      subst (ShowsAt old.root old.store.state (viewed old.listeners x)) (sym (told_here x one.raised it.ts fresh))
-      (subst (λ (v : Option Viewed). ShowsAt old.root old.store.state v one.raised) was
-      (subst (λ (s : State). ShowsAt old.root s (viewed now.listeners x) one.raised) (ap (λ (s : Store). s.state) it.rest.store)
-      (subst (λ (root : Root). ShowsAt root now.store.state (viewed now.listeners x) one.raised) it.rest.root one.shows)))
+      subst (ShowsAt old.root old.store.state (stance_in old x) (viewed old.listeners x)) (sym (told_here x one.raised it.ts fresh))
+      (subst (λ (k : Stance). ShowsAt old.root old.store.state k (viewed old.listeners x) one.raised) (stance_rest it.rest x)
+      (subst (λ (v : Option Viewed). ShowsAt old.root old.store.state (stance_in now x) v one.raised) was
+      (subst (λ (s : State). ShowsAt old.root s (stance_in now x) (viewed now.listeners x) one.raised) (ap (λ (s : Store). s.state) it.rest.store)
+      (subst (λ (root : Root). ShowsAt root now.store.state (stance_in now x) (viewed now.listeners x) one.raised) it.rest.root one.shows))))
 
-  more_shown : (id : ℕ) → Contains (take done ids) id ⊎ (x ≡ id) → ShowsAt old.root old.store.state (viewed old.listeners id) (told_to id all_ts)
+  more_shown : (id : ℕ) → Contains (take done ids) id ⊎ (x ≡ id) → ShowsAt old.root old.store.state (stance_in old id) (viewed old.listeners id) (told_to id all_ts)
   more_shown id (inl among) =
       let less = lower id among in
-      subst (ShowsAt old.root old.store.state (viewed old.listeners id)) (sym (told_other id x one.raised it.ts (λ same. absurd (omega (arith, less, same))))) (it.shown id among)
-  more_shown id (inr same) = subst (λ (n : ℕ). ShowsAt old.root old.store.state (viewed old.listeners n) (told_to n all_ts)) same shown_here
+      subst (ShowsAt old.root old.store.state (stance_in old id) (viewed old.listeners id)) (sym (told_other id x one.raised it.ts (λ same. absurd (omega (arith, less, same))))) (it.shown id among)
+  more_shown id (inr same) = subst (λ (n : ℕ). ShowsAt old.root old.store.state (stance_in old n) (viewed old.listeners n) (told_to n all_ts)) same shown_here
 
-  quiet_here : IfSome (viewed new.listeners x) (IsQuiet old.root old.store.state)
+  quiet_here : IfSome (viewed new.listeners x) (IsQuiet old.root old.store.state (stance_in old x))
   quiet_here =
-      subst (λ (s : State). IfSome (viewed new.listeners x) (IsQuiet old.root s)) (ap (λ (s : Store). s.state) it.rest.store)
-      (subst (λ (root : Root). IfSome (viewed new.listeners x) (IsQuiet root now.store.state)) it.rest.root one.quiet)
+      subst (λ (k : Stance). IfSome (viewed new.listeners x) (IsQuiet old.root old.store.state k)) (stance_rest it.rest x)
+      (subst (λ (s : State). IfSome (viewed new.listeners x) (IsQuiet old.root s (stance_in now x))) (ap (λ (s : Store). s.state) it.rest.store)
+      (subst (λ (root : Root). IfSome (viewed new.listeners x) (IsQuiet root now.store.state (stance_in now x))) it.rest.root one.quiet))
 
-  more_quiet : (id : ℕ) → Contains (take done ids) id ⊎ (x ≡ id) → IfSome (viewed new.listeners id) (IsQuiet old.root old.store.state)
+  more_quiet : (id : ℕ) → Contains (take done ids) id ⊎ (x ≡ id) → IfSome (viewed new.listeners id) (IsQuiet old.root old.store.state (stance_in old id))
   more_quiet id (inl among) =
       let less = lower id among in
-      subst (λ (v : Option Viewed). IfSome v (IsQuiet old.root old.store.state)) (sym (one.others id (λ same. absurd (omega (arith, less, same))))) (it.quiet id among)
-  more_quiet id (inr same) = subst (λ (n : ℕ). IfSome (viewed new.listeners n) (IsQuiet old.root old.store.state)) same quiet_here
+      subst (λ (v : Option Viewed). IfSome v (IsQuiet old.root old.store.state (stance_in old id))) (sym (one.others id (λ same. absurd (omega (arith, less, same))))) (it.quiet id among)
+  more_quiet id (inr same) = subst (λ (n : ℕ). IfSome (viewed new.listeners n) (IsQuiet old.root old.store.state (stance_in old n))) same quiet_here
 
   pub settled_more : after ≡ outs ++ outs_of (entry x one.raised) → Settling old new before after ids (done + 1)
   settled_more is = record {
     ts = all_ts;
-    rest = record { root = kept.root ∙ it.rest.root; store = kept.store ∙ it.rest.store; writes = kept.writes ∙ it.rest.writes; spent = kept.spent ∙ it.rest.spent };
+    rest = keeps_then it.rest kept;
     outs_are = outs_more before outs after it.ts (entry x one.raised) it.outs_are is;
     ascending = pairs_more x one.raised it.ts it.ascending below;
     among = subst (λ (l : List ℕ). All (λ (t : Told). Contains l t.id) all_ts) (sym grown)
@@ -221,30 +234,25 @@ all_settled {old} {now} {before} {outs} {ids} {done} whole others it = record {
     in_front : (id : ℕ) → Contains ids id → Contains (take done ids) id
     in_front id among = subst (λ (l : List ℕ). Contains l id) (sym all_ids) among
 
-    each_shows : (id : ℕ) (r : Option Raised) → told_to id it.ts ≡ r → (v : Option Viewed) → viewed old.listeners id ≡ v → ShowsAt old.root old.store.state (viewed old.listeners id) (told_to id it.ts)
+    each_shows : (id : ℕ) (r : Option Raised) → told_to id it.ts ≡ r → (v : Option Viewed) → viewed old.listeners id ≡ v → ShowsAt old.root old.store.state (stance_in old id) (viewed old.listeners id) (told_to id it.ts)
     each_shows id (Some r) is v there = it.shown id (told_among id (take done ids) it.ts r it.among is)
-    each_shows id None is None there = subst (λ (v : Option Viewed). ShowsAt old.root old.store.state v (told_to id it.ts)) (sym there) is
+    each_shows id None is None there = subst (λ (v : Option Viewed). ShowsAt old.root old.store.state (stance_in old id) v (told_to id it.ts)) (sym there) is
     each_shows id None is (Some view) there = ⊎_elim
         (λ among. it.shown id (in_front id among))
-        (λ quiet. subst (λ (v : Option Viewed). ShowsAt old.root old.store.state v (told_to id it.ts)) (sym there) (subst (ShowsAt old.root old.store.state (Some view)) (sym is) (quiet_shows_at old.root old.store.state (Some view) quiet)))
+        (λ quiet. subst (λ (v : Option Viewed). ShowsAt old.root old.store.state (stance_in old id) v (told_to id it.ts)) (sym there)
+        (subst (ShowsAt old.root old.store.state (stance_in old id) (Some view)) (sym is) (quiet_shows_at old.root old.store.state (stance_in old id) (Some view) quiet)))
         (others id view there)
 
-    each_quiet : (id : ℕ) (r : Option Raised) → told_to id it.ts ≡ r → (v : Option Viewed) → viewed old.listeners id ≡ v → IfSome (viewed now.listeners id) (IsQuiet old.root old.store.state)
+    each_quiet : (id : ℕ) (r : Option Raised) → told_to id it.ts ≡ r → (v : Option Viewed) → viewed old.listeners id ≡ v → IfSome (viewed now.listeners id) (IsQuiet old.root old.store.state (stance_in old id))
     each_quiet id (Some r) is v there = it.quiet id (told_among id (take done ids) it.ts r it.among is)
     each_quiet id None is v there = go v there
       where
         same : viewed now.listeners id ≡ viewed old.listeners id
         same = it.views id ∙ ap (λ r. told r (viewed old.listeners id)) is
 
-        go : (v : Option Viewed) → viewed old.listeners id ≡ v → IfSome (viewed now.listeners id) (IsQuiet old.root old.store.state)
-        go None there = subst (λ (w : Option Viewed). IfSome w (IsQuiet old.root old.store.state)) (sym (same ∙ there)) tt
+        go : (v : Option Viewed) → viewed old.listeners id ≡ v → IfSome (viewed now.listeners id) (IsQuiet old.root old.store.state (stance_in old id))
+        go None there = subst (λ (w : Option Viewed). IfSome w (IsQuiet old.root old.store.state (stance_in old id))) (sym (same ∙ there)) tt
         go (Some view) there = ⊎_elim
             (λ among. it.quiet id (in_front id among))
-            (λ quiet. subst (λ (w : Option Viewed). IfSome w (IsQuiet old.root old.store.state)) (sym (same ∙ there)) quiet)
+            (λ quiet. subst (λ (w : Option Viewed). IfSome w (IsQuiet old.root old.store.state (stance_in old id))) (sym (same ∙ there)) quiet)
             (others id view there)
-
--- an item inside a list is the same with any default
-pub item_inside : (l : List ℕ) (i : ℕ) (d e : ℕ) → i < length l → get_or l i d ≡ get_or l i e
-item_inside [] i d e inside = absurd (omega (arith, inside))
-item_inside (x ∷ l) zero d e inside = refl
-item_inside (x ∷ l) (suc i) d e inside = item_inside l i d e (omega (arith, inside))

@@ -7,16 +7,21 @@ use Rattle.mutations.specs.declared.batch.Batch.{Batch}
 use Rattle.mutations.specs.declared.results.WriteRequest.TheVariants.{Batch as a_batch, Handshake}
 use Rattle.mutations.specs.declared.results.WriteResponse.{WriteResponse}
 use Rattle.queries.specs.declared.target.Target.{Target}
-use Rattle.record_codec.specs.declared.commit.Commit.TheVariants.{Acknowledge, Allocate, Enqueue}
+use Rattle.record_codec.specs.declared.commit.Commit.TheVariants.{Acknowledge, Allocate, Enqueue, Point, Reset}
+use Rattle.value_model.specs.declared.message.ListenResponse.{ListenResponse}
+use Rattle.value_model.specs.declared.message.StreamName.TheVariants as stream
 use Rattle.target_cache.specs.Cache.{id_at}
 use Rattle.views.specs.Viewed.{Viewed}
 use Rattle.write_pipeline.specs.Order.{Steps, acknowledged, kept, outstanding, sent, shaken}
 use Rattle.sync_engine.specs.Answers.{Answers, Begins, are_left, ends, listens}
-use Rattle.sync_engine.specs.Lines.{Line, Told, document, listening, rejected, result, send, snapshot, unlistened, wrote}
+use Rattle.sync_engine.specs.Hearing.{Blanks, HeardTurn, ended, held, mismatch, none_held, nothing, old_point, point, point_spent}
+use Rattle.sync_engine.specs.Hearing.{fails as fails_heard}
+use Rattle.sync_engine.specs.Lines.{Line, Told, add, document, error, listening, rejected, remove, result, send, snapshot, unlistened, wrote}
 use Rattle.sync_engine.specs.Past.{Past, Turn, listener, sent_in, steps_by, steps_of}
 use Rattle.sync_engine.specs.Turn.{snapshot_line}
 use Rattle.sync_engine.specs.Turns.{after, commits, refused}
-use Rattle.sync_engine.specs.Writing.{IsWritten, WrittenTurn, acknowledges, fails, is_open, shakes}
+use Rattle.sync_engine.specs.Watching.{is_watched}
+use Rattle.sync_engine.specs.Writing.{IsWritten, WrittenTurn, acknowledges, bad_turn, closed_turn, fails, is_open, opened_turn, shakes}
 use Rattle.sync_engine.specs.declared.refusal.Refusal.TheVariants.{IdsSpent}
 
 -- ---- the batches that lines send
@@ -30,6 +35,9 @@ sent_behind (document k d w ∷ xs) ys h = sent_behind xs ys h
 sent_behind (result b c t ∷ xs) ys h = sent_behind xs ys h
 sent_behind (rejected b c t ∷ xs) ys h = sent_behind xs ys h
 sent_behind (snapshot c r t ∷ xs) ys h = sent_behind xs ys h
+sent_behind (error i t ∷ xs) ys h = sent_behind xs ys h
+sent_behind (add t r ∷ xs) ys h = sent_behind xs ys h
+sent_behind (remove t ∷ xs) ys h = sent_behind xs ys h
 sent_behind (send Handshake ∷ xs) ys h = sent_behind xs ys h
 sent_behind (send (a_batch token writes) ∷ xs) ys h = sent_behind xs ys (sent ∷ h)
 
@@ -83,6 +91,20 @@ few_ends : (s : State) (h : Steps) (id : ℕ) (view : Option Viewed) → outstan
 few_ends s h id None few = few
 few_ends s h id (Some view) few = few
 
+few_blanks : (s : State) (past : Past) (response : ListenResponse) (ids : List ℕ) (lines : List Line) (t : Turn) → Blanks s ids lines t → outstanding (steps_of past) ≤ length s.batches → Few s (event.Watch response) (steps_of past) t
+few_blanks s past response ids lines t (held any is) few = subst (Few s (event.Watch response) (steps_of past)) (sym is) (few_left s (event.Watch response) (steps_of past) (nat_lt s.number most_commits) (commits (Reset ids) lines) (refused IdsSpent) few few)
+few_blanks s past response ids lines t (none_held none is) few = subst (Few s (event.Watch response) (steps_of past)) (sym is) few
+
+few_heard : (s : State) (past : Past) (response : ListenResponse) (opening : Bool) (t : Turn) → HeardTurn s past response opening t → outstanding (steps_of past) ≤ length s.batches → Few s (event.Watch response) (steps_of past) t
+few_heard s past response false t is few = subst (Few s (event.Watch response) (steps_of past)) (sym is) few
+few_heard s past response true t (nothing gives is) few = subst (Few s (event.Watch response) (steps_of past)) (sym is) few
+few_heard s past response true t (old_point at gives old is) few = subst (Few s (event.Watch response) (steps_of past)) (sym is) few
+few_heard s past response true t (point at entries rows gives below commits_it is) few = subst (Few s (event.Watch response) (steps_of past)) (sym is) (few_left s (event.Watch response) (steps_of past) (nat_lt s.number most_commits) (commits (Point at entries rows) []) (refused IdsSpent) few few)
+few_heard s past response true t (point_spent at gives below many is) few = subst (Few s (event.Watch response) (steps_of past)) (sym is) few
+few_heard s past response true t (mismatch id told count ids gives have blanks) few = few_blanks s past response ids [] t blanks few
+few_heard s past response true t (ended ids status those listeners gives have are blanks) few = few_blanks s past response those (each (λ l. error l status) listeners) t blanks few
+few_heard s past response true t (fails_heard why refuses is) few = subst (Few s (event.Watch response) (steps_of past)) (sym is) few
+
 pub few_by : (s : State) (past : Past) (e : Event) (t : Turn) → Answers s past e t → outstanding (steps_of past) ≤ length s.batches → Few s e (steps_of past) t
 few_by s past (event.Write at writes) t is few =
     subst (Few s (event.Write at writes) (steps_of past)) (sym is)
@@ -92,7 +114,24 @@ few_by s past (event.Write at writes) t is few =
 few_by s past (event.Get key) t is few = subst (Few s (event.Get key) (steps_of past)) (sym is) few
 few_by s past (event.Listen id query) t is few = few_begins s (steps_of past) id query (listener id past) t is few
 few_by s past (event.Unlisten id) t is few = subst (Few s (event.Unlisten id) (steps_of past)) (sym is) (few_ends s (steps_of past) id (listener id past) few)
-few_by s past (event.Opened name) t is few = omega arith
-few_by s past (event.Closed name status) t is few = omega arith
+few_by s past (event.Opened stream.Watch) t is few = subst (Few s (event.Opened stream.Watch) (steps_of past)) (sym is) (by (is_watched past))
+  where
+    by : (b : Bool) → Few s (event.Opened stream.Watch) (steps_of past) (opened_turn stream.Watch b)
+    by true = few
+    by false = few
+few_by s past (event.Opened stream.Write) t is few = omega arith
+few_by s past (event.Closed stream.Watch status) t is few = subst (Few s (event.Closed stream.Watch status) (steps_of past)) (sym is) (by (is_watched past))
+  where
+    by : (b : Bool) → Few s (event.Closed stream.Watch status) (steps_of past) (closed_turn s (steps_of past) stream.Watch status b)
+    by true = few
+    by false = few
+few_by s past (event.Closed stream.Write status) t is few = omega arith
 few_by s past (event.Written response) t is few = few_message s (steps_of past) response (is_open (steps_of past)) t is few
-few_by s past (event.BadMessage name member) t is few = omega arith
+few_by s past (event.Watch response) t is few = few_heard s past response (is_watched past) t is few
+few_by s past (event.BadMessage stream.Watch member) t is few = subst (Few s (event.BadMessage stream.Watch member) (steps_of past)) (sym is) (by (is_watched past))
+  where
+    by : (b : Bool) → Few s (event.BadMessage stream.Watch member) (steps_of past) (bad_turn stream.Watch member b)
+    by true = few
+    by false = few
+few_by s past (event.BadMessage stream.Write member) t is few = omega arith
+few_by s past event.Timer t is few = subst (Few s event.Timer (steps_of past)) (sym is) few

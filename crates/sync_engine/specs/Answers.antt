@@ -1,4 +1,4 @@
--- What an event comes to, but for the snapshots that it raises and the batches that go out behind them.
+-- What an event comes to, but for the snapshots that it raises and the requests that go out behind them.
 use Rattle.std.specs.Prelude.{◌≡◌, ℕ, ◌+◌, Bool, ◌&&◌, not, pos, ℤ, List, [], ◌∷◌, length, nat_lt, Option, Some, None, if◌then◌else◌}
 use Rattle.value_model.specs.declared.timestamp.Timestamp.{Timestamp}
 use Rattle.mutations.specs.declared.write.Write.{Write}
@@ -11,10 +11,12 @@ use Rattle.client_events.specs.declared.event.Event.{Event}
 use Rattle.client_events.specs.declared.event.Event.TheVariants as event
 use Rattle.views.specs.Viewed.{Viewed}
 use Rattle.sync_engine.specs.declared.refusal.Refusal.TheVariants.{ListenerTaken, NoListener, IdsSpent}
+use Rattle.sync_engine.specs.Hearing.{HeardTurn}
 use Rattle.sync_engine.specs.Lines.{wrote, listening, unlistened, document}
 use Rattle.sync_engine.specs.Past.{Turn, Past, listener, steps_of}
 use Rattle.sync_engine.specs.Turns.{answered, commits, refused}
-use Rattle.sync_engine.specs.Writing.{WrittenTurn, bad_turn, closed_turn, is_open, opened_turn}
+use Rattle.sync_engine.specs.Watching.{is_watched}
+use Rattle.sync_engine.specs.Writing.{WrittenTurn, bad_turn, closed_turn, is_open, is_stream_open, opened_turn}
 
 -- the writes are the next batch, where a number is left for its commit
 abbrev pub enqueued : State → Timestamp → List Write → Turn
@@ -58,7 +60,9 @@ Answers s past (event.Get key) t =
     t ≡ answered (document key (document_of s key) (standing_of s key) ∷ [])
 Answers s past (event.Listen id query) t = Begins s id query (listener id past) t
 Answers s past (event.Unlisten id) t = t ≡ ends s id (listener id past)
-Answers s past (event.Opened name) t = t ≡ opened_turn name (is_open (steps_of past))
-Answers s past (event.Closed name status) t = t ≡ closed_turn s (steps_of past) name status (is_open (steps_of past))
+Answers s past (event.Opened name) t = t ≡ opened_turn name (is_stream_open name past)
+Answers s past (event.Closed name status) t = t ≡ closed_turn s (steps_of past) name status (is_stream_open name past)
 Answers s past (event.Written response) t = WrittenTurn s (steps_of past) response (is_open (steps_of past)) t
-Answers s past (event.BadMessage name member) t = t ≡ bad_turn name member (is_open (steps_of past))
+Answers s past (event.BadMessage name member) t = t ≡ bad_turn name member (is_stream_open name past)
+Answers s past (event.Watch response) t = HeardTurn s past response (is_watched past) t
+Answers s past event.Timer t = t ≡ answered []

@@ -4,6 +4,7 @@ use Rattle.mutations.specs.declared.results.WriteRequest.{WriteRequest}
 use Rattle.value_model.specs.declared.document.DocState.{DocState}
 use Rattle.value_model.specs.declared.document.Document.{Document}
 use Rattle.value_model.specs.declared.document.RpcStatus.{RpcStatus}
+use Rattle.target_cache.specs.declared.row.Row.{Row}
 use Rattle.value_model.specs.declared.timestamp.Timestamp.{Timestamp}
 use Rattle.views.specs.declared.raised.Raised.{Raised}
 
@@ -14,8 +15,9 @@ pub record Told : Type 0 where
 
 -- The batch and the commit of a write; a listener with the id of its target, or one that ended, each with the number of commits
 -- then; the document of a key as it then stands; a batch that the backend committed at a time, or rejected with a status, and
--- the commit by which it left; a snapshot, with the number of commits and the last read time then; or a request on the stream
--- of writes.
+-- the commit by which it left; a listener that ended since the backend refused its target with a status; a snapshot, with the
+-- number of commits and the last read time then; a request on the stream of listeners that adds a target as its row has it, or
+-- removes one; or a request on the stream of writes.
 pub data Line : Type 0 where
   wrote : ℕ → ℕ → Line
   listening : ℕ → ℤ → ℕ → Line
@@ -23,5 +25,8 @@ pub data Line : Type 0 where
   document : List (List ℕ) → Option Document → DocState → Line
   result : ℕ → ℕ → Timestamp → Line
   rejected : ℕ → ℕ → RpcStatus → Line
+  error : ℕ → RpcStatus → Line
   snapshot : ℕ → Option Timestamp → Told → Line
+  add : ℤ → Row → Line
+  remove : ℤ → Line
   send : WriteRequest → Line

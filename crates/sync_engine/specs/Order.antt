@@ -9,6 +9,7 @@ use Rattle.record_codec.specs.declared.commit.Commit.TheVariants.{Enqueue, Ackno
 use Rattle.client_events.specs.declared.event.Event.{Event}
 use Rattle.client_events.specs.declared.event.Event.TheVariants as event
 use Rattle.local_store.specs.State.{State}
+use Rattle.value_model.specs.declared.message.StreamName.TheVariants as stream
 use Rattle.write_pipeline.specs.Order.{outstanding}
 use Rattle.sync_engine.specs.Lines.{Line, send}
 use Rattle.sync_engine.specs.Past.{Entry, Past, steps_of}
@@ -36,9 +37,9 @@ AreHeard root first (entry ∷ past) = AreHeard root first past × IsHeardNext r
 
 -- ---- what went out since the stream was opened
 
--- nothing, if the event opens the stream
+-- nothing, if the event opens the stream of writes
 abbrev pub unless_opened : {X : Type 0} → Event → List X → List X
-unless_opened (event.Opened name) xs = []
+unless_opened (event.Opened stream.Write) xs = []
 unless_opened _ xs = xs
 
 -- the writes of the batches that these lines send
@@ -63,7 +64,7 @@ queue_since first [] = first.batches
 queue_since first (entry ∷ past) = begun entry.event (queue_since first past) ++ joined entry.turn.commit
   where
     begun : Event → List Batch → List Batch
-    begun (event.Opened name) batches = entry.state.batches
+    begun (event.Opened stream.Write) batches = entry.state.batches
     begun _ batches = batches
 
 -- how many batches a commit takes from the front
@@ -78,7 +79,7 @@ left_since [] = 0
 left_since (entry ∷ past) = kept entry.event (left_since past) + taken entry.turn.commit
   where
     kept : Event → ℕ → ℕ
-    kept (event.Opened name) n = 0
+    kept (event.Opened stream.Write) n = 0
     kept _ n = n
 
 -- The batches that were sent are the first ones of those that were pending and joined, none skipped and in order. Those that left

@@ -1,15 +1,17 @@
 -- What a client has heard, and what it keeps of it beside the durable state: its listeners, and how the stream of writes stands.
-use Rattle.std.specs.Prelude.{ℕ, nat_eq, List, [], ◌∷◌, Option, Some, None, option_map, if◌then◌else◌}
+-- What it keeps of the stream of listeners, `Watching` says.
+use Rattle.std.specs.Prelude.{ℕ, nat_eq, Bool, true, false, ◌||◌, List, [], ◌∷◌, Option, Some, None, option_map, if◌then◌else◌}
 use Rattle.record_codec.specs.declared.commit.Commit.{Commit}
 use Rattle.local_store.specs.State.{State}
 use Rattle.client_events.specs.declared.event.Event.{Event}
 use Rattle.client_events.specs.declared.event.Event.TheVariants as event
+use Rattle.value_model.specs.declared.message.StreamName.TheVariants as stream
 use Rattle.views.specs.declared.raised.Raised.{Raised}
 use Rattle.views.specs.Viewed.{Viewed}
 use Rattle.mutations.specs.declared.results.WriteRequest.TheVariants.{Batch as a_batch}
 use Rattle.write_pipeline.specs.Order.{Steps, acknowledged, closed, is_ready, kept, opened, sent, shaken}
 use Rattle.sync_engine.specs.declared.refusal.Refusal.{Refusal}
-use Rattle.sync_engine.specs.Lines.{Line, send, snapshot}
+use Rattle.sync_engine.specs.Lines.{Line, error, send, snapshot}
 
 -- what an event came to: why it was refused, at most one commit, and the lines that answer it
 pub record Turn : Type 0 where
@@ -42,6 +44,17 @@ asked id (event.Listen other query) view =
 asked id (event.Unlisten other) view = if nat_eq other id then None else view
 asked id _ view = view
 
+-- the lines tell the listener of this id that the backend refused its target
+abbrev pub is_refused_in : ℕ → List Line → Bool
+is_refused_in id [] = false
+is_refused_in id (error other status ∷ lines) = nat_eq other id || is_refused_in id lines
+is_refused_in id (_ ∷ lines) = is_refused_in id lines
+
+-- a listener ends where the backend refused its target
+abbrev pub unless_refused : Bool → Option Viewed → Option Viewed
+unless_refused true view = None
+unless_refused false view = view
+
 -- a listener after a snapshot, if it raised one
 abbrev pub told : Option Raised → Option Viewed → Option Viewed
 told None view = view
@@ -50,15 +63,17 @@ told (Some raised) view = option_map (λ v. record { target = v.target; raised =
 -- the listener of an id, if there is one: what it asks for, and its last snapshot since it began
 abbrev pub listener : ℕ → Past → Option Viewed
 listener id [] = None
-listener id (entry ∷ past) = told (raised_in id entry.turn.lines) (asked id entry.event (listener id past))
+listener id (entry ∷ past) =
+    told (raised_in id entry.turn.lines)
+    (unless_refused (is_refused_in id entry.turn.lines) (asked id entry.event (listener id past)))
 
 -- ---- the stream of writes
 
 -- what an event does on the stream of writes, before anything is sent: a message that is refused closes it
 abbrev pub steps_by : Event → Option Refusal → Steps → Steps
-steps_by (event.Opened name) refusal h = opened ∷ h
-steps_by (event.Closed name status) refusal h = closed ∷ h
-steps_by (event.BadMessage name member) refusal h = closed ∷ h
+steps_by (event.Opened stream.Write) refusal h = opened ∷ h
+steps_by (event.Closed stream.Write status) refusal h = closed ∷ h
+steps_by (event.BadMessage stream.Write member) refusal h = closed ∷ h
 steps_by (event.Written response) (Some refusal) h = closed ∷ h
 steps_by (event.Written response) None h = kept response.token ∷ (if is_ready h then acknowledged else shaken) ∷ h
 steps_by _ refusal h = h

@@ -1,46 +1,67 @@
 -- A client, as contracts see it, and what it stands for.
-use Rattle.std.specs.Prelude.{◌≡◌, ℕ, ◌≤◌, List, length, Bool, true, IfSome, refl}
+use Rattle.std.specs.Prelude.{◌≡◌, ◌⊎◌, ℕ, ◌≤◌, ℤ, List, [], ◌∷◌, length, Bool, true, Option, Some, None, IfSome, option_map, if◌then◌else◌, refl}
 use Rattle.std.specs.Coded.{Coded, code_by, coded×, coded_bool, coded_list, coded_ℕ}
+use Rattle.std.specs.Ordering.{int_eq}
 use Rattle.document_keys.specs.Names.{Root}
+use Rattle.listen_protocol.specs.Transcript.{is_asked_in}
 use Rattle.listeners.specs.Laws.{IsSettled}
-use Rattle.listeners.specs.Table.{Table, table_code, viewed}
+use Rattle.listeners.specs.Table.{Table, table_code, target_of, viewed}
 use Rattle.local_store.specs.Documents.{documents_of, touched_keys_of}
 use Rattle.local_store.specs.State.{State}
 use Rattle.local_store.specs.Store.{IsSpent as IsStoreSpent, Store, store_code}
+use Rattle.target_cache.specs.Cache.{IsRow}
+use Rattle.target_cache.specs.declared.row.Row.{Row}
 use Rattle.views.specs.Viewed.{Viewed}
+use Rattle.views.specs.declared.standing.Standing.{Standing}
+use Rattle.watch_aggregator.specs.Standing.{StandsFor as AggregatorStandsFor}
+use Rattle.watch_points.specs.SpelledCalls.{AreSpelledCalls}
 use Rattle.write_pipeline.specs.Order.{Steps, outstanding}
 use Rattle.write_pipeline.specs.Standing.{StandsFor as PipelineStandsFor}
 use Rattle.sync_engine.specs.contracts.write_stream.WriteStream as stream
 use Rattle.sync_engine.specs.declared.write_stream.WriteStream.{WriteStream}
+use Rattle.sync_engine.specs.contracts.watch_stream.WatchStream as watched
+use Rattle.sync_engine.specs.declared.current.CurrentTarget.{CurrentTarget}
+use Rattle.sync_engine.specs.declared.watch_stream.Due.{Due}
+use Rattle.sync_engine.specs.declared.watch_stream.Due.TheVariants.{Nothing, One, Reset, All}
+use Rattle.sync_engine.specs.declared.watch_stream.WatchStream.{WatchStream}
 use Rattle.sync_engine.specs.Past.{Past, listener, steps_of}
-use Rattle.sync_engine.specs.Settling.{MayStart, offline}
+use Rattle.sync_engine.specs.Settling.{MayStart, Stance, current_with, stance_by, stance_of}
+use Rattle.sync_engine.specs.Watching.{calls_of, current_keys, is_wanted, is_watched, listened, online_of}
 use Rattle.sync_engine.specs.Writing.{is_open}
 
--- what a client keeps: its database, the store, its listeners, the stream of writes, and whether it is spent
+-- what a client keeps: its database, the store, its listeners, the stream of listeners and that of writes, and whether it is
+-- spent
 pub record Kept : Type 0 where
   pub root : Root
   pub store : Store
   pub listeners : Table
+  pub watch : WatchStream
   pub writes : WriteStream
   pub spent : Bool
 
 -- a client is stored as its parts
 abbrev pub kept_code : Coded Kept
-kept_code = code_by (((List ℕ × List ℕ) × Store) × (Table × (WriteStream × Bool)))
+kept_code = code_by (((List ℕ × List ℕ) × Store) × (Table × (WatchStream × (WriteStream × Bool))))
     (coded× (coded× (coded× (coded_list coded_ℕ) (coded_list coded_ℕ)) store_code)
-    (coded× table_code (coded× stream.the_row.coded coded_bool)))
-    (λ c. (((c.root.project, c.root.name), c.store), (c.listeners, (c.writes, c.spent))))
+    (coded× table_code (coded× watched.the_row.coded (coded× stream.the_row.coded coded_bool))))
+    (λ c. (((c.root.project, c.root.name), c.store), (c.listeners, (c.watch, (c.writes, c.spent)))))
     (λ p. record {
       root = record { project = p.0.0.0; name = p.0.0.1 };
       store = p.0.1;
       listeners = p.1.0;
-      writes = p.1.1.0;
-      spent = p.1.1.1;
+      watch = p.1.1.0;
+      writes = p.1.1.1.0;
+      spent = p.1.1.1.1;
     }) (λ _. refl)
 
 -- an event met a fault, and every later one is answered so
 abbrev pub IsSpent : Kept → Type 0
 IsSpent client = client.spent ≡ true
+
+-- between events its store met no fault, and no request is due
+pub record IsAtRest (client : Kept) : Type 0 where
+  pub store : ¬ (IsStoreSpent client.store)
+  pub idle : client.watch.due ≡ Nothing
 
 -- it met no fault yet, and its store didn't either
 pub record IsLive (client : Kept) : Type 0 where
@@ -48,10 +69,10 @@ pub record IsLive (client : Kept) : Type 0 where
   pub store : ¬ (IsStoreSpent client.store)
 
 -- a refresh of the listener over the documents of the state would raise nothing
-pub record IsQuiet (root : Root) (s : State) (view : Viewed) : Type 0 where
+pub record IsQuiet (root : Root) (s : State) (stance : Stance) (view : Viewed) : Type 0 where
   pub may_start : Bool
-  pub start : MayStart s view.target may_start
-  pub settled : IsSettled root (documents_of s) (touched_keys_of s) offline may_start view
+  pub start : MayStart s stance may_start
+  pub settled : IsSettled root (documents_of s) (touched_keys_of s) stance.standing may_start view
 
 -- a stream of writes stands for what was done on it
 pub record StandsOn (writes : WriteStream) (h : Steps) : Type 0 where
@@ -66,11 +87,53 @@ GoesOn old new more = (h : Steps) → StandsOn old h → StandsOn new (more h)
 abbrev pub ComesAs : WriteStream → (Steps → Type 0) → Type 0
 ComesAs writes P = (h : Steps) → PipelineStandsFor writes.pipeline h → P h
 
+-- how a target stands that the client keeps as current
+abbrev pub standing_in : List CurrentTarget → ℤ → Option Standing
+standing_in [] t = None
+standing_in (target ∷ targets) t = if int_eq target.id t then Some target.standing else standing_in targets t
+
+-- how the target of a listener stands, by what the client keeps
+abbrev pub stance_in : Kept → ℕ → Stance
+stance_in client id =
+    stance_by (target_of client.listeners id) (standing_in client.watch.current.targets.items) client.watch.online
+
+-- a request may be due for the target
+abbrev pub IsDue : Past → Due → ℤ → Type 0
+IsDue past Nothing t = ⊥
+IsDue past (One id) t = t ≡ id
+IsDue past (Reset id) t = t ≡ id
+IsDue past All t = is_wanted t past ≡ true
+
+-- A stream of listeners stands for what was heard: whether it is open, what was done on it, the online state, and which targets
+-- are current. What came on it has a spelling; and while it is open just the wanted targets are asked, but where a request is
+-- due.
+pub record Watches (watch : WatchStream) (past : Past) : Type 0 where
+  pub opening : watch.is_open ≡ is_watched past
+  pub calls : AggregatorStandsFor watch.aggregator (calls_of past)
+  pub online : watch.online ≡ online_of past
+  pub current : (t : ℤ)
+      → standing_in watch.current.targets.items t ≡ option_map current_with (current_keys t past)
+  pub spelled : AreSpelledCalls (calls_of past)
+  pub due : is_watched past ≡ true
+      → (t : ℤ) → IsDue past watch.due t ⊎ (is_asked_in t (calls_of past) ≡ is_wanted t past)
+
+-- the id has a row
+abbrev pub HasTargetRow : List Row → ℤ → Type 0
+HasTargetRow rows t = (row : Row) × IsRow rows t row
+
 -- The client stands for this state and for these events, which it has heard. Each thing that it keeps beside the state is a
--- field here, read off the events; every listener has raised what it had to; and each batch that is outstanding is pending.
+-- field here, read off the events; every listener has raised what it had to, and its target has a row; and each batch that is
+-- outstanding is pending.
 pub record StandsFor (client : Kept) (s : State) (past : Past) : Type 0 where
   pub state : client.store.state ≡ s
   pub listeners : (id : ℕ) → viewed client.listeners id ≡ listener id past
-  pub quiet : (id : ℕ) → IfSome (listener id past) (IsQuiet client.root s)
+  pub targets : (id : ℕ) → target_of client.listeners id ≡ listened id past
+  pub rows : (id : ℕ) → IfSome (listened id past) (HasTargetRow s.rows)
+  pub quiet : (id : ℕ) → IfSome (listener id past) (IsQuiet client.root s (stance_of past id))
+  pub watch : Watches client.watch past
   pub writes : StandsOn client.writes (steps_of past)
   pub pending : outstanding (steps_of past) ≤ length s.batches
+
+-- the client stands for something
+abbrev pub IsStanding : Kept → Type 0
+IsStanding client = (s : State) × ((past : Past) × StandsFor client s past)

@@ -22,6 +22,7 @@ use Rattle.sync_engine.specs.declared.refusal.Refusal.TheVariants.{BadMessage, I
 use Rattle.sync_engine.specs.Lines.{Line, rejected, result, send}
 use Rattle.sync_engine.specs.Past.{Past, Turn, steps_of}
 use Rattle.sync_engine.specs.Turns.{answered, commits, refused}
+use Rattle.sync_engine.specs.Watching.{is_watched}
 
 -- the stream was opened, and not closed since
 abbrev pub is_open : Steps → Bool
@@ -30,9 +31,9 @@ is_open (opened ∷ h) = true
 is_open (closed ∷ h) = false
 is_open (_ ∷ h) = is_open h
 
--- the stream is open: only that of writes is ever opened
+-- the stream is open
 abbrev pub is_stream_open : StreamName → Past → Bool
-is_stream_open stream.Watch past = false
+is_stream_open stream.Watch past = is_watched past
 is_stream_open stream.Write past = is_open (steps_of past)
 
 -- the first pending batch, if there is one
@@ -41,10 +42,11 @@ first_batch s = slice_get s.batches 0
 
 -- ---- what comes
 
--- the stream is opened by a request that names the database, unless it is open
+-- The stream is opened, unless it is open: that of writes by a request that names the database.
 abbrev pub opened_turn : StreamName → Bool → Turn
 opened_turn name true = refused (StreamState name true)
-opened_turn name false = answered (send the_first ∷ [])
+opened_turn stream.Watch false = answered []
+opened_turn stream.Write false = answered (send the_first ∷ [])
 
 -- the batch is rejected, where a number is left for the commit
 abbrev pub rejects : State → Option Batch → RpcStatus → Turn
@@ -59,10 +61,11 @@ abbrev pub closes : State → RpcStatus → Closing → Turn
 closes s status Kept = answered []
 closes s status Rejects = rejects s (first_batch s) status
 
--- the stream is closed, if it is open
+-- the stream is closed, if it is open; that of writes may reject a batch
 abbrev pub closed_turn : State → Steps → StreamName → RpcStatus → Bool → Turn
-closed_turn s h name status true = closes s status (closing_of h status.code)
 closed_turn s h name status false = refused (StreamState name false)
+closed_turn s h stream.Watch status true = answered []
+closed_turn s h stream.Write status true = closes s status (closing_of h status.code)
 
 -- a message with a fault comes, if the stream is open
 abbrev pub bad_turn : StreamName → List ℕ → Bool → Turn

@@ -8,12 +8,13 @@ ghost use Rattle.local_store.specs.State.{State};
 ghost use Rattle.local_store.specs.Store.{IsFoundIn, IsStored};
 ghost use Rattle.sync_engine.specs.Past.{Past};
 ghost use Rattle.write_pipeline.specs.Order.{latest_token};
-ghost use Rattle.sync_engine.specs.Standing.{ComesAs, IsLive, IsSpent, StandsFor};
+ghost use Rattle.sync_engine.specs.Standing.{ComesAs, IsLive, IsSpent, IsStanding, StandsFor};
 ghost use Rattle.sync_engine.specs.Telling.{HandsOut, Lends, MovesBy};
 ghost use Rattle.sync_engine.specs.Writing.{is_stream_open};
 
 use crate::fault::ClientFault;
 use crate::out::Outcome;
+use crate::watch_stream::{Due, WatchStream};
 use crate::write_stream::WriteStream;
 use client_events::Event;
 use disk_journal::OpenFault;
@@ -26,13 +27,14 @@ use std::marker::Model;
 use value_model::StreamName;
 use views::Snapshot;
 
-/// A client of one database: its durable state in the files of a host, its listeners, and the stream of writes. Contracts see what it keeps, and speak
-/// of each past that it stands for. After a fault it is spent.
+/// A client of one database: its durable state in the files of a host, its listeners, and its two streams. Contracts see what it
+/// keeps, and speak of each past that it stands for. After a fault it is spent.
 #[derive(Drop)]
 pub struct Client {
     pub(crate) root: Database,
     pub(crate) store: LocalStore,
     pub(crate) listeners: Listeners,
+    pub(crate) watch: WatchStream,
     pub(crate) writes: WriteStream,
     spent: bool,
 }
@@ -41,14 +43,15 @@ impl Model for Client {
     ghost use Rattle.std.specs.Prelude.{◌≡◌, false};
     ghost use Rattle.local_store.specs.Store.{IsSpent as IsStoreSpent};
     ghost use Rattle.sync_engine.specs.Standing.{Kept, kept_code};
+    ghost use Rattle.sync_engine.specs.declared.watch_stream.Due.TheVariants.{Nothing};
 
     ghost Value = { Kept };
 
     ghost coded = { kept_code };
 
-    ghost view = { λ c. record { root = c.root; store = c.store; listeners = c.listeners; writes = c.writes; spent = c.spent } };
+    ghost view = { λ c. record { root = c.root; store = c.store; listeners = c.listeners; watch = c.watch; writes = c.writes; spent = c.spent } };
 
-    ghost invariant = { λ c. c.spent ≡ false → ¬ (IsStoreSpent c.store) };
+    ghost invariant = { λ c. c.spent ≡ false → ¬ (IsStoreSpent c.store) × (c.watch.due ≡ Nothing) };
 }
 
 impl Client {
@@ -80,12 +83,14 @@ impl Client {
             root,
             store,
             listeners: Listeners::new(alloc),
+            watch: WatchStream::new(alloc),
             writes: WriteStream::new(),
             spent: false,
         })
     }
 
-    /// Takes the turn of an event: what it commits is on the disk before this answers.
+    /// Takes the turn of an event: what it commits is on the disk before this answers. The client stands for what it has heard, as it
+    /// does once it is open and behind each event.
     ///
     /// # Errors
     /// `Spent` exactly where the client is spent: nothing was done. `DiskFault` only where the count of disk faults rose, and
@@ -97,6 +102,7 @@ impl Client {
         event: Event,
     ) -> Result<Outcome, ClientFault>
         requires stored { IsTrue H.tells_files → IsStored self.old.store (H.view host.old) }
+        requires stands { IsStanding self.old }
         requires spelled { IsSpelledEvent event }
         ensures turn { IfOk result (λ outcome. (s : State) (past : Past) → StandsFor self.old s past
             → HandsOut s past event outcome self.new) }
@@ -136,13 +142,13 @@ impl Client {
         &self.root
     }
 
-    /// Whether the stream is open. Only that of writes is ever opened.
+    /// Whether the stream is open.
     pub fn is_open(&self, stream: StreamName) -> bool
         ensures { (s : State) (past : Past) → StandsFor self.now s past
             → result ≡ is_stream_open stream past }
     {
         match stream {
-            StreamName::Watch => false,
+            StreamName::Watch => self.watch.is_open,
             StreamName::Write => self.writes.is_open,
         }
     }
@@ -156,7 +162,7 @@ impl Client {
 
     /// The last snapshot of the listener of the id, lent; `None` exactly where there is no such listener, or it has raised none.
     pub fn snapshot(&self, id: u32) -> Option<Snapshot<'_, LocalStore>>
-        requires { (s : State) × ((past : Past) × StandsFor self.now s past) }
+        requires { IsStanding self.now }
         ensures { Lends self.now id result }
     {
         let view = self.listeners.view(id)?;

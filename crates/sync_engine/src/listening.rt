@@ -1,15 +1,17 @@
 //! The turns of listeners.
 
-ghost use Rattle.std.specs.Prelude.{◌≡◌, IsTrue, true, IfOk, OnOk, IsErrOf};
+ghost use Rattle.std.specs.Prelude.{◌≡◌, ◌↔◌, IsTrue, true, IfOk, OnOk, IsErrOf};
 ghost use Rattle.host_api.specs.Counts.{RisesAt};
 ghost use Rattle.host_api.specs.Host.{KeepsOut};
 ghost use Rattle.client_events.specs.Spelled.{IsSpelledEvent};
 ghost use Rattle.client_events.specs.declared.event.Event.TheVariants as event;
+ghost use Rattle.listeners.specs.Table.{IsWanted};
 ghost use Rattle.local_store.specs.State.{State};
 ghost use Rattle.local_store.specs.Store.{IsSpent as IsStoreSpent, IsStored};
 ghost use Rattle.target_codec.specs.Spelling.{IsSpelledTarget};
 ghost use Rattle.sync_engine.specs.Past.{Past};
 ghost use Rattle.sync_engine.specs.Standing.{StandsFor};
+ghost use Rattle.sync_engine.specs.declared.watch_stream.Due.TheVariants.{Nothing};
 ghost use Rattle.sync_engine.specs.Telling.{HandsSettled, MovesBy, KeepsListeners};
 ghost use Rattle.sync_engine.specs.Targets.{GivesTarget, MovesForTarget};
 
@@ -77,6 +79,7 @@ impl Client {
         requires stored { IsTrue H.tells_files → IsStored self.old.store (H.view host.old) }
         requires whole { ¬ (IsStoreSpent self.old.store) }
         requires poised { self.old.spent ≡ true }
+        requires idle { self.old.watch.due ≡ Nothing }
         requires spelled { IsSpelledEvent (event.Listen id query) }
         ensures turn { IfOk result (λ outcome. (s : State) (past : Past) → StandsFor self.old s past
             → HandsSettled s past (event.Listen id query) outcome self.new) }
@@ -92,21 +95,31 @@ impl Client {
     {
         let _last = self.store.targets().next_id();
         if !self.listeners.view(id).is_none() {
-            return Ok(Outcome::Refused(Refusal::ListenerTaken(id)));
+            return Ok(Outcome::Refused(Refusal::ListenerTaken(id), Vec::new(alloc)));
         }
         let Some(target) = self.target_for(alloc, host, query.as_target())? else {
-            return Ok(Outcome::Refused(Refusal::IdsSpent));
+            return Ok(Outcome::Refused(Refusal::IdsSpent, Vec::new(alloc)));
         };
         let commit = self.store.number();
         let mut outs = Vec::new(alloc);
         outs.push(Out::Listening { id, target, commit })?;
-        self.listeners.add(alloc, id, query)?;
+        self.listeners.add(alloc, id, query, target)?;
+        self.watch.listened(&target);
         self.settle(alloc, &[id], &mut outs)?;
         Ok(Outcome::Done(outs))
     }
 
+    /// Whether the target has a listener.
+    fn wants(&self, target: &i32) -> bool
+        ensures { IsTrue result ↔ IsWanted self.now.listeners target.now }
+    {
+        self.listeners.is_wanted(*target)
+    }
+
     /// The turn of a listener that ends.
     pub(crate) fn unlisten(&mut self, alloc: Global, id: u32) -> Result<Outcome, ClientFault>
+        requires poised { self.old.spent ≡ true }
+        requires idle { self.old.watch.due ≡ Nothing }
         ensures turn { IfOk result (λ outcome. (s : State) (past : Past) → StandsFor self.old s past
             → HandsSettled s past (event.Unlisten id) outcome self.new) }
         ensures store { self.new.store ≡ self.old.store }
@@ -114,13 +127,15 @@ impl Client {
         ensures unspent { IsErrOf result ClientFault.Spent → ⊥ }
         ensures memory { IsErrOf result ClientFault.DiskFault → ⊥ }
     {
-        if self.listeners.view(id).is_none() {
-            return Ok(Outcome::Refused(Refusal::NoListener(id)));
-        }
+        let Some(target) = self.listeners.target_of(id) else {
+            return Ok(Outcome::Refused(Refusal::NoListener(id), Vec::new(alloc)));
+        };
         let commit = self.store.number();
         let mut outs = Vec::new(alloc);
         outs.push(Out::Unlistened { id, commit })?;
         self.listeners.remove(id);
+        let wanted = self.wants(&target);
+        self.watch.unlistened(&target, wanted);
         Ok(Outcome::Done(outs))
     }
 }

@@ -35,8 +35,17 @@ pub enum Out {
         commit: u64,
         status: RpcStatus,
     },
+    /// The listener of this id ended, since the backend refused its target with this status.
+    Error {
+        id: u32,
+        status: RpcStatus,
+    },
     /// The listener of this id raised a snapshot, which [`crate::Client::snapshot`] lends.
     Raised(u32),
+    /// A request on the stream of listeners that adds the target of this id, as its row stands.
+    AddTarget(i32),
+    /// A request on the stream of listeners that removes the target of this id.
+    RemoveTarget(i32),
     /// The first request on the stream of writes, which names the database.
     SendHandshake,
     /// A request with the writes of the pending batch at this place, from 0, and [`crate::Client::token`].
@@ -48,6 +57,6 @@ pub enum Out {
 pub enum Outcome {
     /// These lines answer it.
     Done(Vec<Out>),
-    /// It was refused, and changed nothing, but that a bad message closes its stream.
-    Refused(Refusal),
+    /// It was refused, and changed nothing, but that a bad message closes its stream; these lines come behind the refusal.
+    Refused(Refusal, Vec<Out>),
 }

@@ -7,13 +7,14 @@ ghost use Rattle.listeners.specs.Ids.{has_id};
 ghost use Rattle.mutation_queue.specs.Queue.{written_key};
 ghost use Rattle.sync_engine.specs.Concerned.{AreConcerned, ConcernsOne};
 ghost use Rattle.sync_engine.specs.Settling.{MayStart};
+ghost use Rattle.sync_engine.specs.Standing.{stance_in};
 ghost use Rattle.sync_engine.specs.Telling.{IsQuietOrAmong, KeepsRest, Raises, ShowsOne};
 
 use crate::client::Client;
+use crate::online::OnlineState;
 use crate::out::Out;
 use document_keys::{DocumentKey, KeySet, NoMemory};
 use mutations::Write;
-use queries::Target;
 use std::alloc::Global;
 use std::collections::BTreeSet;
 use views::Standing;
@@ -29,9 +30,10 @@ fn key_of(write: &Write) -> &DocumentKey
 }
 
 /// The ids in their order.
-fn in_order(alloc: Global, set: &BTreeSet<u32>) -> Result<Vec<u32>, NoMemory>
+pub(crate) fn in_order(alloc: Global, set: &BTreeSet<u32>) -> Result<Vec<u32>, NoMemory>
     ensures ascending { IfOk result (λ ids. AllPairs (λ a b. a < b) ids.items) }
     ensures all { IfOk result (λ ids. (id : ℕ) → IsTrue (has_id set.now id) → Contains ids.items id) }
+    ensures only { IfOk result (λ ids. (id : ℕ) → Contains ids.items id → IsTrue (has_id set.now id)) }
 {
     let mut ids = Vec::new(alloc);
     for id in set.iter() {
@@ -62,16 +64,17 @@ impl Client {
         Ok(ids)
     }
 
-    /// Whether a listener of the target may start with nothing to show: its row isn't blank.
-    fn may_start(&self, target: &Target) -> bool
-        ensures { MayStart self.now.store.state target.now result }
+    /// Whether the listener of the id may start with nothing to show: its target's row isn't blank, or the client is offline.
+    fn may_start(&self, id: u32) -> bool
+        ensures { MayStart self.now.store.state (stance_in self.now id) result }
     {
-        let targets = self.store.targets();
-        let _last = targets.next_id();
-        let Some(id) = targets.find(target) else {
+        if self.watch.online == OnlineState::Offline {
+            return true;
+        }
+        let Some(target) = self.listeners.target_of(id) else {
             return false;
         };
-        match targets.row(id) {
+        match self.store.targets().row(target) {
             Some(row) => row.held.is_some(),
             None => false,
         }
@@ -82,17 +85,19 @@ impl Client {
         ensures rest { KeepsRest self.old self.new }
         ensures shows { IfOk result (λ raised. ShowsOne id self.old self.new raised) }
     {
-        let Some(view) = self.listeners.view(id) else {
+        if self.listeners.view(id).is_none() {
             return Ok(false);
-        };
-        let may_start = self.may_start(view.query().as_target());
-        let standing = Standing {
+        }
+        let may_start = self.may_start(id);
+        let target = self.listeners.target_of(id);
+        let not_current = Standing {
             current: false,
             keys: KeySet::new(alloc),
         };
+        let standing = self.watch.current.standing_or(target, &not_current);
         let refresh = self
             .listeners
-            .refresh(alloc, &self.root, &self.store, id, &standing, may_start)?;
+            .refresh(alloc, &self.root, &self.store, id, standing, may_start)?;
         Ok(refresh.raised)
     }
 

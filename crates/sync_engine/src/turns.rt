@@ -9,8 +9,12 @@ ghost use Rattle.local_store.specs.Files.{Moves};
 ghost use Rattle.local_store.specs.State.{State, Fits, committed};
 ghost use Rattle.local_store.specs.Store.{IsSpent as IsStoreSpent, IsStored};
 ghost use Rattle.record_codec.specs.Spelling.{HasSpelling};
+ghost use Rattle.listen_protocol.specs.Calls.{Calls};
+ghost use Rattle.watch_aggregator.specs.Standing.{StandsFor as AggregatorStandsFor};
+ghost use Rattle.watch_points.specs.SpelledCalls.{AreSpelledCalls};
 ghost use Rattle.sync_engine.specs.Past.{Past};
-ghost use Rattle.sync_engine.specs.Standing.{StandsFor};
+ghost use Rattle.sync_engine.specs.Standing.{IsAtRest, IsStanding, StandsFor};
+ghost use Rattle.sync_engine.specs.declared.watch_stream.Due.TheVariants.{Nothing};
 ghost use Rattle.sync_engine.specs.Telling.{HandsOut, HandsSettled, KeepsListeners, MovesBy};
 
 use crate::client::Client;
@@ -18,13 +22,13 @@ use crate::fault::ClientFault;
 use crate::out::{Out, Outcome};
 use crate::refusal::Refusal;
 use client_events::Event;
-use document_keys::DocumentKey;
+use document_keys::{DocumentKey, Text};
 use host_api::Host;
 use local_store::{MOST_COMMITS, StoreFault};
 use mutations::{Batch, Writes};
 use record_codec::Commit;
 use std::alloc::Global;
-use value_model::Timestamp;
+use value_model::{RpcStatus, StreamName, Timestamp};
 
 impl Client {
     /// Makes the commit, which fits.
@@ -61,6 +65,7 @@ impl Client {
 
     /// The turn of a get.
     fn get(&mut self, alloc: Global, key: DocumentKey) -> Result<Outcome, ClientFault>
+        requires idle { self.old.watch.due ≡ Nothing }
         ensures turn { IfOk result (λ outcome. (s : State) (past : Past) → StandsFor self.old s past
             → HandsSettled s past (event.Get key) outcome self.new) }
         ensures same { self.new ≡ self.old }
@@ -83,6 +88,7 @@ impl Client {
         requires stored { IsTrue H.tells_files → IsStored self.old.store (H.view host.old) }
         requires whole { ¬ (IsStoreSpent self.old.store) }
         requires poised { self.old.spent ≡ true }
+        requires idle { self.old.watch.due ≡ Nothing }
         requires spelled { IsSpelledEvent (event.Write at writes) }
         ensures turn { IfOk result (λ outcome. (s : State) (past : Past) → StandsFor self.old s past
             → HandsSettled s past (event.Write at writes) outcome self.new) }
@@ -99,7 +105,7 @@ impl Client {
         let number = self.store.number();
         let id = self.store.next_batch();
         if number >= MOST_COMMITS {
-            return Ok(Outcome::Refused(Refusal::IdsSpent));
+            return Ok(Outcome::Refused(Refusal::IdsSpent, Vec::new(alloc)));
         }
         let mut outs = Vec::new(alloc);
         let commit = number + 1;
@@ -110,7 +116,75 @@ impl Client {
         Ok(Outcome::Done(outs))
     }
 
-    /// The turn of an event, but for the batches that go out.
+    /// The turn of a stream that was opened.
+    fn open_stream(&mut self, alloc: Global, name: StreamName) -> Result<Outcome, ClientFault>
+        requires poised { self.old.spent ≡ true }
+        requires idle { self.old.watch.due ≡ Nothing }
+        ensures turn { IfOk result (λ outcome. (s : State) (past : Past) → StandsFor self.old s past
+            → HandsSettled s past (event.Opened name) outcome self.new) }
+        ensures store { self.new.store ≡ self.old.store }
+        ensures root { (self.new.root ≡ self.old.root) × (self.new.spent ≡ self.old.spent) }
+        ensures unspent { IsErrOf result ClientFault.Spent → ⊥ }
+        ensures memory { IsErrOf result ClientFault.DiskFault → ⊥ }
+    {
+        match name {
+            StreamName::Watch => Ok(self.open_watch(alloc)),
+            StreamName::Write => self.open_writes(alloc),
+        }
+    }
+
+    /// The turn of a stream that was closed.
+    fn close_stream<H: Host>(
+        &mut self,
+        alloc: Global,
+        host: &mut H,
+        name: StreamName,
+        status: RpcStatus,
+    ) -> Result<Outcome, ClientFault>
+        requires stored { IsTrue H.tells_files → IsStored self.old.store (H.view host.old) }
+        requires whole { ¬ (IsStoreSpent self.old.store) }
+        requires poised { self.old.spent ≡ true }
+        requires idle { self.old.watch.due ≡ Nothing }
+        ensures turn { IfOk result (λ outcome. (s : State) (past : Past) → StandsFor self.old s past
+            → HandsSettled s past (event.Closed name status) outcome self.new) }
+        ensures whole { OnOk result (¬ (IsStoreSpent self.new.store)) }
+        ensures root { (self.new.root ≡ self.old.root) × (self.new.spent ≡ self.old.spent) }
+        ensures stored { IsTrue H.tells_files → IsStored self.new.store (H.view host.new) }
+        ensures files { IsTrue H.tells_files → (s : State) (past : Past) → StandsFor self.old s past
+            → MovesBy s past (event.Closed name status) (H.view host.old) (H.view host.new) }
+        ensures out { KeepsOut (H.view host.old) (H.view host.new) }
+        ensures unspent { IsErrOf result ClientFault.Spent → ⊥ }
+        ensures counts { RisesAt (IsErrOf result ClientFault.DiskFault)
+            (H.view host.old).disk_faults (H.view host.new).disk_faults }
+    {
+        match name {
+            StreamName::Watch => self.close_watch(alloc, &status),
+            StreamName::Write => self.close_writes(alloc, host, status),
+        }
+    }
+
+    /// The turn of a message with a fault, in the member of this name.
+    fn bad_message(
+        &mut self,
+        alloc: Global,
+        name: StreamName,
+        member: Text,
+    ) -> Result<Outcome, ClientFault>
+        requires idle { self.old.watch.due ≡ Nothing }
+        ensures turn { IfOk result (λ outcome. (s : State) (past : Past) → StandsFor self.old s past
+            → HandsSettled s past (event.BadMessage name member) outcome self.new) }
+        ensures store { self.new.store ≡ self.old.store }
+        ensures root { (self.new.root ≡ self.old.root) × (self.new.spent ≡ self.old.spent) }
+        ensures unspent { IsErrOf result ClientFault.Spent → ⊥ }
+        ensures memory { IsErrOf result ClientFault.DiskFault → ⊥ }
+    {
+        match name {
+            StreamName::Watch => self.bad_watch(alloc, member),
+            StreamName::Write => Ok(self.bad_written(alloc, member)),
+        }
+    }
+
+    /// The turn of an event, but for the requests that go out.
     fn answer<H: Host>(
         &mut self,
         alloc: Global,
@@ -120,6 +194,8 @@ impl Client {
         requires stored { IsTrue H.tells_files → IsStored self.old.store (H.view host.old) }
         requires whole { ¬ (IsStoreSpent self.old.store) }
         requires poised { self.old.spent ≡ true }
+        requires heard { (h : Calls) × (AggregatorStandsFor self.old.watch.aggregator h × AreSpelledCalls h) }
+        requires idle { self.old.watch.due ≡ Nothing }
         requires spelled { IsSpelledEvent event }
         ensures turn { IfOk result (λ outcome. (s : State) (past : Past) → StandsFor self.old s past
             → HandsSettled s past event outcome self.new) }
@@ -140,8 +216,10 @@ impl Client {
             Event::Unlisten(id) => self.unlisten(alloc, id),
             Event::Opened(name) => self.open_stream(alloc, name),
             Event::Closed(name, status) => self.close_stream(alloc, host, name, status),
+            Event::Watch(response) => self.watched(alloc, host, response),
             Event::Written(response) => self.written(alloc, host, response),
-            Event::BadMessage(name, member) => Ok(self.bad_message(name, member)),
+            Event::BadMessage(name, member) => self.bad_message(alloc, name, member),
+            Event::Timer => self.ring(alloc),
         }
     }
 
@@ -155,10 +233,12 @@ impl Client {
         requires stored { IsTrue H.tells_files → IsStored self.old.store (H.view host.old) }
         requires whole { ¬ (IsStoreSpent self.old.store) }
         requires poised { self.old.spent ≡ true }
+        requires standing { IsStanding self.old }
+        requires idle { self.old.watch.due ≡ Nothing }
         requires spelled { IsSpelledEvent event }
         ensures turn { IfOk result (λ outcome. (s : State) (past : Past) → StandsFor self.old s past
             → HandsOut s past event outcome self.new) }
-        ensures whole { OnOk result (¬ (IsStoreSpent self.new.store)) }
+        ensures rest { OnOk result (IsAtRest self.new) }
         ensures root { (self.new.root ≡ self.old.root) × (self.new.spent ≡ self.old.spent) }
         ensures stored { IsTrue H.tells_files → IsStored self.new.store (H.view host.new) }
         ensures files { IsTrue H.tells_files → (s : State) (past : Past) → StandsFor self.old s past
@@ -170,9 +250,10 @@ impl Client {
     {
         let outcome = self.answer(alloc, host, event)?;
         match outcome {
-            Outcome::Refused(refusal) => Ok(Outcome::Refused(refusal)),
+            Outcome::Refused(refusal, outs) => Ok(Outcome::Refused(refusal, outs)),
             Outcome::Done(outs) => {
                 let mut outs = outs;
+                self.ask(alloc, &mut outs)?;
                 self.send(alloc, &mut outs)?;
                 Ok(Outcome::Done(outs))
             }

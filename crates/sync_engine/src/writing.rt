@@ -12,6 +12,8 @@ ghost use Rattle.write_pipeline.specs.declared.answer.Answer.TheVariants.{Handsh
 ghost use Rattle.write_pipeline.specs.declared.answer.Closing.TheVariants.{Rejects};
 ghost use Rattle.sync_engine.specs.Past.{Past};
 ghost use Rattle.sync_engine.specs.Standing.{ComesAs, StandsFor};
+ghost use Rattle.sync_engine.specs.declared.watch_stream.Due.TheVariants.{Nothing};
+ghost use Rattle.value_model.specs.declared.message.StreamName.TheVariants as stream;
 ghost use Rattle.sync_engine.specs.Telling.{HandsSettled, MovesBy};
 ghost use Rattle.sync_engine.specs.Writing.{first_batch, member_name as member_name_of};
 
@@ -55,23 +57,23 @@ impl Client {
     }
 
     /// The turn of the stream of writes that was opened.
-    pub(crate) fn open_stream(
-        &mut self,
-        alloc: Global,
-        name: StreamName,
-    ) -> Result<Outcome, ClientFault>
+    pub(crate) fn open_writes(&mut self, alloc: Global) -> Result<Outcome, ClientFault>
+        requires idle { self.old.watch.due ≡ Nothing }
         ensures turn { IfOk result (λ outcome. (s : State) (past : Past) → StandsFor self.old s past
-            → HandsSettled s past (event.Opened name) outcome self.new) }
+            → HandsSettled s past (event.Opened stream.Write) outcome self.new) }
         ensures store { self.new.store ≡ self.old.store }
         ensures root { (self.new.root ≡ self.old.root) × (self.new.spent ≡ self.old.spent) }
         ensures unspent { IsErrOf result ClientFault.Spent → ⊥ }
         ensures memory { IsErrOf result ClientFault.DiskFault → ⊥ }
     {
         if self.writes.is_open {
-            return Ok(Outcome::Refused(Refusal::StreamState {
-                stream: name,
-                is_open: true,
-            }));
+            return Ok(Outcome::Refused(
+                Refusal::StreamState {
+                    stream: StreamName::Write,
+                    is_open: true,
+                },
+                Vec::new(alloc),
+            ));
         }
         let mut outs = Vec::new(alloc);
         outs.push(Out::SendHandshake)?;
@@ -79,24 +81,31 @@ impl Client {
         Ok(Outcome::Done(outs))
     }
 
-    /// The turn of a message with a fault, in the member of this name: it closes the stream.
-    pub(crate) fn bad_message(&mut self, name: StreamName, member: Text) -> Outcome
+    /// The turn of a message with a fault, in the member of this name: it closes the stream of writes.
+    pub(crate) fn bad_written(&mut self, alloc: Global, member: Text) -> Outcome
+        requires idle { self.old.watch.due ≡ Nothing }
         ensures turn { (s : State) (past : Past) → StandsFor self.old s past
-            → HandsSettled s past (event.BadMessage name member) result self.new }
+            → HandsSettled s past (event.BadMessage stream.Write member) result self.new }
         ensures store { self.new.store ≡ self.old.store }
         ensures root { (self.new.root ≡ self.old.root) × (self.new.spent ≡ self.old.spent) }
     {
         if !self.writes.is_open {
-            return Outcome::Refused(Refusal::StreamState {
-                stream: name,
-                is_open: false,
-            });
+            return Outcome::Refused(
+                Refusal::StreamState {
+                    stream: StreamName::Write,
+                    is_open: false,
+                },
+                Vec::new(alloc),
+            );
         }
         self.writes.closed();
-        Outcome::Refused(Refusal::BadMessage {
-            stream: name,
-            member,
-        })
+        Outcome::Refused(
+            Refusal::BadMessage {
+                stream: StreamName::Write,
+                member,
+            },
+            Vec::new(alloc),
+        )
     }
 
     /// The first pending batch leaves, rejected by the status with which the stream was closed.
@@ -104,21 +113,21 @@ impl Client {
         &mut self,
         alloc: Global,
         host: &mut H,
-        name: StreamName,
         status: RpcStatus,
     ) -> Result<Outcome, ClientFault>
         requires stored { IsTrue H.tells_files → IsStored self.old.store (H.view host.old) }
         requires whole { ¬ (IsStoreSpent self.old.store) }
         requires poised { self.old.spent ≡ true }
+        requires idle { self.old.watch.due ≡ Nothing }
         requires opening { self.old.writes.is_open ≡ true }
         requires rejects { ComesAs self.old.writes (λ h. closing_of h status.code ≡ Rejects) }
         ensures turn { IfOk result (λ outcome. (s : State) (past : Past) → StandsFor self.old s past
-            → HandsSettled s past (event.Closed name status) outcome self.new) }
+            → HandsSettled s past (event.Closed stream.Write status) outcome self.new) }
         ensures whole { OnOk result (¬ (IsStoreSpent self.new.store)) }
         ensures root { (self.new.root ≡ self.old.root) × (self.new.spent ≡ self.old.spent) }
         ensures stored { IsTrue H.tells_files → IsStored self.new.store (H.view host.new) }
         ensures files { IsTrue H.tells_files → (s : State) (past : Past) → StandsFor self.old s past
-            → MovesBy s past (event.Closed name status) (H.view host.old) (H.view host.new) }
+            → MovesBy s past (event.Closed stream.Write status) (H.view host.old) (H.view host.new) }
         ensures out { KeepsOut (H.view host.old) (H.view host.new) }
         ensures unspent { IsErrOf result ClientFault.Spent → ⊥ }
         ensures counts { RisesAt (IsErrOf result ClientFault.DiskFault)
@@ -131,7 +140,7 @@ impl Client {
             return Ok(Outcome::Done(outs));
         };
         if number >= MOST_COMMITS {
-            return Ok(Outcome::Refused(Refusal::IdsSpent));
+            return Ok(Outcome::Refused(Refusal::IdsSpent, Vec::new(alloc)));
         }
         let batch = id_of(first);
         let ids = self.concerned(alloc, first.writes.as_slice())?;
@@ -148,40 +157,43 @@ impl Client {
     }
 
     /// The turn of the stream of writes that was closed.
-    pub(crate) fn close_stream<H: Host>(
+    pub(crate) fn close_writes<H: Host>(
         &mut self,
         alloc: Global,
         host: &mut H,
-        name: StreamName,
         status: RpcStatus,
     ) -> Result<Outcome, ClientFault>
         requires stored { IsTrue H.tells_files → IsStored self.old.store (H.view host.old) }
         requires whole { ¬ (IsStoreSpent self.old.store) }
         requires poised { self.old.spent ≡ true }
+        requires idle { self.old.watch.due ≡ Nothing }
         ensures turn { IfOk result (λ outcome. (s : State) (past : Past) → StandsFor self.old s past
-            → HandsSettled s past (event.Closed name status) outcome self.new) }
+            → HandsSettled s past (event.Closed stream.Write status) outcome self.new) }
         ensures whole { OnOk result (¬ (IsStoreSpent self.new.store)) }
         ensures root { (self.new.root ≡ self.old.root) × (self.new.spent ≡ self.old.spent) }
         ensures stored { IsTrue H.tells_files → IsStored self.new.store (H.view host.new) }
         ensures files { IsTrue H.tells_files → (s : State) (past : Past) → StandsFor self.old s past
-            → MovesBy s past (event.Closed name status) (H.view host.old) (H.view host.new) }
+            → MovesBy s past (event.Closed stream.Write status) (H.view host.old) (H.view host.new) }
         ensures out { KeepsOut (H.view host.old) (H.view host.new) }
         ensures unspent { IsErrOf result ClientFault.Spent → ⊥ }
         ensures counts { RisesAt (IsErrOf result ClientFault.DiskFault)
             (H.view host.old).disk_faults (H.view host.new).disk_faults }
     {
         if !self.writes.is_open {
-            return Ok(Outcome::Refused(Refusal::StreamState {
-                stream: name,
-                is_open: false,
-            }));
+            return Ok(Outcome::Refused(
+                Refusal::StreamState {
+                    stream: StreamName::Write,
+                    is_open: false,
+                },
+                Vec::new(alloc),
+            ));
         }
         match self.writes.pipeline.closing(&status) {
             Closing::Kept => {
                 self.writes.closed();
                 Ok(Outcome::Done(Vec::new(alloc)))
             }
-            Closing::Rejects => self.reject(alloc, host, name, status),
+            Closing::Rejects => self.reject(alloc, host, status),
         }
     }
 
@@ -201,6 +213,7 @@ impl Client {
 
     /// The handshake of the stream came: batches may be sent from now on.
     fn shaken(&mut self, alloc: Global, response: WriteResponse) -> Outcome
+        requires idle { self.old.watch.due ≡ Nothing }
         requires opening { self.old.writes.is_open ≡ true }
         requires fits { ComesAs self.old.writes
             (λ h. Fits h (first_batch self.old.store.state) response Handshake) }
@@ -220,6 +233,7 @@ impl Client {
         response: &WriteResponse,
         member: WriteMember,
     ) -> Result<Outcome, ClientFault>
+        requires idle { self.old.watch.due ≡ Nothing }
         requires opening { self.old.writes.is_open ≡ true }
         requires fails { ComesAs self.old.writes
             (λ h. Fails h (first_batch self.old.store.state) response.now member) }
@@ -232,10 +246,13 @@ impl Client {
     {
         let member = Text::from_str(alloc, member_name(member))?;
         self.writes.closed();
-        Ok(Outcome::Refused(Refusal::BadMessage {
-            stream: StreamName::Write,
-            member,
-        }))
+        Ok(Outcome::Refused(
+            Refusal::BadMessage {
+                stream: StreamName::Write,
+                member,
+            },
+            Vec::new(alloc),
+        ))
     }
 
     /// The result of the first pending batch came: it leaves, and the entries of its keys change.
@@ -248,6 +265,7 @@ impl Client {
         requires stored { IsTrue H.tells_files → IsStored self.old.store (H.view host.old) }
         requires whole { ¬ (IsStoreSpent self.old.store) }
         requires poised { self.old.spent ≡ true }
+        requires idle { self.old.watch.due ≡ Nothing }
         requires spelled { IsSpelledResponse response }
         requires opening { self.old.writes.is_open ≡ true }
         requires fits { ComesAs self.old.writes
@@ -266,7 +284,7 @@ impl Client {
     {
         let number = self.store.number();
         if number >= MOST_COMMITS {
-            return Ok(Outcome::Refused(Refusal::IdsSpent));
+            return Ok(Outcome::Refused(Refusal::IdsSpent, Vec::new(alloc)));
         }
         let Some(first) = self.first_pending() else {
             unreachable!();
@@ -308,6 +326,7 @@ impl Client {
         requires stored { IsTrue H.tells_files → IsStored self.old.store (H.view host.old) }
         requires whole { ¬ (IsStoreSpent self.old.store) }
         requires poised { self.old.spent ≡ true }
+        requires idle { self.old.watch.due ≡ Nothing }
         requires spelled { IsSpelledResponse response }
         ensures turn { IfOk result (λ outcome. (s : State) (past : Past) → StandsFor self.old s past
             → HandsSettled s past (event.Written response) outcome self.new) }
@@ -322,10 +341,13 @@ impl Client {
             (H.view host.old).disk_faults (H.view host.new).disk_faults }
     {
         if !self.writes.is_open {
-            return Ok(Outcome::Refused(Refusal::StreamState {
-                stream: StreamName::Write,
-                is_open: false,
-            }));
+            return Ok(Outcome::Refused(
+                Refusal::StreamState {
+                    stream: StreamName::Write,
+                    is_open: false,
+                },
+                Vec::new(alloc),
+            ));
         }
         match self.judged(&response) {
             Ok(Answer::Handshake) => Ok(self.shaken(alloc, response)),

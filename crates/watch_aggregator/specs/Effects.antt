@@ -63,6 +63,4 @@ Gives h _ e = e ≡ effect.Nothing
 -- why it is refused
 abbrev pub Refuses : Calls → ListenResponse → WatchFault → Type 0
 Refuses h (sent.Target change) f = RefusesTarget h change f
-Refuses h (sent.Change change) f = f ≡ fault.NoMemory
-Refuses h (sent.Delete delete) f = f ≡ fault.NoMemory
-Refuses h _ f = ⊥
+Refuses h _ f = f ≡ fault.NoMemory

@@ -107,21 +107,17 @@ impl Aggregator {
     }
 
     /// A change of targets came.
-    fn change_targets(&mut self, alloc: Global, change: &TargetChange) -> Result<Effect, WatchFault>
-        ensures done { IfOk result (λ effect. (h : Calls) → StandsFor self.old h → GivesTarget h change.now effect × StandsFor self.new (call.came (sent.Target change.now) ∷ h)) }
-        ensures undone { IfErr result (λ fault. (h : Calls) → StandsFor self.old h → RefusesTarget h change.now fault × StandsFor self.new h) }
+    fn change_targets(&mut self, alloc: Global, change: &TargetChange) -> Result<(), NoMemory>
+        ensures done { OnOk result (Takes self.old self.new (call.came (sent.Target change.now))) }
+        ensures undone { OnErr result (Stays self.old self.new) }
     {
-        let effect = match effect_of(alloc, self.watched.as_slice(), change) {
-            Ok(effect) => effect,
-            Err(fault) => return Err(fault),
-        };
         let token = match keep_token(alloc, &mut self.tokens, &change.resume_token) {
             Ok(token) => token,
-            Err(NoMemory) => return Err(WatchFault::NoMemory),
+            Err(NoMemory) => return Err(NoMemory),
         };
         change_all(alloc, &mut self.watched, change, token);
         sweep(&mut self.watched, change.kind);
-        Ok(effect)
+        Ok(())
     }
 
     /// A change of a document came.
@@ -209,6 +205,44 @@ impl Aggregator {
         }
     }
 
+    /// What a message of the stream would answer: nothing changes.
+    ///
+    /// # Errors
+    /// `BadMessage(TargetIds)` at a REMOVE without ids, `BadMessage(Cause)` at one without cause for a live incarnation,
+    /// `NoMemory`.
+    pub fn effect(&self, alloc: Global, message: &ListenResponse) -> Result<Effect, WatchFault>
+        ensures gives { IfOk result (λ effect. (h : Calls) → StandsFor self.now h → Gives h message.now effect) }
+        ensures refuses { IfErr result (λ fault. (h : Calls) → StandsFor self.now h → Refuses h message.now fault) }
+    {
+        match message {
+            ListenResponse::Target(change) => effect_of(alloc, self.watched.as_slice(), change),
+            ListenResponse::Filter(filter) => Ok(self.filter(filter)),
+            ListenResponse::Change(_) => Ok(Effect::Nothing),
+            ListenResponse::Delete(_) => Ok(Effect::Nothing),
+            ListenResponse::Remove(_) => Ok(Effect::Nothing),
+        }
+    }
+
+    /// A message of the stream came, which `effect` doesn't refuse.
+    ///
+    /// # Errors
+    /// `NoMemory`: it stands for the same lists as before.
+    pub fn take(&mut self, alloc: Global, message: &ListenResponse) -> Result<(), NoMemory>
+        ensures done { OnOk result (Takes self.old self.new (call.came message.now)) }
+        ensures undone { OnErr result (Stays self.old self.new) }
+    {
+        match message {
+            ListenResponse::Target(change) => self.change_targets(alloc, change),
+            ListenResponse::Change(change) => self.change_document(alloc, change),
+            ListenResponse::Delete(delete) => self.delete_document(alloc, delete),
+            ListenResponse::Remove(remove) => {
+                self.remove_document(remove);
+                Ok(())
+            }
+            ListenResponse::Filter(_) => Ok(()),
+        }
+    }
+
     /// A message of the stream came.
     ///
     /// # Errors
@@ -218,21 +252,13 @@ impl Aggregator {
         ensures done { IfOk result (λ effect. (h : Calls) → StandsFor self.old h → Gives h message.now effect × StandsFor self.new (call.came message.now ∷ h)) }
         ensures undone { IfErr result (λ fault. (h : Calls) → StandsFor self.old h → Refuses h message.now fault × StandsFor self.new h) }
     {
-        match message {
-            ListenResponse::Target(change) => self.change_targets(alloc, change),
-            ListenResponse::Change(change) => match self.change_document(alloc, change) {
-                Ok(()) => Ok(Effect::Nothing),
-                Err(NoMemory) => Err(WatchFault::NoMemory),
-            },
-            ListenResponse::Delete(delete) => match self.delete_document(alloc, delete) {
-                Ok(()) => Ok(Effect::Nothing),
-                Err(NoMemory) => Err(WatchFault::NoMemory),
-            },
-            ListenResponse::Remove(remove) => {
-                self.remove_document(remove);
-                Ok(Effect::Nothing)
-            }
-            ListenResponse::Filter(filter) => Ok(self.filter(filter)),
+        let effect = match self.effect(alloc, message) {
+            Ok(effect) => effect,
+            Err(fault) => return Err(fault),
+        };
+        match self.take(alloc, message) {
+            Ok(()) => Ok(effect),
+            Err(NoMemory) => Err(WatchFault::NoMemory),
         }
     }
 

@@ -8,12 +8,12 @@ use Rattle.client_run.proofs.handled.handle.Goals as goal
 pub print_taken-requires-clause-standing : goal.print_taken-requires-clause-standing
 print_taken-requires-clause-standing g c =
     let standing = c.requires.standing in
-    taken_stands (c.in_ok-taken.ensures.turn standing.state standing.past standing.stands)
+    taken_stands (c.in_ok-taken.ensures.turn standing.0 standing.1.0 standing.1.1)
 
 pub print_taken-requires-clause-told : goal.print_taken-requires-clause-told
 print_taken-requires-clause-told g c =
     let standing = c.requires.standing in
-    let it = c.in_ok-taken.ensures.turn standing.state standing.past standing.stands in
+    let it = c.in_ok-taken.ensures.turn standing.0 standing.1.0 standing.1.1 in
     (it.turn, it.tells)
 
 pub returns-in_err-taken-clause-files : goal.returns-in_err-taken-clause-files
@@ -57,12 +57,12 @@ returns-in_err-emit-clause-stopped g c =
 pub returns-clause-standing : goal.returns-clause-standing
 returns-clause-standing g c =
     let standing = c.requires.standing in
-    taken_stands (c.in_ok-taken.ensures.turn standing.state standing.past standing.stands)
+    taken_stands (c.in_ok-taken.ensures.turn standing.0 standing.1.0 standing.1.1)
 
 pub returns-then-is_empty-clause-standing : goal.returns-then-is_empty-clause-standing
 returns-then-is_empty-clause-standing g c =
     let standing = c.requires.standing in
-    taken_stands (c.in_ok-taken.ensures.turn standing.state standing.past standing.stands)
+    taken_stands (c.in_ok-taken.ensures.turn standing.0 standing.1.0 standing.1.1)
 
 pub returns-then-is_empty-clause-files : goal.returns-then-is_empty-clause-files
 returns-then-is_empty-clause-files g c = λ told s past stands. turned_moved (coming c.args.client.now.root s past c.args.reading c.args.number) (c.take.ensures.files told s past stands)

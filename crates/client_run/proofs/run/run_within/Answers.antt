@@ -1,4 +1,4 @@
-use Rattle.std.proofs.Common.{inr, refl, subst, List, ℕ}
+use Rattle.std.proofs.Common.{[], inr, refl, subst, List, ℕ}
 use Rattle.document_keys.specs.Names.{Root}
 use Rattle.client_run.specs.Output.{called}
 use Rattle.client_run.specs.Run.{Ran, Kept}
@@ -86,3 +86,6 @@ pub returns-in-Err-NotAStore-clause-never_kept : goal.returns-in-Err-NotAStore-c
 returns-in-Err-NotAStore-clause-never_kept g c = λ told keeps.
     let refuses = rw c.in-Err-NotAStore.field-0-is at c.in-Err-NotAStore.ensures.refused told in
     absurd (kept_is_store keeps (refused_is_none _ _ refuses.0))
+
+pub serve-requires-clause-standing : goal.serve-requires-clause-standing
+serve-requires-clause-standing g c = (c.in-Ok.client.store.state, ([], c.in-Ok.ensures.stands))

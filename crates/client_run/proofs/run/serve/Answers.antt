@@ -4,7 +4,7 @@ use Rattle.host_api.specs.Items.{item_of}
 use Rattle.line_reader.specs.Reading.{Reads}
 use Rattle.client_run.specs.declared.status.Status.TheVariants.{Done, SourceFault, NoMemory, Budget}
 use Rattle.sync_engine.proofs.Committed.{stored_reads}
-use Rattle.client_run.proofs.Served.{served_none, next_read, all_done, none_left, taken_as, took_one, keeps_stored, keeps_within, stops, served_more, stops_within, leaves_all, nothing_kept, is_served, causes_within, same_then}
+use Rattle.client_run.proofs.Served.{served_none, next_read, all_done, none_left, taken_as, took_one, keeps_stored, keeps_within, stops, served_more, stops_within, leaves_all, nothing_kept, is_served, causes_memory, causes_within, same_then}
 use Rattle.client_run.proofs.run.serve.Goals as goal
 
 pub returns-in-Err-Failed-clause-run : goal.returns-in-Err-Failed-clause-run
@@ -79,7 +79,7 @@ returns-clause-kept g c = λ tells told s stands.
 pub returns-in-Err-clause-keeps : goal.returns-in-Err-clause-keeps
 returns-in-Err-clause-keeps g c = λ told.
     let standing = c.loop-handled.invariant.standing in
-    keeps_within _ c.in-Ok-read_item.reading c.loop-handled.client standing.state standing.past _ _ (g.met.H.Host.may_stay _ told) standing.stands (record { files = c.handle.ensures.files told; counted = c.handle.ensures.counted; spelled = c.in-Ok-read_item.ensures.spelled })
+    keeps_within _ c.in-Ok-read_item.reading c.loop-handled.client standing.0 standing.1.0 _ _ (g.met.H.Host.may_stay _ told) standing.1.1 (record { files = c.handle.ensures.files told; counted = c.handle.ensures.counted; spelled = c.in-Ok-read_item.ensures.spelled })
 
 pub returns-in-Err-Failed-clause-keeps : goal.returns-in-Err-Failed-clause-keeps
 returns-in-Err-Failed-clause-keeps g c = λ told. keeps_stored (g.met.H.Host.may_stay _ told) c.loop-handled.invariant.live.store (c.loop-handled.invariant.stored told)
@@ -105,3 +105,6 @@ loop-handled-init g c = record {
   counts = record { disk = refl; sink = refl };
   source = refl;
 }
+
+pub returns-in-Err-NoMemory-clause-cause : goal.returns-in-Err-NoMemory-clause-cause
+returns-in-Err-NoMemory-clause-cause g c = causes_memory (c.in-Err-NoMemory.ensures.cause.stays (λ is. cc) ∙ c.loop-handled.invariant.source) c.loop-handled.invariant.counts

@@ -3,8 +3,7 @@ use Rattle.host_api.specs.Items.{split}
 use Rattle.client_run.specs.Output.{called}
 use Rattle.local_store.specs.State.{State}
 use Rattle.local_store.specs.Store.{IsStored}
-use Rattle.sync_engine.specs.Standing.{IsLive, StandsFor}
-use Rattle.client_run.specs.Taken.{IsStanding}
+use Rattle.sync_engine.specs.Standing.{IsLive, IsStanding, StandsFor}
 use Rattle.client_run.proofs.Served.{Serving, SameFaults}
 use Rattle.client_run.proofs.run.serve.Given as goal
 

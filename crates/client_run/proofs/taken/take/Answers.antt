@@ -1,7 +1,7 @@
 use Rattle.local_store.specs.Files.{Moves}
 use Rattle.local_store.specs.State.{State}
 use Rattle.sync_engine.proofs.Committed.{nothing_moves}
-use Rattle.sync_engine.proofs.Turning.{by_state}
+use Rattle.sync_engine.proofs.Following.{by_state}
 use Rattle.client_run.proofs.Handling.{event_moves, event_taken, nothing_moves_line, unread_taken}
 use Rattle.client_run.proofs.taken.take.Goals as goal
 

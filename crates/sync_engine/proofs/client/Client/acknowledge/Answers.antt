@@ -21,12 +21,13 @@ use Rattle.sync_engine.proofs.Closed.{some_moment, acknowledge_fits, hands_ackno
 use Rattle.sync_engine.proofs.Committed.{nothing_moves}
 use Rattle.sync_engine.proofs.Handing.{hands_refused}
 use Rattle.sync_engine.proofs.Sent.{comes_some}
-use Rattle.sync_engine.proofs.Turning.{by_state, moves_none}
+use Rattle.sync_engine.proofs.Following.{by_state}
+use Rattle.sync_engine.proofs.Turning.{moves_none}
 use Rattle.sync_engine.proofs.client.Client.acknowledge.Goals as goal
 
 pub returns-then-number-ge-MOST_COMMITS-clause-turn : goal.returns-then-number-ge-MOST_COMMITS-clause-turn
-returns-then-number-ge-MOST_COMMITS-clause-turn g c = λ s past stands. by_state (λ (t : State). HandsSettled t past (event.Written c.args.response) (Refused IdsSpent) c.args.self.now) stands (λ st.
-    hands_refused IdsSpent refl st (spent_acknowledges c.args.response st (omega (arith, c.if-number-ge-MOST_COMMITS.true, (c.number-number.ensures.number ∙ ap (λ (k : Kept). k.store.state.number) c.self.view_is))) c.requires.opening (c.requires.fits (steps_of past) st.writes.pipeline)))
+returns-then-number-ge-MOST_COMMITS-clause-turn g c = λ s past stands. by_state (λ (t : State). HandsSettled t past (event.Written c.args.response) (Refused IdsSpent c.new.result) c.args.self.now) stands (λ st.
+    hands_refused IdsSpent refl c.requires.idle st (spent_acknowledges c.args.response st (omega (arith, c.if-number-ge-MOST_COMMITS.true, (c.number-number.ensures.number ∙ ap (λ (k : Kept). k.store.state.number) c.self.view_is))) c.requires.opening (c.requires.fits (steps_of past) st.writes.pipeline)) c.new.ensures.items)
 
 pub returns-then-number-ge-MOST_COMMITS-clause-files : goal.returns-then-number-ge-MOST_COMMITS-clause-files
 returns-then-number-ge-MOST_COMMITS-clause-files g c = λ told s past stands. by_state (λ (t : State). MovesBy t past (event.Written c.args.response) (g.H.Host.view c.args.host.now) (g.H.Host.view c.args.host.now)) stands (λ st. moves_none (event.Written c.args.response) (refused IdsSpent) (spent_acknowledges c.args.response st (omega (arith, c.if-number-ge-MOST_COMMITS.true, (c.number-number.ensures.number ∙ ap (λ (k : Kept). k.store.state.number) c.self.view_is))) c.requires.opening (c.requires.fits (steps_of past) st.writes.pipeline)) refl (nothing_moves _ c.requires.whole (c.requires.stored told)))
@@ -57,10 +58,10 @@ returns-clause-files g c = λ told s past stands. by_state (λ (t : State). Move
 
 pub returns-clause-turn : goal.returns-clause-turn
 returns-clause-turn g c = λ s past stands. by_state (λ (t : State). HandsSettled t past (event.Written c.args.response) (Done c.settle.new.outs) c.settle.new.self) stands (λ st.
-    hands_acknowledged _ c.in-Some.first.now c.in-Some-commit_time.time c.args.response c.in_ok-ids.ids.items st
+    hands_acknowledged _ c.in-Some.first.now c.in-Some-commit_time.time c.args.response c.in_ok-ids.ids.items c.requires.idle st
     (subst (λ (ws : List Write). AreConcerned c.args.self.now.listeners ws c.in_ok-ids.ids.items) c.as_slice.ensures c.in_ok-ids.ensures)
     (omega (arith, c.if-number-ge-MOST_COMMITS.false, (c.number-number.ensures.number ∙ ap (λ (k : Kept). k.store.state.number) c.self.view_is))) (sym c.first_pending.ensures ∙ ap (option_map (λ b. b.now)) c.in-Some.is) c.in-Some-commit_time.is c.requires.opening (c.requires.fits (steps_of past) st.writes.pipeline)
-    (ap (λ (k : Kept). k.root) c.self-2.view_is ∙ c.commit.ensures.rest.root) (ap (λ (k : Kept). k.listeners) c.self-2.view_is ∙ c.commit.ensures.rest.listeners)
+    (ap (λ (k : Kept). k.root) c.self-2.view_is ∙ c.commit.ensures.rest.root) (ap (λ (k : Kept). k.listeners) c.self-2.view_is ∙ c.commit.ensures.rest.listeners) (ap (λ (k : Kept). k.watch) c.self-2.view_is ∙ c.commit.ensures.rest.watch)
     (subst (λ (w : WriteStream). GoesOn w c.came.new.self (λ h. kept c.args.response.token ∷ acknowledged ∷ h)) (ap (λ (k : Kept). k.writes) c.self-2.view_is ∙ c.commit.ensures.rest.writes) c.came.ensures)
     (ap (λ (k : Kept). k.store.state) c.self-2.view_is ∙ c.in_ok-commit.ensures.state ∙ ap (λ (n : ℕ). committed c.args.self.now.store.state (Acknowledge n c.in-Some-commit_time.time c.args.response.results)) c.id_of-batch.ensures)
     c.settle.ensures.rest c.as_slice-2.ensures.value c.in_ok-settle.ensures.raises

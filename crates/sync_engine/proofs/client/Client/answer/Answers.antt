@@ -5,12 +5,13 @@ use Rattle.local_store.specs.State.{State}
 use Rattle.sync_engine.specs.Answers.{ends}
 use Rattle.sync_engine.specs.Turns.{answered}
 use Rattle.sync_engine.specs.Lines.{document}
-use Rattle.sync_engine.specs.Past.{listener, steps_of}
-use Rattle.sync_engine.specs.Writing.{bad_turn, is_open, opened_turn}
+use Rattle.sync_engine.specs.Past.{listener}
+use Rattle.sync_engine.specs.Writing.{bad_turn, is_stream_open, opened_turn}
 use Rattle.sync_engine.proofs.Closed.{bad_none, opened_none}
 use Rattle.sync_engine.specs.Telling.{MovesBy}
 use Rattle.sync_engine.proofs.Committed.{nothing_moves}
-use Rattle.sync_engine.proofs.Turning.{by_state, ends_none, moves_none}
+use Rattle.sync_engine.proofs.Following.{by_state}
+use Rattle.sync_engine.proofs.Turning.{ends_none, moves_none}
 use Rattle.sync_engine.proofs.client.Client.answer.Goals as goal
 
 pub returns-in-Get-clause-files : goal.returns-in-Get-clause-files
@@ -28,11 +29,16 @@ returns-in-Unlisten-clause-files g c = λ told s past stands. rw (c.in-Unlisten.
 pub returns-in-Opened-clause-files : goal.returns-in-Opened-clause-files
 returns-in-Opened-clause-files g c = λ told s past stands. rw (c.in-Opened.is)
     (by_state (λ (t : State). MovesBy t past (event.Opened c.in-Opened.name) (g.H.Host.view c.args.host.now) (g.H.Host.view c.args.host.now)) stands (λ st.
-    moves_none (event.Opened c.in-Opened.name) (opened_turn c.in-Opened.name (is_open (steps_of past))) refl (opened_none c.in-Opened.name (is_open (steps_of past)))
+    moves_none (event.Opened c.in-Opened.name) (opened_turn c.in-Opened.name (is_stream_open c.in-Opened.name past)) refl (opened_none c.in-Opened.name (is_stream_open c.in-Opened.name past))
     (nothing_moves _ c.requires.whole (c.requires.stored told))))
 
 pub returns-in-BadMessage-clause-files : goal.returns-in-BadMessage-clause-files
 returns-in-BadMessage-clause-files g c = λ told s past stands. rw (c.in-BadMessage.is)
     (by_state (λ (t : State). MovesBy t past (event.BadMessage c.in-BadMessage.name c.in-BadMessage.member) (g.H.Host.view c.args.host.now) (g.H.Host.view c.args.host.now)) stands (λ st.
-    moves_none (event.BadMessage c.in-BadMessage.name c.in-BadMessage.member) (bad_turn c.in-BadMessage.name c.in-BadMessage.member (is_open (steps_of past))) refl (bad_none c.in-BadMessage.name c.in-BadMessage.member (is_open (steps_of past)))
+    moves_none (event.BadMessage c.in-BadMessage.name c.in-BadMessage.member) (bad_turn c.in-BadMessage.name c.in-BadMessage.member (is_stream_open c.in-BadMessage.name past)) refl (bad_none c.in-BadMessage.name c.in-BadMessage.member (is_stream_open c.in-BadMessage.name past))
     (nothing_moves _ c.requires.whole (c.requires.stored told))))
+
+pub returns-in-Timer-clause-files : goal.returns-in-Timer-clause-files
+returns-in-Timer-clause-files g c = λ told s past stands. rw (c.in-Timer.is)
+    (by_state (λ (t : State). MovesBy t past event.Timer (g.H.Host.view c.args.host.now) (g.H.Host.view c.args.host.now)) stands (λ st.
+    moves_none event.Timer (answered []) refl refl (nothing_moves _ c.requires.whole (c.requires.stored told))))

@@ -1,28 +1,22 @@
-use Rattle.std.proofs.Common.{false, [], refl, sym, ap, subst, ◌∙◌}
 use Rattle.client_events.specs.declared.event.Event.TheVariants as event
 use Rattle.local_store.specs.State.{State}
+use Rattle.value_model.specs.declared.message.StreamName.TheVariants as stream
+use Rattle.std.proofs.Common.{refl}
 use Rattle.sync_engine.specs.Past.{steps_of}
-use Rattle.sync_engine.specs.Standing.{Kept, StandsFor}
 use Rattle.sync_engine.specs.Telling.{MovesBy}
-use Rattle.sync_engine.specs.Turns.{answered, refused}
-use Rattle.sync_engine.specs.declared.refusal.Refusal.TheVariants.{StreamState}
-use Rattle.sync_engine.proofs.Closed.{closed_kept, closed_unopened, hands_nothing}
+use Rattle.sync_engine.specs.Watching.{is_watched}
+use Rattle.sync_engine.specs.Writing.{closed_turn}
 use Rattle.sync_engine.proofs.Committed.{nothing_moves}
-use Rattle.sync_engine.proofs.Handing.{hands_refused}
-use Rattle.sync_engine.proofs.Turning.{by_state, moves_none}
+use Rattle.sync_engine.proofs.Following.{by_state}
+use Rattle.sync_engine.proofs.Streamed.{watch_closed_none}
+use Rattle.sync_engine.proofs.Turning.{moves_none}
 use Rattle.sync_engine.proofs.client.Client.close_stream.Goals as goal
 
-pub returns-then-not-self-clause-turn : goal.returns-then-not-self-clause-turn
-returns-then-not-self-clause-turn g c = λ s past stands. hands_refused (StreamState c.args.name false) refl stands (closed_unopened stands c.args.name c.args.status (ap (λ (k : Kept). k.writes.is_open) (sym c.self.view_is) ∙ c.if-not-self.true))
+pub returns-in-Watch-clause-files : goal.returns-in-Watch-clause-files
+returns-in-Watch-clause-files g c = λ told s past stands. rw (c.in-Watch.is)
+    (by_state (λ (t : State). MovesBy t past (event.Closed stream.Watch c.args.status) (g.H.Host.view c.args.host.now) (g.H.Host.view c.args.host.now)) stands (λ st.
+    moves_none (event.Closed stream.Watch c.args.status) (closed_turn c.args.self.now.store.state (steps_of past) stream.Watch c.args.status (is_watched past)) refl
+    (watch_closed_none c.args.self.now.store.state (steps_of past) c.args.status (is_watched past)) (nothing_moves _ c.requires.whole (c.requires.stored told))))
 
-pub returns-then-not-self-clause-files : goal.returns-then-not-self-clause-files
-returns-then-not-self-clause-files g c = λ told s past stands. by_state (λ (t : State). MovesBy t past (event.Closed c.args.name c.args.status) (g.H.Host.view c.args.host.now) (g.H.Host.view c.args.host.now)) stands (λ st. moves_none (event.Closed c.args.name c.args.status) (refused (StreamState c.args.name false)) (closed_unopened st c.args.name c.args.status (ap (λ (k : Kept). k.writes.is_open) (sym c.self.view_is) ∙ c.if-not-self.true)) refl (nothing_moves _ c.requires.whole (c.requires.stored told)))
-
-pub returns-in-Kept-clause-turn : goal.returns-in-Kept-clause-turn
-returns-in-Kept-clause-turn g c = λ s past stands.
-    let as_kept = subst (λ (k : Kept). StandsFor k s past) (sym c.self.view_is) stands in
-    hands_nothing (event.Closed c.args.name c.args.status) as_kept (record { root = refl; store = refl; listeners = refl }) (λ id v. refl) (c.closed.ensures (steps_of past) as_kept.writes)
-    (closed_kept as_kept c.args.name c.args.status c.if-not-self.false (sym (c.closing.ensures (steps_of past) as_kept.writes.pipeline) ∙ c.in-Kept.is)) c.new.ensures.items
-
-pub returns-in-Kept-clause-files : goal.returns-in-Kept-clause-files
-returns-in-Kept-clause-files g c = λ told s past stands. by_state (λ (t : State). MovesBy t past (event.Closed c.args.name c.args.status) (g.H.Host.view c.args.host.now) (g.H.Host.view c.args.host.now)) stands (λ st. let as_kept = subst (λ (k : Kept). StandsFor k c.args.self.now.store.state past) (sym c.self.view_is) st in moves_none (event.Closed c.args.name c.args.status) (answered []) (closed_kept st c.args.name c.args.status (ap (λ (k : Kept). k.writes.is_open) (sym c.self.view_is) ∙ c.if-not-self.false) (sym (c.closing.ensures (steps_of past) as_kept.writes.pipeline) ∙ c.in-Kept.is)) refl (nothing_moves _ c.requires.whole (c.requires.stored told)))
+pub returns-in-Write-clause-files : goal.returns-in-Write-clause-files
+returns-in-Write-clause-files g c = λ told s past stands. rw (c.in-Write.is) (c.close_writes.ensures.files told s past stands)

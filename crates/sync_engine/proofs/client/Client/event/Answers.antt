@@ -12,3 +12,6 @@ pub returns-clause-turn : goal.returns-clause-turn
 returns-clause-turn g c = λ s past stands.
     hands_still false (subst (λ (k : Kept). HandsOut s past c.args.event c.in_ok-outcome.outcome k) (sym c.self-2.view_is)
     (c.in_ok-outcome.ensures.turn s past (stands_still true (subst (λ (k : Kept). StandsFor k s past) (sym c.self.view_is) stands))))
+
+pub turn-requires-clause-standing : goal.turn-requires-clause-standing
+turn-requires-clause-standing g c = let it = c.requires.stands in (it.0, (it.1.0, stands_still true (subst (λ (k : Kept). StandsFor k it.0 it.1.0) (sym c.self.view_is) it.1.1)))

@@ -1,6 +1,6 @@
 use Rattle.std.proofs.Common.{ℕ, ℤ, ◌≤◌, to_z, of_z, w32, length, List, [], ◌∷◌, ◌++◌, Some, refl, sym, ap, subst, ◌∙◌}
 use Rattle.client_events.specs.declared.event.Event.TheVariants as event
-use Rattle.listeners.specs.Table.{Changes, Table, fresh, viewed}
+use Rattle.listeners.specs.Table.{Changes, ChangesTarget, Table, fresh, viewed}
 use Rattle.local_store.specs.State.{State}
 use Rattle.queries.specs.declared.target.Target.{Target}
 use Rattle.sync_engine.specs.Turns.{refused}
@@ -16,11 +16,14 @@ use Rattle.sync_engine.proofs.Handing.{hands_refused, none_viewed, some_viewed}
 use Rattle.target_cache.specs.Cache.{id_at}
 use Rattle.target_cache.specs.declared.row.Row.{Row}
 use Rattle.sync_engine.proofs.Showing.{given_back}
-use Rattle.sync_engine.proofs.Turning.{by_state, hands_begun, moves_begun, moves_none, spent_answers, spent_stands, taken_answers}
+use Rattle.sync_engine.proofs.Following.{by_state}
+use Rattle.sync_engine.proofs.Turning.{hands_begun, moves_begun, moves_none, spent_answers, spent_stands, taken_answers}
+use Rattle.sync_engine.specs.declared.watch_stream.Due.TheVariants.{One}
+use Rattle.sync_engine.specs.declared.watch_stream.WatchStream.{WatchStream}
 use Rattle.sync_engine.proofs.client.Client.listen.Goals as goal
 
 pub returns-then-not-is_none-clause-turn : goal.returns-then-not-is_none-clause-turn
-returns-then-not-is_none-clause-turn g c = λ s past stands. let found = some_viewed _ c.view.result _ c.is_none.result c.view.ensures c.is_none.ensures c.if-not-is_none.true in by_state (λ (t : State). HandsSettled t past (event.Listen c.args.id c.args.query) (Refused (ListenerTaken c.args.id)) c.args.self.now) stands (λ st. hands_refused (ListenerTaken c.args.id) refl st (taken_answers c.args.id c.args.query found.0 st (sym (ap (λ (k : Kept). viewed k.listeners c.args.id) c.self.view_is) ∙ found.1)))
+returns-then-not-is_none-clause-turn g c = λ s past stands. let found = some_viewed _ c.view.result _ c.is_none.result c.view.ensures c.is_none.ensures c.if-not-is_none.true in by_state (λ (t : State). HandsSettled t past (event.Listen c.args.id c.args.query) (Refused (ListenerTaken c.args.id) c.new.result) c.args.self.now) stands (λ st. hands_refused (ListenerTaken c.args.id) refl c.requires.idle st (taken_answers c.args.id c.args.query found.0 st (sym (ap (λ (k : Kept). viewed k.listeners c.args.id) c.self.view_is) ∙ found.1)) c.new.ensures.items)
 
 pub returns-then-not-is_none-clause-files : goal.returns-then-not-is_none-clause-files
 returns-then-not-is_none-clause-files g c = λ told s past stands. let found = some_viewed _ c.view.result _ c.is_none.result c.view.ensures c.is_none.ensures c.if-not-is_none.true in by_state (λ (t : State). MovesBy t past (event.Listen c.args.id c.args.query) (g.H.Host.view c.args.host.now) (g.H.Host.view c.args.host.now)) stands (λ st. moves_none (event.Listen c.args.id c.args.query) (refused (ListenerTaken c.args.id)) (taken_answers c.args.id c.args.query found.0 st (sym (ap (λ (k : Kept). viewed k.listeners c.args.id) c.self.view_is) ∙ found.1)) refl (nothing_moves _ c.requires.whole (c.requires.stored told)))
@@ -44,14 +47,17 @@ pub returns-clause-files : goal.returns-clause-files
 returns-clause-files g c = λ told s past stands. by_state (λ (t : State). MovesBy t past (event.Listen c.args.id c.args.query) (g.H.Host.view c.args.host.now) (g.H.Host.view c.target_for.new.host)) stands (λ st. moves_begun c.args.id c.args.query st (sym (ap (λ (k : Kept). viewed k.listeners c.args.id) c.self.view_is) ∙ none_viewed _ c.view.result _ c.is_none.result c.view.ensures c.is_none.ensures c.if-not-is_none.false) (subst (λ (q : Target). MovesForTarget c.args.self.now.store.state q (g.H.Host.view c.args.host.now) (g.H.Host.view c.target_for.new.host)) c.as_target.ensures.same (c.target_for.ensures.files told)))
 
 pub returns-in_default-clause-turn : goal.returns-in_default-clause-turn
-returns-in_default-clause-turn g c = λ s past stands. by_state (λ (t : State). HandsSettled t past (event.Listen c.args.id c.args.query) (Refused IdsSpent) c.target_for.new.self) stands (λ st. hands_refused IdsSpent refl (spent_stands c.args.query c.in_ok-target.field-0 st (subst (λ (q : Target). GivesTarget c.args.self.now.store.state q c.in_ok-target.field-0 c.target_for.new.self.store.state) c.as_target.ensures.same c.in_ok-target.ensures.found) c.in_default.is c.target_for.ensures.rest) (spent_answers c.args.id c.args.query c.in_ok-target.field-0 st (sym (ap (λ (k : Kept). viewed k.listeners c.args.id) c.self.view_is) ∙ none_viewed _ c.view.result _ c.is_none.result c.view.ensures c.is_none.ensures c.if-not-is_none.false) (subst (λ (q : Target). GivesTarget c.args.self.now.store.state q c.in_ok-target.field-0 c.target_for.new.self.store.state) c.as_target.ensures.same c.in_ok-target.ensures.found) c.in_default.is))
+returns-in_default-clause-turn g c = λ s past stands. by_state (λ (t : State). HandsSettled t past (event.Listen c.args.id c.args.query) (Refused IdsSpent c.new-in_default.result) c.target_for.new.self) stands (λ st. hands_refused IdsSpent refl (ap (λ (w : WatchStream). w.due) c.target_for.ensures.rest.watch ∙ c.requires.idle) (spent_stands c.args.query c.in_ok-target.field-0 st (subst (λ (q : Target). GivesTarget c.args.self.now.store.state q c.in_ok-target.field-0 c.target_for.new.self.store.state) c.as_target.ensures.same c.in_ok-target.ensures.found) c.in_default.is c.target_for.ensures.rest) (spent_answers c.args.id c.args.query c.in_ok-target.field-0 st (sym (ap (λ (k : Kept). viewed k.listeners c.args.id) c.self.view_is) ∙ none_viewed _ c.view.result _ c.is_none.result c.view.ensures c.is_none.ensures c.if-not-is_none.false) (subst (λ (q : Target). GivesTarget c.args.self.now.store.state q c.in_ok-target.field-0 c.target_for.new.self.store.state) c.as_target.ensures.same c.in_ok-target.ensures.found) c.in_default.is) c.new-in_default.ensures.items)
 
 pub returns-clause-turn : goal.returns-clause-turn
 returns-clause-turn g c = λ s past stands. by_state (λ (t : State). HandsSettled t past (event.Listen c.args.id c.args.query) (Done c.settle.new.outs) c.settle.new.self) stands (λ st.
-    hands_begun c.args.self.now _ c.settle.new.self past c.args.id c.args.query c.in_ok-target.field-0 c.in-Some.target st (sym (ap (λ (k : Kept). viewed k.listeners c.args.id) c.self.view_is) ∙ none_viewed _ c.view.result _ c.is_none.result c.view.ensures c.is_none.ensures c.if-not-is_none.false)
+    hands_begun c.args.self.now _ c.settle.new.self past c.args.id c.args.query c.in_ok-target.field-0 c.in-Some.target st (sym (ap (λ (k : Kept). viewed k.listeners c.args.id) c.self.view_is) ∙ none_viewed _ c.view.result _ c.is_none.result c.view.ensures c.is_none.ensures c.if-not-is_none.false) c.requires.idle
     (subst (λ (k : Kept). GivesTarget c.args.self.now.store.state c.args.query c.in_ok-target.field-0 k.store.state) (sym c.self-2.view_is) (subst (λ (q : Target). GivesTarget c.args.self.now.store.state q c.in_ok-target.field-0 c.target_for.new.self.store.state) c.as_target.ensures.same c.in_ok-target.ensures.found))
     c.in-Some.is (ap (λ (k : Kept). k.root) c.self-2.view_is ∙ c.target_for.ensures.rest.root) (ap (λ (k : Kept). k.writes) c.self-2.view_is ∙ c.target_for.ensures.rest.writes)
+    (c.listened.ensures ∙ ap (λ (z : ℤ). record c.self-2.inside.watch { due = One z }) (given_back c.args.self.now.store.state c.args.query c.in_ok-target.field-0 c.in-Some.target (subst (λ (l : List Row). id_at (length l) ≤ 2147483648) (c.targets.ensures ∙ ap (λ (k : Kept). k.store.state.rows) c.self.view_is) c.next_id-last.ensures.most) (subst (λ (q : Target). GivesTarget c.args.self.now.store.state q c.in_ok-target.field-0 c.target_for.new.self.store.state) c.as_target.ensures.same c.in_ok-target.ensures.found) c.in-Some.is) ∙ ap (λ (w : WatchStream). record w { due = One c.in-Some.target }) (ap (λ (k : Kept). k.watch) c.self-2.view_is ∙ c.target_for.ensures.rest.watch))
     (subst (λ (l : Table). Changes c.args.id (Some (fresh c.args.query)) l c.add.new.self) (ap (λ (k : Kept). k.listeners) c.self-2.view_is ∙ c.target_for.ensures.rest.listeners) c.in_ok-add.ensures.done)
+    (subst (λ (z : ℤ). ChangesTarget c.args.id (Some z) c.args.self.now.listeners c.add.new.self) (given_back c.args.self.now.store.state c.args.query c.in_ok-target.field-0 c.in-Some.target (subst (λ (l : List Row). id_at (length l) ≤ 2147483648) (c.targets.ensures ∙ ap (λ (k : Kept). k.store.state.rows) c.self.view_is) c.next_id-last.ensures.most) (subst (λ (q : Target). GivesTarget c.args.self.now.store.state q c.in_ok-target.field-0 c.target_for.new.self.store.state) c.as_target.ensures.same c.in_ok-target.ensures.found) c.in-Some.is)
+    (subst (λ (l : Table). ChangesTarget c.args.id (Some (to_z w32 (of_z w32 c.in-Some.target))) l c.add.new.self) (ap (λ (k : Kept). k.listeners) c.self-2.view_is ∙ c.target_for.ensures.rest.listeners) c.in_ok-add.ensures.target))
     c.settle.ensures.rest c.in_ok-settle.ensures.raises
     (c.in_ok-push.ensures.items ∙ ap (λ (o : List Out). o ++ Listening c.args.id (to_z w32 (of_z w32 c.in-Some.target)) c.number-commit.result ∷ []) c.new-outs.ensures.items
     ∙ ap (λ (z : ℤ). Listening c.args.id z c.number-commit.result ∷ []) (given_back c.args.self.now.store.state c.args.query c.in_ok-target.field-0 c.in-Some.target (subst (λ (l : List Row). id_at (length l) ≤ 2147483648) (c.targets.ensures ∙ ap (λ (k : Kept). k.store.state.rows) c.self.view_is) c.next_id-last.ensures.most) (subst (λ (q : Target). GivesTarget c.args.self.now.store.state q c.in_ok-target.field-0 c.target_for.new.self.store.state) c.as_target.ensures.same c.in_ok-target.ensures.found) c.in-Some.is)

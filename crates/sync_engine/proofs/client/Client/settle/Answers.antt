@@ -1,6 +1,7 @@
 use Rattle.std.proofs.Common.{arith, ap, Vec, Global, ◌∙◌}
 use Rattle.sync_engine.specs.declared.out.Out.{Out}
-use Rattle.sync_engine.proofs.Settled.{keeps_then, none_settled, all_settled, item_inside, settled_raised, settled_quiet}
+use Rattle.sync_engine.proofs.Picking.{item_at}
+use Rattle.sync_engine.proofs.Settled.{keeps_then, none_settled, all_settled, settled_raised, settled_quiet}
 use Rattle.sync_engine.proofs.client.Client.settle.Goals as goal
 use Rattle.sync_engine.proofs.client.Client.settle.Goals.{then-branch+in_ok-push, else-branch}
 
@@ -10,8 +11,8 @@ loop-id-init c = record { settling = none_settled _ _ _ }
 pub loop-id-preserved : goal.loop-id-preserved
 loop-id-preserved c = record {
   settling = elim c.if-branch.branch [
-    | then-branch+in_ok-push w ↦ settled_raised _ _ _ _ _ _ _ _ _ _ c.requires.ascending c.loop-id-test.true (item_inside _ _ _ _ c.loop-id-test.true) c.loop-id.invariant.settling c.in_ok-show.ensures.shows c.show.ensures.rest w.if-branch.true (ap (λ (v : Vec Out Global). v.items) w.outs-is ∙ w.in_ok-push.ensures.items)
-    | else-branch w ↦ settled_quiet _ _ _ _ _ _ _ _ _ _ c.requires.ascending c.loop-id-test.true (item_inside _ _ _ _ c.loop-id-test.true) c.loop-id.invariant.settling c.in_ok-show.ensures.shows c.show.ensures.rest w.if-branch.false (ap (λ (v : Vec Out Global). v.items) w.outs-is)
+    | then-branch+in_ok-push w ↦ settled_raised _ _ _ _ _ _ _ _ _ _ c.requires.ascending c.loop-id-test.true (item_at _ _ _ _ c.loop-id-test.true) c.loop-id.invariant.settling c.in_ok-show.ensures.shows c.show.ensures.rest w.if-branch.true (ap (λ (v : Vec Out Global). v.items) w.outs-is ∙ w.in_ok-push.ensures.items)
+    | else-branch w ↦ settled_quiet _ _ _ _ _ _ _ _ _ _ c.requires.ascending c.loop-id-test.true (item_at _ _ _ _ c.loop-id-test.true) c.loop-id.invariant.settling c.in_ok-show.ensures.shows c.show.ensures.rest w.if-branch.false (ap (λ (v : Vec Out Global). v.items) w.outs-is)
   ];
 }
 

@@ -11,13 +11,14 @@ use Rattle.sync_engine.specs.declared.refusal.Refusal.TheVariants.{BadMessage, S
 use Rattle.sync_engine.proofs.Closed.{shaken_is, unfit_is, written_as, written_unopened}
 use Rattle.sync_engine.proofs.Committed.{nothing_moves}
 use Rattle.sync_engine.proofs.Handing.{hands_refused}
-use Rattle.sync_engine.proofs.Turning.{by_state, moves_none}
+use Rattle.sync_engine.proofs.Following.{by_state}
+use Rattle.sync_engine.proofs.Turning.{moves_none}
 use Rattle.write_pipeline.specs.Standing.{Fits}
 use Rattle.write_pipeline.specs.declared.answer.Answer.{Answer}
 use Rattle.sync_engine.proofs.client.Client.written.Goals as goal
 
 pub returns-then-not-self-clause-turn : goal.returns-then-not-self-clause-turn
-returns-then-not-self-clause-turn g c = λ s past stands. hands_refused (StreamState stream.Write false) refl stands (written_unopened stands c.args.response (ap (λ (k : Kept). k.writes.is_open) (sym c.self.view_is) ∙ c.if-not-self.true))
+returns-then-not-self-clause-turn g c = λ s past stands. hands_refused (StreamState stream.Write false) refl c.requires.idle stands (written_unopened stands c.args.response (ap (λ (k : Kept). k.writes.is_open) (sym c.self.view_is) ∙ c.if-not-self.true)) c.new.ensures.items
 
 pub returns-then-not-self-clause-files : goal.returns-then-not-self-clause-files
 returns-then-not-self-clause-files g c = λ told s past stands. by_state (λ (t : State). MovesBy t past (event.Written c.args.response) (g.H.Host.view c.args.host.now) (g.H.Host.view c.args.host.now)) stands (λ st. moves_none (event.Written c.args.response) (refused (StreamState stream.Write false)) (written_unopened st c.args.response (ap (λ (k : Kept). k.writes.is_open) (sym c.self.view_is) ∙ c.if-not-self.true)) refl (nothing_moves _ c.requires.whole (c.requires.stored told)))

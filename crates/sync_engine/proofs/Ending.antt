@@ -1,0 +1,159 @@
+-- a listener that ends
+use Rattle.std.proofs.Common.{◌≡◌, ◌⊎◌, ⊎_elim, inl, inr, ℕ, ◌+◌, ◌<◌, ◌≤◌, ℤ, pos, Bool, true, false, nat_eq, List, [], ◌∷◌, ◌++◌, length, Option, Some, None, option_map, unwrap_or, not, ◌&&◌, ◌↔◌, IsTrue, IfSome, if◌then◌else◌, Vec, Global, refl, sym, ap, subst, ◌∙◌, arith}
+use Rattle.std.specs.List.{AllZip, Contains, slice_get}
+use Rattle.std.specs.Ordering.{int_eq}
+use Rattle.std.specs.Option.{option_and_then}
+use Rattle.std.specs.Map.{lookup}
+use Rattle.std.proofs.lemmas.Bool.Decides.{Decides-int_eq}
+use Rattle.std.proofs.lemmas.Bool.{eqb-true, eqb-false, lt-ltb, le-ltb}
+use Rattle.std.proofs.lemmas.Option.{none-some}
+use Rattle.std.proofs.lemmas.List.Elements.{Contains-append_cases, Contains-append_right, Contains-append_left, Contains-push, Contains-push_cases}
+use Rattle.host_api.specs.Host.{View}
+use Rattle.document_keys.specs.Names.{Root}
+use Rattle.client_events.specs.declared.event.Event.{Event}
+use Rattle.client_events.specs.declared.event.Event.TheVariants as event
+use Rattle.record_codec.specs.declared.commit.Commit.{Commit}
+use Rattle.listeners.proofs.Tabled.{no_target}
+use Rattle.listeners.specs.Table.{Changes, ChangesTarget, IsWanted, Listening as Link, Table, fresh, is_id, target_of, viewed}
+use Rattle.local_store.specs.Documents.{document_of, standing_of}
+use Rattle.local_store.specs.Store.{Store}
+use Rattle.listen_protocol.specs.Calls.{Calls}
+use Rattle.local_store.specs.Files.{Moves}
+use Rattle.local_store.specs.State.{State, committed, most_commits}
+use Rattle.mutations.specs.declared.batch.Batch.{Batch}
+use Rattle.mutations.specs.declared.write.Write.{Write}
+use Rattle.queries.specs.declared.target.Target.{Target}
+use Rattle.record_codec.specs.declared.commit.Commit.TheVariants.{Enqueue, Allocate}
+use Rattle.target_cache.specs.Cache.{TellsId, blank, id_at}
+use Rattle.target_cache.specs.declared.row.Row.{Row}
+use Rattle.value_model.specs.declared.timestamp.Timestamp.{Timestamp}
+use Rattle.views.specs.Viewed.{Viewed}
+use Rattle.sync_engine.specs.Answers.{Answers, Begins, are_left, ends, enqueued, listens}
+use Rattle.sync_engine.specs.Turns.{after, answered, commits, refused}
+use Rattle.sync_engine.specs.Concerned.{AreConcerned}
+use Rattle.sync_engine.specs.Lines.{Line, document, listening, unlistened, wrote}
+use Rattle.write_pipeline.specs.Order.{Steps, outstanding}
+use Rattle.sync_engine.specs.Past.{Turn, Past, asked, is_refused_in, listener, raised_in, sent_in, steps_of, told, unless_refused}
+use Rattle.sync_engine.specs.Settling.{Stance, stance_by, stance_of, standing_or}
+use Rattle.sync_engine.specs.Stream.{Ends, reset_of}
+use Rattle.sync_engine.specs.Turn.{answered_next, is_heard}
+use Rattle.sync_engine.specs.Watching.{is_offline, is_wanted, listened, listened_in, passes, requested_in, step_by}
+use Rattle.sync_engine.specs.Standing.{HasTargetRow, IsQuiet, Kept, StandsFor, StandsOn, Watches, stance_in, standing_in}
+use Rattle.sync_engine.specs.declared.watch_stream.Due.TheVariants.{Nothing, One}
+use Rattle.sync_engine.specs.declared.watch_stream.WatchStream.{WatchStream}
+use Rattle.sync_engine.specs.declared.write_stream.WriteStream.{WriteStream}
+use Rattle.sync_engine.specs.Targets.{GivesTarget, MovesForTarget, given_id, given_state}
+use Rattle.sync_engine.specs.Telling.{HandsSettled, IsQuietOrAmong, IsShown, KeepsListeners, KeepsRest, MovesBy, Raises}
+use Rattle.sync_engine.specs.declared.out.Out.{Out}
+use Rattle.sync_engine.specs.declared.out.Out.TheVariants.{Document, Listening, Unlistened, Wrote}
+use Rattle.sync_engine.specs.declared.out.Outcome.TheVariants.{Done}
+use Rattle.sync_engine.specs.declared.refusal.Refusal.TheVariants.{IdsSpent, ListenerTaken, NoListener}
+use Rattle.sync_engine.proofs.Following.{AreQuiet, Follows, are_quiet, follows_plain, stance_kept}
+use Rattle.sync_engine.proofs.Handing.{as_done, handed, keeps_all, no_reset, raises_none, same_id}
+use Rattle.sync_engine.proofs.Passing.{watches_began, watches_ended}
+use Rattle.sync_engine.proofs.Quiet.{quiet_allocated, quiet_enqueued, slice_get_more}
+use Rattle.sync_engine.proofs.Steps.{few_by}
+use Rattle.sync_engine.proofs.Wanted.{has_wanted, same_truth, wanted_has, wanted_in}
+use Rattle.sync_engine.proofs.Turning.{some_is, stays_on, viewed_linked}
+
+-- ---- a listener that ends
+
+module _ (old new : Kept) (s : State) (past : Past) (id : ℕ) (target : ℤ) (wanted : Bool) (there : target_of old.listeners id ≡ Some target) (stands : StandsFor old s past) (idle : old.watch.due ≡ Nothing)
+    (root : new.root ≡ old.root) (store : new.store ≡ old.store) (writes : new.writes ≡ old.writes) (changes : Changes id None old.listeners new.listeners) (links : ChangesTarget id None old.listeners new.listeners)
+    (tells : IsTrue wanted ↔ IsWanted new.listeners target) (watched : Ends target wanted old.watch new.watch) where
+  was : listened id past ≡ Some target
+  was = sym (stands.targets id) ∙ there
+
+  ended : ends s id (listener id past) ≡ answered (unlistened id s.number ∷ [])
+  ended = by (listener id past) (stands.listeners id)
+    where
+      by : (v : Option Viewed) → viewed old.listeners id ≡ v → ends s id v ≡ answered (unlistened id s.number ∷ [])
+      by None none = absurd (none-some target (sym (no_target old.listeners id none) ∙ there))
+      by (Some view) some = refl
+
+  listeners : (q : ℕ) → viewed new.listeners q ≡ listener q (answered_next s past (event.Unlisten id) (answered (unlistened id s.number ∷ [])))
+  listeners q = changes q ∙ ap (λ b. if b then None else viewed old.listeners q) (same_id id q) ∙ ap (λ v. if nat_eq id q then None else v) (stands.listeners q)
+
+  targets : (q : ℕ) → target_of new.listeners q ≡ listened q (answered_next s past (event.Unlisten id) (answered (unlistened id s.number ∷ [])))
+  targets q = links q ∙ ap (λ b. if b then None else target_of old.listeners q) (same_id id q) ∙ ap (λ v. if nat_eq id q then None else v) (stands.targets q)
+
+  left_of : (q : ℕ) (x : ℤ) (b : Bool) → (if b then None else listened q past) ≡ Some x → listened q past ≡ Some x
+  left_of q x true so = absurd (none-some x so)
+  left_of q x false so = so
+
+  wanted_others : (x : ℤ) → (x ≡ target → ⊥) → is_wanted x (answered_next s past (event.Unlisten id) (answered (unlistened id s.number ∷ []))) ≡ is_wanted x past
+  wanted_others x apart = same_truth (is_wanted x (answered_next s past (event.Unlisten id) (answered (unlistened id s.number ∷ [])))) (is_wanted x past)
+      (λ now. let it = wanted_has x (answered_next s past (event.Unlisten id) (answered (unlistened id s.number ∷ []))) now in has_wanted x past (it.0, left_of it.0 x (nat_eq id it.0) it.1))
+      (λ before. let it = wanted_has x past before in has_wanted x (answered_next s past (event.Unlisten id) (answered (unlistened id s.number ∷ []))) (it.0, by it.0 it.1 (nat_eq id it.0) refl))
+    where
+      by : (q : ℕ) → listened q past ≡ Some x → (b : Bool) → nat_eq id q ≡ b → listened q (answered_next s past (event.Unlisten id) (answered (unlistened id s.number ∷ []))) ≡ Some x
+      by q is true same = absurd (apart (some_is x target (sym is ∙ ap (λ n. listened n past) (sym (eqb-true id q same)) ∙ was)))
+      by q is false other = ap (λ b. if b then None else listened q past) other ∙ is
+
+  wanted_now : is_wanted target (answered_next s past (event.Unlisten id) (answered (unlistened id s.number ∷ []))) ≡ wanted
+  wanted_now = same_truth (is_wanted target (answered_next s past (event.Unlisten id) (answered (unlistened id s.number ∷ [])))) wanted (λ is. tells.1 ((wanted_in new.listeners (answered_next s past (event.Unlisten id) (answered (unlistened id s.number ∷ []))) targets target).1 is)) (λ so. (wanted_in new.listeners (answered_next s past (event.Unlisten id) (answered (unlistened id s.number ∷ []))) targets target).0 (tells.0 so))
+
+  rows : (q : ℕ) → IfSome (listened q (answered_next s past (event.Unlisten id) (answered (unlistened id s.number ∷ [])))) (HasTargetRow s.rows)
+  rows q = by (nat_eq id q)
+    where
+      by : (b : Bool) → IfSome (if b then None else listened q past) (HasTargetRow s.rows)
+      by true = tt
+      by false = stands.rows q
+
+  answers : Answers s past (event.Unlisten id) (answered (unlistened id s.number ∷ []))
+  answers = sym ended
+
+  follows_ended : Follows new s (answered_next s past (event.Unlisten id) (answered (unlistened id s.number ∷ [])))
+  follows_ended = record {
+    state = ap (λ (x : Store). x.state) store ∙ stands.state;
+    listeners = listeners;
+    targets = targets;
+    rows = rows;
+    watch = watches_ended s past (event.Unlisten id) (answered (unlistened id s.number ∷ [])) refl old.watch new.watch target wanted (λ h. refl) wanted_others wanted_now (has_wanted target past (id, was)) idle watched stands.watch;
+    writes = stays_on (sym writes) stands.writes;
+    pending = stands.pending;
+  }
+
+  -- the target of each other listener stands as before
+  quiet : AreQuiet new
+  quiet q view now = by (nat_eq id q) refl
+    where
+      by : (b : Bool) → nat_eq id q ≡ b → IsQuiet new.root new.store.state (stance_in new q) view
+      by true same = absurd (none-some view (sym (changes q ∙ ap (λ b. if b then None else viewed old.listeners q) (same_id id q ∙ same)) ∙ now))
+      by false other =
+          subst (λ (r : Root). IsQuiet r new.store.state (stance_in new q) view) (sym root)
+          (subst (λ (x : Store). IsQuiet old.root x.state (stance_in new q) view) (sym store)
+          (subst (λ (k : Stance). IsQuiet old.root old.store.state k view) (sym same_stance)
+          (are_quiet stands q view (sym (changes q ∙ ap (λ b. if b then None else viewed old.listeners q) (same_id id q ∙ other)) ∙ now))))
+        where
+          link : target_of new.listeners q ≡ target_of old.listeners q
+          link = links q ∙ ap (λ b. if b then None else target_of old.listeners q) (same_id id q ∙ other)
+
+          -- its own target is still wanted
+          keys : (o : Option ℤ) → target_of new.listeners q ≡ o → option_and_then (standing_in new.watch.current.targets.items) o ≡ option_and_then (standing_in old.watch.current.targets.items) o
+          keys None is = refl
+          keys (Some x) is = watched.current x ∙ at (int_eq target x) refl
+            where
+              at : (c : Bool) → int_eq target x ≡ c → (if c && not wanted then None else standing_in old.watch.current.targets.items x) ≡ standing_in old.watch.current.targets.items x
+              at false apart = refl
+              at true equal = ap (λ w. if not w then None else standing_in old.watch.current.targets.items x) (tells.1 (q, is ∙ ap Some (sym ((Decides-int_eq target x).0 equal))))
+
+          same_stance : stance_in new q ≡ stance_in old q
+          same_stance = λ i. record { target = link i; standing = standing_or (stands_at i); offline = is_offline (watched.online i) }
+            where
+              stands_at : option_and_then (standing_in new.watch.current.targets.items) (target_of new.listeners q) ≡ option_and_then (standing_in old.watch.current.targets.items) (target_of old.listeners q)
+              stands_at = keys (target_of new.listeners q) refl ∙ ap (option_and_then (standing_in old.watch.current.targets.items)) link
+
+  pub hands_ended : {vec : Vec Out Global} → vec.items ≡ Unlistened id old.store.state.number ∷ [] → HandsSettled s past (event.Unlisten id) (Done vec) new
+  hands_ended {vec} is =
+      as_done refl (no_reset past (event.Unlisten id) new (λ t. refl) (ap reset_of watched.due))
+      (handed s past (event.Unlisten id) (answered (unlistened id s.number ∷ [])) new new vec.items vec.items answers refl follows_ended keeps_all (raises_none vec.items quiet) (λ q. refl)
+      (subst (λ (os : List Out). AllZip (IsShown new) os (unlistened id s.number ∷ [])) (sym is) (ap (λ (x : State). unlistened id x.number) (sym stands.state), tt)))
+
+-- who is no listener can't end
+pub ends_not : {client : Kept} {s : State} {past : Past} (id : ℕ) → target_of client.listeners id ≡ None → StandsFor client s past → Answers s past (event.Unlisten id) (refused (NoListener id))
+ends_not {client} {s} {past} id none stands = by (listener id past) (stands.listeners id)
+  where
+    by : (v : Option Viewed) → viewed client.listeners id ≡ v → refused (NoListener id) ≡ ends s id v
+    by None there = refl
+    by (Some view) there = absurd (viewed_linked client.listeners id view there none)

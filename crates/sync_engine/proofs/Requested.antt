@@ -1,0 +1,117 @@
+-- the requests on the stream of listeners
+use Rattle.std.proofs.Common.{◌≡◌, ◌↔◌, ◌⊎◌, ⊎_elim, inl, inr, ℕ, ℤ, ◌+◌, Bool, true, false, ◌&&◌, ◌||◌, ◌==◌, not, if◌then◌else◌, List, [], ◌∷◌, map as each, Option, refl, sym, ap, subst, ◌∙◌, arith}
+use Rattle.std.proofs.lemmas.Bool.{ne_eqb, true≢false}
+use Rattle.std.proofs.lemmas.Bool.Decides.{Decides-int_eq}
+use Rattle.std.specs.List.{AllZip, Contains, fold}
+use Rattle.std.specs.Ordering.{int_eq}
+use Rattle.listen_protocol.specs.Calls.{Calls, asked, unasked}
+use Rattle.listen_protocol.specs.Transcript.{is_asked_in, is_wanted as is_wanted_in, open_count}
+use Rattle.local_store.specs.State.{State}
+use Rattle.target_cache.specs.declared.row.Row.{Row}
+use Rattle.watch_points.specs.SpelledCalls.{AreSpelledCalls}
+use Rattle.sync_engine.specs.Asking.{IsAddLine}
+use Rattle.sync_engine.specs.Lines.{Line, add, document, error, listening, rejected, remove, result, send, snapshot, unlistened, wrote}
+use Rattle.sync_engine.specs.Requesting.{unasked_all}
+use Rattle.sync_engine.specs.Watching.{held_keys, requested_by, requested_in, wanted_document}
+use Rattle.sync_engine.proofs.Wanted.{cons_cases, first_among, later_among}
+
+-- ---- what is asked behind requests
+
+asked_unasked : (t x : ℤ) (h : Calls) → (is_asked_in t (unasked x ∷ h) ≡ false) ↔ ((is_asked_in t h ≡ false) ⊎ (x ≡ t))
+asked_unasked t x h = by (int_eq t x) refl (is_wanted_in t h) (not (open_count t h == 0))
+  where
+    by : (b : Bool) → int_eq t x ≡ b → (w o : Bool) → (((not b && w) && o) ≡ false) ↔ (((w && o) ≡ false) ⊎ (x ≡ t))
+    by true same w o = (λ is. inr (sym ((Decides-int_eq t x).0 same)), λ it. refl)
+    by false other w o = (λ is. inl is, λ it. ⊎_elim (λ is. is) (λ same. absurd (true≢false (sym ((Decides-int_eq t x).1 (sym same)) ∙ other))) it)
+
+-- behind remove requests nothing is asked that wasn't, and none of these
+pub asked_removed : (t : ℤ) (ids : List ℤ) (h : Calls) → (is_asked_in t (unasked_all ids h) ≡ false) ↔ ((is_asked_in t h ≡ false) ⊎ Contains ids t)
+asked_removed t [] h = (inl, λ it. ⊎_elim (λ is. is) (λ there. absurd (omega (arith, there.1))) it)
+asked_removed t (x ∷ ids) h = (down (asked_removed t ids (unasked x ∷ h)), up (asked_removed t ids (unasked x ∷ h)))
+  where
+    down : ((is_asked_in t (unasked_all ids (unasked x ∷ h)) ≡ false) ↔ ((is_asked_in t (unasked x ∷ h) ≡ false) ⊎ Contains ids t)) → is_asked_in t (unasked_all ids (unasked x ∷ h)) ≡ false → (is_asked_in t h ≡ false) ⊎ Contains (x ∷ ids) t
+    down rest is = ⊎_elim
+        (λ now. ⊎_elim inl (λ same. inr (subst (Contains (x ∷ ids)) same (first_among x ids))) ((asked_unasked t x h).0 now))
+        (λ later. inr (later_among x t ids later))
+        (rest.0 is)
+
+    up : ((is_asked_in t (unasked_all ids (unasked x ∷ h)) ≡ false) ↔ ((is_asked_in t (unasked x ∷ h) ≡ false) ⊎ Contains ids t)) → (is_asked_in t h ≡ false) ⊎ Contains (x ∷ ids) t → is_asked_in t (unasked_all ids (unasked x ∷ h)) ≡ false
+    up rest it = rest.1 (⊎_elim
+        (λ was. inl ((asked_unasked t x h).1 (inl was)))
+        (λ among. ⊎_elim (λ same. inl ((asked_unasked t x h).1 (inr same))) inr (cons_cases x t ids among))
+        it)
+
+-- the lines of remove requests are those requests
+pub removes_requested : (ids : List ℤ) (h : Calls) → requested_in (each remove ids) h ≡ unasked_all ids h
+removes_requested [] h = refl
+removes_requested (x ∷ ids) h = removes_requested ids (unasked x ∷ h)
+
+asked_asked : (t x : ℤ) (keys : List (List (List ℕ))) (whose : Option (List (List ℕ))) (h : Calls) → (is_asked_in t (asked x keys whose ∷ h) ≡ true) ↔ ((is_asked_in t h ≡ true) ⊎ (x ≡ t))
+asked_asked t x keys whose h = by (int_eq t x) refl (is_wanted_in t h)
+  where
+    positive : (n : ℕ) → not ((n + 1) == 0) ≡ true
+    positive n = ap not (ne_eqb (n + 1) 0 (λ same. absurd (omega (arith, same))))
+
+    by : (b : Bool) → int_eq t x ≡ b → (w : Bool) → (((b || w) && not ((if b then open_count t h + 1 else open_count t h) == 0)) ≡ true) ↔ (((w && not (open_count t h == 0)) ≡ true) ⊎ (x ≡ t))
+    by true same w = (λ is. inr (sym ((Decides-int_eq t x).0 same)), λ it. more (open_count t h))
+      where
+        more : (n : ℕ) → (true && not ((n + 1) == 0)) ≡ true
+        more n = positive n
+    by false other w = (λ is. inl is, λ it. ⊎_elim (λ is. is) (λ same. absurd (true≢false (sym ((Decides-int_eq t x).1 (sym same)) ∙ other))) it)
+
+-- behind add requests is asked what was, and these
+pub asked_added : (s : State) (t : ℤ) (ids : List ℤ) (lines : List Line) (h : Calls) → AllZip (IsAddLine s) ids lines → (is_asked_in t (requested_in lines h) ≡ true) ↔ ((is_asked_in t h ≡ true) ⊎ Contains ids t)
+asked_added s t [] [] h all = (inl, λ it. ⊎_elim (λ is. is) (λ there. absurd (omega (arith, there.1))) it)
+asked_added s t [] (line ∷ lines) h all = absurd all
+asked_added s t (x ∷ ids) [] h all = absurd all
+asked_added s t (x ∷ ids) (line ∷ lines) h all =
+    subst (λ (l : Line). (is_asked_in t (requested_in (l ∷ lines) h) ≡ true) ↔ ((is_asked_in t h ≡ true) ⊎ Contains (x ∷ ids) t)) (sym all.0.is) (down (asked_added s t ids lines one all.1), up (asked_added s t ids lines one all.1))
+  where
+    one : Calls
+    one = requested_by h (add x all.0.row)
+
+    step : (is_asked_in t one ≡ true) ↔ ((is_asked_in t h ≡ true) ⊎ (x ≡ t))
+    step = asked_asked t x (held_keys all.0.row.held) (wanted_document all.0.row.target) h
+
+    down : ((is_asked_in t (requested_in lines one) ≡ true) ↔ ((is_asked_in t one ≡ true) ⊎ Contains ids t)) → is_asked_in t (requested_in lines one) ≡ true → (is_asked_in t h ≡ true) ⊎ Contains (x ∷ ids) t
+    down rest is = ⊎_elim
+        (λ now. ⊎_elim inl (λ same. inr (subst (Contains (x ∷ ids)) same (first_among x ids))) (step.0 now))
+        (λ later. inr (later_among x t ids later))
+        (rest.0 is)
+
+    up : ((is_asked_in t (requested_in lines one) ≡ true) ↔ ((is_asked_in t one ≡ true) ⊎ Contains ids t)) → (is_asked_in t h ≡ true) ⊎ Contains (x ∷ ids) t → is_asked_in t (requested_in lines one) ≡ true
+    up rest it = rest.1 (⊎_elim
+        (λ was. inl (step.1 (inl was)))
+        (λ among. ⊎_elim (λ same. inl (step.1 (inr same))) inr (cons_cases x t ids among))
+        it)
+
+-- ---- requests bring nothing
+
+spelled_by : (h : Calls) (line : Line) → AreSpelledCalls h → AreSpelledCalls (requested_by h line)
+spelled_by h (wrote b c) all = all
+spelled_by h (listening i t c) all = all
+spelled_by h (unlistened i c) all = all
+spelled_by h (document k d w) all = all
+spelled_by h (result b c t) all = all
+spelled_by h (rejected b c t) all = all
+spelled_by h (error i t) all = all
+spelled_by h (snapshot c r t) all = all
+spelled_by h (add t row) all = all
+spelled_by h (remove t) all = all
+spelled_by h (send r) all = all
+
+pub spelled_requested : (lines : List Line) (h : Calls) → AreSpelledCalls h → AreSpelledCalls (requested_in lines h)
+spelled_requested [] h all = all
+spelled_requested (line ∷ lines) h all = spelled_requested lines (requested_by h line) (spelled_by h line all)
+
+-- ---- lines that are requests
+
+pub fold_removes : {B : Type 0} (f : B → Line → B) → ((b : B) (t : ℤ) → f b (remove t) ≡ b) → (ids : List ℤ) (b : B) → fold f b (each remove ids) ≡ b
+fold_removes f plain [] b = refl
+fold_removes f plain (x ∷ ids) b = ap (λ y. fold f y (each remove ids)) (plain b x) ∙ fold_removes f plain ids b
+
+pub fold_adds : {B : Type 0} (f : B → Line → B) → ((b : B) (t : ℤ) (row : Row) → f b (add t row) ≡ b) → (s : State) (ids : List ℤ) (lines : List Line) (b : B) → AllZip (IsAddLine s) ids lines → fold f b lines ≡ b
+fold_adds f plain s [] [] b all = refl
+fold_adds f plain s [] (line ∷ lines) b all = absurd all
+fold_adds f plain s (x ∷ ids) [] b all = absurd all
+fold_adds f plain s (x ∷ ids) (line ∷ lines) b all = ap (λ y. fold f y lines) (ap (f b) all.0.is ∙ plain b x all.0.row) ∙ fold_adds f plain s ids lines b all.1

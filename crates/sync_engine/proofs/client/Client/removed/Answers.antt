@@ -1,0 +1,34 @@
+use Rattle.std.proofs.Common.{◌≡◌, ℤ, List, SFits, w32, pos, get_or, rules, take, Vec, Global, sym, ap, subst, ◌+◌, ◌∙◌, ◌++◌, ◌∷◌, []}
+use Rattle.std.proofs.lemmas.Bool.{false≢true}
+use Rattle.std.proofs.lemmas.Int.{to_z-of_z}
+use Rattle.listen_protocol.specs.Calls.{Calls}
+use Rattle.sync_engine.specs.Requesting.{IsToRemove, Picked}
+use Rattle.sync_engine.proofs.Picking.{item_at, picked_less, picked_one}
+use Rattle.sync_engine.proofs.client.Client.removed.Goals as goal
+use Rattle.sync_engine.proofs.client.Client.removed.Goals.{then-is_to_remove+in_ok-push, else-is_to_remove}
+
+pub loop-target-preserved : goal.loop-target-preserved
+loop-target-preserved c =
+    let targets = c.args.targets.now in
+    let ids = c.loop-target.ids.items in
+    let n = c.loop-target.target-index in
+    let x = get_or targets n (pos 0) in
+    let inside = c.loop-target-test.true in
+    let at : x ≡ get_or targets n x = item_at targets n (pos 0) x inside in
+    let P = λ (h : Calls). IsToRemove c.args.self.now c.args.reset h in
+    let are = λ (h : Calls) (l : List ℤ). Picked (P h) (take (n + 1) targets) l in
+    elim c.if-is_to_remove.branch [
+      | then-is_to_remove+in_ok-push w ↦
+          let fits : SFits w32 x = search rules in
+          let is = ap (λ (v : Vec ℤ Global). v.items) w.ids-is ∙ w.in_ok-push.ensures.items ∙ ap (λ (y : ℤ). ids ++ y ∷ []) (to_z-of_z w32 x fits) in
+          record {
+            picked = λ h stands. subst (are h) (sym is)
+                (picked_one (P h) targets ids n x c.requires.ascending inside at (c.loop-target.invariant.picked h stands) ((c.is_to_remove.ensures h stands).0 w.if-is_to_remove.true));
+          }
+      | else-is_to_remove w ↦
+          let is = ap (λ (v : Vec ℤ Global). v.items) w.ids-is in
+          record {
+            picked = λ h stands. subst (are h) (sym is)
+                (picked_less (P h) targets ids n x c.requires.ascending inside at (c.loop-target.invariant.picked h stands) (λ so. absurd (false≢true (sym w.if-is_to_remove.false ∙ (c.is_to_remove.ensures h stands).1 so))));
+          }
+    ]

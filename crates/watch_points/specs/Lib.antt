@@ -1,0 +1,3 @@
+pub mod PointCommit
+pub mod SpelledCalls
+pub mod Steps
