@@ -37,7 +37,8 @@ from readers.watch_stream import DocumentMessage, Limbo, TargetMessage, WatchStr
 from readers.write_stream import Message, WriteStream, close_faults, member_of, message_faults, open_faults  # noqa: E402
 from trials.built_lines import DATABASE, built_line  # noqa: E402
 from trials.built_messages import built_message, built_watch_message  # noqa: E402
-from trials.fuzz_lines import items_of, keep, random_line, sample_lines  # noqa: E402
+from trials.fuzz_lines import keep, random_line, sample_lines  # noqa: E402
+from trials.printed_lines import items_of  # noqa: E402
 
 sys.set_int_max_str_digits(0)
 

@@ -4,13 +4,14 @@
     bench/trials/fuzz_lines.py [--program P] [--runs N] [--lines N] [--journals N] [--minutes M] [--seed S]
 
 Lines are built from those of the examples: members left out, doubled, renamed or of another type, values nested deeper,
-bytes broken, lines too long, random bytes. Behind each stands a get of a document of its own, by which it is known what was printed
-for the line. Each run of N lines must end with status 0 and have at most one answer of JSON for each line: `ok`, `result` or `rejected`
-with the numbers that are due, `document`, or a refusal of a known number with the line's own number; behind one that commits
-the snapshots of listeners that are there, ascending, each with something new and the changes that lead to it; then requests, with no more
-than ten batches outstanding. A line without an answer may come on an open stream alone. The journal must
-then have one record for each commit that was told. Behind each run come N pairs of damaged journal files, at which the status must
-be 0, 4 or 7. With --minutes the runs go on for that long.
+bytes broken, lines too long, random bytes; among them are whole messages of the stream of listeners. Behind each stands a get of a
+document of its own, by which it is known what was printed for the line. Each run of N lines must end with status 0 and have at most one
+answer of JSON for each line: `ok`, `result` or `rejected` with the numbers that are due, `document`, or a refusal of a known number with
+the line's own number; or an `error` for each of some listeners, ascending. Behind it come the snapshots of listeners that are there,
+ascending, each with something new, the changes that lead to it, and a read time that doesn't fall; then requests in their order, for
+targets that are known, and with no more than ten batches outstanding. A line of the streams alone may have no answer, and make a commit
+that isn't told at once; the journal must in the end have as many records as were told, and no more than there were such lines besides.
+Behind each run come N pairs of damaged journal files, at which the status must be 0, 4 or 7. With --minutes the runs go on for that long.
 """
 import argparse
 import json
@@ -26,15 +27,7 @@ sys.dont_write_bytecode = True
 sys.path.insert(0, os.path.dirname(os.path.dirname(os.path.abspath(__file__))))
 from client import NAME_FRONT, ROOT, find_program, get_line, memory_folder, run_lines  # noqa: E402
 from readers.journal_reader import get_files, put_files, random_pair, read_pair  # noqa: E402
-from readers.queries import changes_between  # noqa: E402
-from readers.write_stream import MOST_OUTSTANDING  # noqa: E402
-
-LONGEST = 4194304
-LAST_LISTENER = 2**32 - 1
-CAUSES = {1: ("BadLine", {"member": str}), 2: ("BadName", {"fault": str, "name": str}), 3: ("Unsupported", {"member": str}), 4: ("TooDeep", {}),
-          5: ("BadWrites", {"count": int}), 6: ("BadQuery", {"fault": int}), 7: ("ListenerTaken", {"id": int}), 8: ("NoListener", {"id": int}),
-          9: ("StreamState", {"open": bool, "stream": str}), 10: ("BadMessage", {"member": str, "stream": str}), 11: ("LineTooLong", {})}
-FAULTS = {"WrongRoot", "BadSegment", "OddLength", "BadPath", "ReservedField", 1, 2, 3, 4, 5, 6}
+from trials.printed_lines import LONGEST, Told, fault_of, groups_of, items_of, mark_line, what_is  # noqa: E402
 
 
 class Members(list):
@@ -66,6 +59,19 @@ def sample_lines():
                 except ValueError:
                     pass
     return trees
+
+
+def stream_line(chance):
+    """A line of the stream of listeners, without damage, so that listeners are in step now and then."""
+    ids, name, at = chance.choice([[], [], [2], [4, 6]]), NAME_FRONT + "rooms/" + chance.choice("abc"), "2024-05-01T00:00:0%dZ" % chance.choice([7, 8, 9, 9])
+    change = {"targetIds": ids, "resumeToken": chance.choice(["", "AQ=="])}
+    gone = {"document": name, "removedTargetIds": [2, 4], "readTime": at}
+    messages = [{"targetChange": {"readTime": at}}, {"targetChange": {**change, "targetChangeType": "CURRENT"}}, {"targetChange": {**change, "targetChangeType": "ADD"}},
+                {"targetChange": {"targetIds": [2], "targetChangeType": "REMOVE", "cause": {"code": 7}}}, {"targetChange": {**change, "targetChangeType": "RESET"}},
+                {"documentChange": {"document": {"name": name, "fields": {"n": {"integerValue": "1"}}, "updateTime": at}, "targetIds": [2, 4, 6]}},
+                {"documentDelete": gone}, {"documentRemove": gone}, {"filter": {"targetId": 2, "count": chance.randrange(3)}}]
+    message = {"watch": chance.choices(messages, [4, 4, 4, 1, 1, 3, 1, 1, 1])[0]}
+    return chance.choice([{"open": {"stream": "watch"}}, message, message, message, message])
 
 
 # ---- damage of trees ----------------------------------------------------------------------------------------------
@@ -201,143 +207,7 @@ def random_line(chance, trees):
     return line
 
 
-# ---- what must come out -------------------------------------------------------------------------------------------
-
-def items_of(text):
-    """The lines of a text; a last one without a newline counts where it isn't empty."""
-    lines = text.split(b"\n")
-    return lines[:-1] if lines[-1] == b"" else lines
-
-
-MARK = "none/m"  # no other line names such a document
-
-
-def mark_line(number):
-    return get_line(MARK + str(number))
-
-
-def groups_of(output):
-    """The printed lines, those of one input line together: they end where the document behind it is printed."""
-    groups, front = [[]], ('{"document":{"exists":false,"name":"%s%s' % (NAME_FRONT, MARK)).encode()
-    for line in items_of(output):
-        if line.startswith(front):
-            groups.append([])
-        else:
-            groups[-1].append(line)
-    return groups
-
-
-class Told:
-    """What the printed lines of a run have told so far: commits, the documents that each listener shows, and how the stream of writes
-    stands: whether it is open, None where that isn't known, and how many batches are outstanding at most."""
-
-    def __init__(self):
-        self.batches, self.targets, self.settled, self.listeners = 0, 0, 0, {}
-        self.is_open, self.outstanding = False, 0
-
-    def number(self):
-        return self.batches + self.targets + self.settled
-
-    def is_due(self, body):
-        """Whether an `ok` is one that may come; it is counted."""
-        if "batch" in body:
-            self.batches += 1
-            return body == {"batch": self.batches, "commit": self.number()}
-        listener = body.get("id")
-        if "targetId" not in body:
-            return self.listeners.pop(listener, None) is not None and body == {"commit": self.number(), "id": listener}
-        self.targets += body["targetId"] == 2 * self.targets + 2
-        is_free = listener not in self.listeners and 0 <= listener <= LAST_LISTENER
-        self.listeners[listener] = []
-        return is_free and body["targetId"] in range(2, 2 * self.targets + 1, 2) and set(body) == {"commit", "id", "targetId"} and body["commit"] == self.number()
-
-    def is_settling(self, kind, body):
-        """Whether a `result` or a `rejected` is one that may come; it is counted."""
-        self.settled += 1
-        is_known = self.is_open is not False and self.outstanding > 0 and self.settled <= self.batches
-        self.is_open, self.outstanding = kind == "result", self.outstanding - 1 if kind == "result" else 0
-        rest = "commitTime" if kind == "result" else "status"
-        return is_known and set(body) == {"batch", "commit", rest} and (body["batch"], body["commit"]) == (self.settled, self.number())
-
-    def request_fault(self, body):
-        """What is wrong with a request, or None; it is counted."""
-        if body == {"database": NAME_FRONT[:-len("/documents/")]}:
-            self.is_open, was_open = True, self.is_open
-            self.outstanding = 0
-            return "the stream was open" if was_open else None
-        self.outstanding += 1
-        if set(body) - {"streamToken"} != {"writes"} or not 1 <= len(body["writes"]) <= 500 or not self.is_open and self.is_open is not None:
-            return "another request is due"
-        return None if self.outstanding <= min(MOST_OUTSTANDING, self.batches - self.settled) else "more batches are outstanding than may be"
-
-    def refuse(self, body):
-        """What a refusal tells of the stream; whether it may come."""
-        if body["number"] not in (9, 10):
-            return True
-        may_come = self.is_open in (None, body.get("open", True))
-        self.is_open = body.get("open", False)
-        return may_come and body["stream"] == "write"
-
-    def is_silent(self):
-        """Whether a line may print nothing: it was then a handshake or a closing."""
-        was_open, self.is_open = self.is_open, None
-        return was_open is not False
-
-    def snapshot_fault(self, body):
-        """What is wrong with a snapshot, or None; what it shows is kept."""
-        if set(body) != {"changes", "commit", "documents", "fromCache", "id"} or body["fromCache"] is not True or body["commit"] != self.number():
-            return "other members are due"
-        old, new = self.listeners.get(body["id"]), body["documents"]
-        self.listeners[body["id"]] = new
-        if old is None or old == new:
-            return "there is no such listener, or it has shown this"
-        return None if body["changes"] == changes_between(old, new) else "other changes are due"
-
-
-def refusal_fault(number, body):
-    cause, besides = CAUSES.get(body.get("number"), (None, {}))
-    if cause is None or cause != body.get("cause") or body.get("line") != number:
-        return "a refusal with a known number and the line's number is due"
-    if set(body) != {"cause", "line", "number"} | set(besides) or not all(isinstance(body[name], kind) for name, kind in besides.items()):
-        return "the refusal has other members"
-    return None if body.get("fault", 1) in FAULTS else "a known fault is due"
-
-
-def answer_fault(number, line, answer, told):
-    """What is wrong with the answer of a line, or None."""
-    (kind, body), = answer.items()
-    if (len(line) > LONGEST) != (kind == "refused" and body.get("number") == 11):
-        return "the line has %d bytes" % len(line)
-    if kind == "ok":
-        return None if told.is_due(body) else "other numbers are due"
-    if kind in ("result", "rejected"):
-        return None if told.is_settling(kind, body) else "another one is due"
-    if kind == "document":
-        return None if {"exists", "name", "state"} <= set(body) <= {"exists", "fields", "name", "state", "updateTime"} else "other members are due"
-    if kind != "refused":
-        return "an answer is due"
-    return refusal_fault(number, body) or (None if told.refuse(body) else "the stream is told otherwise")
-
-
-def fault_of(number, line, group, told):
-    """What is wrong with what is printed for a line, or None."""
-    try:
-        printed = list(map(json.loads, group))
-        requests = [each["send"]["write"] for each in printed if "send" in each]
-        bodies = [each["snapshot"] for each in printed if "snapshot" in each]
-        answers = [each for each in printed if not {"send", "snapshot"} & set(each)]
-        ids = [body["id"] for body in bodies]
-        if not printed and not told.is_silent():
-            return "an answer is due"
-        wrong = next(filter(None, (answer_fault(number, line, answer, told) for answer in answers)), None)
-    except (ValueError, KeyError, TypeError, AttributeError):
-        return "it isn't of a known form"
-    if wrong or len(answers) > 1 or printed[:len(answers)] != answers or any("send" in each for each in printed[:len(answers) + len(bodies)]):
-        return wrong or "other lines are due, or in another order"
-    if ids != sorted(set(ids)) or ids and not {"ok", "result", "rejected"} & set(printed[0]):
-        return "other snapshots are due"
-    return next(filter(None, [*map(told.snapshot_fault, bodies), *map(told.request_fault, requests)]), None)
-
+# ---- runs -----------------------------------------------------------------------------------------------------------
 
 def try_lines(program, store, text, counts):
     """Feeds one run; says what is wrong, or None."""
@@ -352,15 +222,14 @@ def try_lines(program, store, text, counts):
         wrong = fault_of(2 * number + 1, line, group, told)
         if wrong:
             return "line %d, %r: %r is printed: %s" % (number + 1, line[:300], [printed[:300] for printed in group], wrong)
-        for printed in group:
-            kind = next(iter(json.loads(printed)))
-            counts[kind] = counts.get(kind, 0) + 1
+        for what in map(what_is, group):
+            counts[what] = counts.get(what, 0) + 1
     if status != 0 or len(groups) != len(given):
         where = given[len(groups)][:300] if len(groups) < len(given) else b""
         return "status %d, and answers to %d of %d lines; the next line is %r" % (status, len(groups), len(given), where)
     found = read_pair(get_files(store))
-    if found[0] != "counts" or len(found[3]) != told.number():
-        return "%d commits were told, and the journal is %s" % (told.number(), found[:3])
+    if found[0] != "counts" or not told.least <= len(found[3]) <= told.most:
+        return "%d to %d commits were told, and the journal is %s" % (told.least, told.most, found[:3])
     return None
 
 
@@ -385,7 +254,8 @@ def one_round(program, folder, chance, trees, words, counts):
     """One run of lines and some pairs of files; says what is wrong, or None."""
     store = os.path.join(folder, "lines")
     shutil.rmtree(store, ignore_errors=True)
-    text = b"\n".join(random_line(chance, trees) for _ in range(words.lines)) + chance.choice([b"", b"\n"])
+    lines = [spell(stream_line(chance)).encode() if chance.random() < 0.15 else random_line(chance, trees) for _ in range(words.lines)]
+    text = b"\n".join(lines) + chance.choice([b"", b"\n"])
     wrong = try_lines(program, store, text, counts)
     if wrong:
         return "%s; the input is kept as %s" % (wrong, keep("lines", text))
