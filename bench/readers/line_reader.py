@@ -1,19 +1,21 @@
 #!/usr/bin/env python3
 """Another reader of input lines, by the description in docs/FORMATS.md, against the program.
 
-    bench/readers/line_reader.py compare [--program P] [--runs N] [--lines N] [--minutes M] [--seed S]
+    bench/readers/line_reader.py compare [--queries] [--program P] [--runs N] [--lines N] [--minutes M] [--seed S]
     bench/readers/line_reader.py answer [DATABASE] < LINES
 
 `compare` feeds the program the damaged lines of fuzz_lines.py, lines that are built with several faults at once (built_lines.py), and
 openings, closings and messages of both streams, many of which fit what is outstanding or asked for by then (built_messages.py). What it
 prints must be, byte for byte, what this reader prints: the numbers of an `ok`, the printed document with the pending writes laid over it,
-the number, the member and the name of a refusal, the snapshots that a line raises, and the requests that it sends. A store has two runs,
+the number, the member and the name of a refusal, the snapshots that a line raises, and the requests that it sends. With `--queries` the
+lines are writes, gets and queries without faults, each query over what the writes left by then. A store has two runs,
 one behind the other; behind each its journal must have the targets of all listeners, with their whole lists of orders and their rows,
 the pending batches, and give the same documents. What writes make of a document is worked out here by what stands at each path, and not
 by setting one path after another; what a query answers, by who comes before each document; what a target was told, by the last message
 that names each document. `answer` prints what this reader prints for lines over an empty store. The JSON itself is read by Python's json.
 """
 import argparse
+import collections
 import json
 import math
 import os
@@ -35,7 +37,7 @@ from readers.queries import changes_between, read_target, target_faults, whole_f
 from readers.store import Store, moment  # noqa: E402
 from readers.watch_stream import DocumentMessage, Limbo, TargetMessage, WatchStream, kind_of, number_in, version_of, watch_faults  # noqa: E402
 from readers.write_stream import Message, WriteStream, close_faults, member_of, message_faults, open_faults  # noqa: E402
-from trials.built_lines import DATABASE, built_line  # noqa: E402
+from trials.built_lines import DATABASE, GOOD_NAMES, built_line, built_target, built_write_line  # noqa: E402
 from trials.built_messages import built_message, built_watch_message  # noqa: E402
 from trials.fuzz_lines import keep, random_line, sample_lines  # noqa: E402
 from trials.printed_lines import items_of  # noqa: E402
@@ -515,6 +517,23 @@ def what_is(answer):
     return name if name != "refused" else "refused as " + body["cause"] + (" %d" % body["fault"] if "fault" in body and "name" not in body else "")
 
 
+class Tally:
+    """What was compared: printed lines of each kind, and the documents and the queries in them, each once."""
+
+    def __init__(self):
+        self.counts, self.documents, self.queries = collections.Counter(), set(), set()
+
+    def take(self, line, printed):
+        """What was printed for the line is as it is due."""
+        for answer in printed:
+            self.counts[what_is(answer)] += 1
+            (_, body), = json.loads(answer).items()
+            for document in body.get("documents", [body] if "exists" in body else []):
+                self.documents.add(hash(spelled([document["name"], document.get("fields")])))
+            if "targetId" in body:
+                self.queries.add(hash(spelled(read_json(line)["listen"]["target"])))
+
+
 def shortened(lines):
     return [line[:600] for line in lines]
 
@@ -531,6 +550,14 @@ def built_items(chance, trees, count, reader):
         else:
             line = built_line(chance) if chance.random() < 0.6 else random_line(chance, trees)
         yield from line.split(b"\n")
+
+
+def query_items(chance, count):
+    """As many lines, without faults: writes, and behind each a query that is listened to, a get, and the end of the listener."""
+    for _ in range(count // 4):
+        lines = [{"write": built_write_line(chance, 0)}, {"listen": {"target": built_target(chance, 0)}},
+                 {"get": {"name": "%s/documents/%s" % (DATABASE, chance.choice(GOOD_NAMES))}}, {"unlisten": {}}]
+        yield from map(spelled, lines)
 
 
 def journal_fault(store, reader):
@@ -552,7 +579,7 @@ def journal_fault(store, reader):
     return "the journal gives another document of %s" % wrong[0] if wrong else None
 
 
-def try_lines(program, store, reader, lines, last, counts):
+def try_lines(program, store, reader, lines, last, tally):
     """Feeds one run, of a store as the reader has it; gives its input, and what is wrong, or None."""
     reader.begin()
     due = [(line, reader.lines(number, line)) for number, line in enumerate(lines, 1)]
@@ -561,10 +588,10 @@ def try_lines(program, store, reader, lines, last, counts):
         status, output = run_lines(program, store, [text], seconds=120)
     except subprocess.TimeoutExpired:
         return text, "no end within 120 seconds"
-    return text, difference(due, status, items_of(output), counts) or journal_fault(store, reader)
+    return text, difference(due, status, items_of(output), tally) or journal_fault(store, reader)
 
 
-def difference(due, status, came, counts):
+def difference(due, status, came, tally):
     """The first place at which other lines came than were due, or None."""
     at = 0
     for number, (line, wanted) in enumerate(due, 1):
@@ -572,19 +599,19 @@ def difference(due, status, came, counts):
         if found != wanted:
             return "line %d, %r: %s is printed, and %s is due" % (number, line[:600], shortened(found), shortened(wanted))
         at += len(wanted)
-        for what in map(what_is, found):
-            counts[what] = counts.get(what, 0) + 1
+        tally.take(line, found)
     if status != 0 or at != len(came):
         return "status %d, and %d lines are printed where %d are due" % (status, len(came), at)
     return None
 
 
-def try_store(program, store, chance, trees, words, counts):
+def try_store(program, store, chance, trees, words, tally):
     """Two runs over a fresh store; says what is wrong, or None."""
     shutil.rmtree(store, ignore_errors=True)
     reader, texts = Reader(), []
     for count in (words.lines * 3 // 4, words.lines // 4):
-        text, wrong = try_lines(program, store, reader, built_items(chance, trees, count, reader), chance.choice([b"", b"\n"]), counts)
+        lines = query_items(chance, count) if words.queries else built_items(chance, trees, count, reader)
+        text, wrong = try_lines(program, store, reader, lines, chance.choice([b"", b"\n"]), tally)
         texts.append(text)
         if wrong:
             return "%s; the input is kept as %s" % (wrong, " and ".join(keep("lines", each) for each in texts))
@@ -592,17 +619,18 @@ def try_store(program, store, chance, trees, words, counts):
 
 
 def compare(words):
-    program, chance, trees, counts = find_program(words.program), random.Random(words.seed), sample_lines(), {}
+    program, chance, trees, tally = find_program(words.program), random.Random(words.seed), sample_lines(), Tally()
     ends, number, wrong = time.monotonic() + 60 * words.minutes, 0, None
     with tempfile.TemporaryDirectory(prefix="line-reader-", dir=memory_folder()) as folder:
         while not wrong and (time.monotonic() < ends if words.minutes else number < words.runs):
             number += 1
-            wrong = try_store(program, os.path.join(folder, "store"), chance, trees, words, counts)
+            wrong = try_store(program, os.path.join(folder, "store"), chance, trees, words, tally)
     if wrong:
         print("store %d of seed %d: %s" % (number, words.seed, wrong))
-    for what in sorted(counts):
-        print("%9d  %s" % (counts[what], what))
-    print("%d printed lines compared over %d stores, seed %d: %s" % (sum(counts.values()), number, words.seed, "they differ" if wrong else "they agree on all"))
+    for what in sorted(tally.counts):
+        print("%9d  %s" % (tally.counts[what], what))
+    print("%d printed lines with %d documents and %d queries compared over %d stores, seed %d: %s" % (
+        tally.counts.total(), len(tally.documents), len(tally.queries), number, words.seed, "they differ" if wrong else "they agree on all"))
     return 1 if wrong else 0
 
 
@@ -610,6 +638,7 @@ def main():
     parser = argparse.ArgumentParser(description=__doc__.split("\n")[0])
     commands = parser.add_subparsers(dest="command", required=True)
     comparing = commands.add_parser("compare")
+    comparing.add_argument("--queries", action="store_true", help="writes and queries without faults alone")
     comparing.add_argument("--program")
     comparing.add_argument("--runs", type=int, default=20)
     comparing.add_argument("--lines", type=int, default=3000)
