@@ -1,5 +1,5 @@
 -- The events that a client takes: what each of them commits, or may bring to a later commit, has a spelling.
-use Rattle.std.specs.Prelude.{ℕ, ◌<◌, ◌≤◌, ◌^◌, List, length, IfSome, Option}
+use Rattle.std.specs.Prelude.{ℕ, ◌<◌, ◌≤◌, ◌^◌, nat_lt, Bool, ◌&&◌, not, List, length, IfSome, Option}
 use Rattle.value_model.specs.Storable.{AreStorableBytes}
 use Rattle.value_model.specs.Time.{IsMoment}
 use Rattle.value_model.specs.declared.document.Entry.TheVariants.{Found}
@@ -20,6 +20,10 @@ use Rattle.client_events.specs.declared.event.Event.TheVariants as event
 -- how many writes may be made at once
 abbrev pub max_writes : ℕ
 max_writes = 500
+
+-- so many writes may be made at once
+abbrev pub is_batch : ℕ → Bool
+is_batch count = nat_lt 0 count && not (nat_lt max_writes count)
 
 -- 1 to 500 writes that have a spelling, at a time of the years 1 to 9999
 pub record AreSpelledWrites (at : Timestamp) (writes : List Write) : Type 0 where

@@ -1,10 +1,20 @@
+ghost use Rattle.std.specs.Prelude.{◌≡◌};
+ghost use Rattle.client_events.specs.Spelled.{is_batch as is_batch_of};
+
 use document_keys::{DocumentKey, Text};
 use mutations::{WriteResponse, Writes};
 use queries::Query;
 use value_model::{ListenResponse, RpcStatus, StreamName, Timestamp};
 
 /// How many writes may be made at once.
-pub const MAX_WRITES: u64 = 500;
+const MAX_WRITES: u64 = 500;
+
+/// Whether so many writes may be made at once: 1 to 500.
+pub fn is_batch(count: u64) -> bool
+    ensures { result ≡ is_batch_of count }
+{
+    0 < count && count <= MAX_WRITES
+}
 
 /// What a client is told: what an app asks of it, and what comes on the streams of the backend.
 #[derive(Debug, Drop)]

@@ -7,4 +7,4 @@
 
 mod event;
 
-pub use event::{Event, MAX_WRITES};
+pub use event::{Event, is_batch};

@@ -47,7 +47,7 @@ refusal_back None = refl
 refusal_back (Some refusal) = refl
 
 heard_as : (s : State) (e : Event) (t : Turn) (past : Past) → heard_then (record { state = s; event = e; turn = t }) past ≡ and_heard s (an_event e) (of_event t) past
-heard_as s e t past = λ i. heard_then (record { state = s; event = e; turn = record { refusal = sym (refusal_back t.refusal) i; commit = t.commit; lines = t.lines } }) past
+heard_as s e t past = λ i. heard_then (record { state = s; event = e; turn = record { refusal = sym (refusal_back t.refusal) i; commit = t.commit; lines = t.lines; limbo = t.limbo } }) past
 
 pub event_taken : {s : State} {past : Past} {e : Event} {outcome : Outcome} {client : Kept} → HandsOut s past e outcome client → IsTaken s past (an_event e) (Heard outcome) client
 event_taken {s} {past} {e} {outcome} {client} it = record {

@@ -18,7 +18,7 @@ use Rattle.line_reader.specs.declared.reading.Reading.TheVariants.{Line as an_ev
 use Rattle.line_reader.specs.declared.refusal.Refusal.{Refusal as Unread}
 use Rattle.line_reader.specs.declared.refusal.Refusal.TheVariants.{LineTooLong, BadLine, TooDeep, Unsupported, BadName, BadWrites, BadQuery}
 use Rattle.record_codec.specs.declared.commit.Commit.{Commit}
-use Rattle.record_codec.specs.declared.commit.Commit.TheVariants.{Acknowledge, Enqueue, Allocate, Point, Reject, Reset}
+use Rattle.record_codec.specs.declared.commit.Commit.TheVariants.{Acknowledge, Allocate, Drop, Enqueue, Point, Reject, Reset}
 use Rattle.local_store.specs.Documents.{document_of, standing_of}
 use Rattle.local_store.specs.State.{State, most_commits}
 use Rattle.queries.specs.declared.raw.QueryRule.{QueryRule}
@@ -30,7 +30,10 @@ use Rattle.views.specs.Viewed.{Viewed}
 use Rattle.views.specs.declared.raised.Raised.{Raised}
 use Rattle.sync_engine.specs.Answers.{Answers, Begins, are_left, ends, enqueued, last_target, listens}
 use Rattle.sync_engine.specs.Turns.{after, answered, commits, refused}
-use Rattle.sync_engine.specs.Asking.{AsksIf, IsAddLine, resets_by}
+use Rattle.limbo_resolver.specs.Limbo.{Limbo}
+use Rattle.queries.specs.declared.target.Target.TheVariants.{Document as DocumentTarget}
+use Rattle.sync_engine.specs.Asking.{AsksIf, IsAddLine, IsListenLine, resets_by}
+use Rattle.sync_engine.specs.LimboListens.{limbo_of}
 use Rattle.sync_engine.specs.Hearing as hearing
 use Rattle.sync_engine.specs.Hearing.{Blanks, HeardTurn, commits_if_left, watch_member_name}
 use Rattle.sync_engine.specs.Lines.{Line, Told, wrote, listening, unlistened, document, result, rejected, error, remove, send}
@@ -54,7 +57,7 @@ use Rattle.write_pipeline.specs.declared.answer.Closing.TheVariants.{Kept as Kee
 use Rattle.std.proofs.lemmas.List.{append_assoc}
 use Rattle.std.proofs.lemmas.Grind.{flat_map-append}
 use Rattle.sync_engine.specs.Settling.{Settles, ShowsAt, Stance, stance_of, told_to}
-use Rattle.sync_engine.specs.Turn.{IsTurn, SettlesAfter, answered_next, batches_behind, is_heard, snapshot_line, unless_refused, with_lines}
+use Rattle.sync_engine.specs.Turn.{IsTurn, SettlesAfter, answered_next, batches_behind, is_heard, snapshot_line, unless_refused, with_limbo, with_lines}
 use Rattle.sync_engine.specs.declared.refusal.Refusal.{Refusal}
 use Rattle.sync_engine.specs.declared.refusal.Refusal.TheVariants.{ListenerTaken, NoListener, StreamState, BadMessage, IdsSpent}
 use Rattle.sync_engine.proofs.Handing.{all_told}
@@ -193,8 +196,10 @@ module _ (root : Root) (number : ℕ) (s : State) (past : Past) (counted : IsCou
       subst (AnswerWithin root number s) (sym is) (if_left_within (Point at entries rows) [] (λ most. All-nil (LineWithin root most)))
   heard_within response true t (hearing.point_spent at gives new spent is) = subst (AnswerWithin root number s) (sym is) (refused_answer root number s IdsSpent few tt)
   heard_within response true t (hearing.mismatch id told count ids gives have blanks) = blanks_within ids [] t (λ most. All-nil (LineWithin root most)) blanks
-  heard_within response true t (hearing.ended ids status those listeners gives have are blanks) =
+  heard_within response true t (hearing.ended ids status those listeners gives none have are blanks) =
       blanks_within those (each (λ l. error l status) listeners) t (λ most. errors_within root most status listeners) blanks
+  heard_within response true t (hearing.dropped ids status keys those listeners gives drops some blanked are is) =
+      subst (AnswerWithin root number s) (sym is) (if_left_within (Drop keys those) (each (λ l. error l status) listeners) (λ most. errors_within root most status listeners))
   heard_within response true t (hearing.fails why refuses is) = subst (AnswerWithin root number s) (sym is) (refused_answer root number s (BadMessage stream.Watch (watch_member_name why)) few tt)
   heard_within response false t is = subst (AnswerWithin root number s) (sym is) (refused_answer root number s (StreamState stream.Watch false) few tt)
 
@@ -351,10 +356,21 @@ adds_within root most s (t ∷ targets) (line ∷ adds) are =
     (subst (LineWithin root most) (sym are.0.is) (streams.send_listen_within most root (Add t are.0.row.target (option_map resume_of are.0.row.held))))
     (adds_within root most s targets adds are.1)
 
+limbo_adds_within : (root : Root) (most : ℕ) (limbo : Limbo) (targets : List ℤ) (adds : List Line) → AllZip (IsListenLine limbo) targets adds → All (LineWithin root most) adds
+limbo_adds_within root most limbo [] [] are = All-nil (LineWithin root most)
+limbo_adds_within root most limbo [] (line ∷ adds) are = absurd are
+limbo_adds_within root most limbo (t ∷ targets) [] are = absurd are
+limbo_adds_within root most limbo (t ∷ targets) (line ∷ adds) are =
+    All-cons (LineWithin root most) line adds
+    (subst (LineWithin root most) (sym are.0.is) (streams.send_listen_within most root (Add t (DocumentTarget are.0.key) None)))
+    (limbo_adds_within root most limbo targets adds are.1)
+
 asks_within : (root : Root) (most : ℕ) (may : Bool) (s : State) (next : Past) (reset : ℤ → Bool) (lines : List Line) → AsksIf may s next reset lines → All (LineWithin root most) lines
 asks_within root most true s next reset lines asks =
     subst (All (LineWithin root most)) (sym asks.is)
+    (All-append (LineWithin root most) (each remove asks.removed ++ asks.adds) asks.listen_adds
     (All-append (LineWithin root most) (each remove asks.removed) asks.adds (removes_within root most asks.removed) (adds_within root most s asks.added asks.adds asks.rows))
+    (limbo_adds_within root most (limbo_of next) asks.listens asks.listen_adds asks.keys))
 asks_within root most false s next reset lines none = subst (All (LineWithin root most)) (sym none) (All-nil (LineWithin root most))
 
 with_lines_within : (root : Root) (number most : ℕ) (t : Turn) (lines : List Line) → IsWithin most (printed root number (of_event t)) → All (LineWithin root most) lines → IsWithin most (printed root number (of_event (with_lines t lines)))
@@ -370,10 +386,11 @@ event_within root s past e t number counted small few spelled is =
     let settled = is.settled in
     let most = (after s settled.commit).number in
     let within_it = settled_within root number s past e turn.answer (is_heard turn.answer.refusal) settled counted spelled small (answer_within root number s past counted few e turn.answer spelled turn.answers) turn.settles in
-    let asking = asks_within root most (is_none settled.refusal && is_watched (answered_next s past e settled)) (after s settled.commit) (answered_next s past e settled) (resets_by e past) is.asked is.asks in
+    let held = with_limbo settled is.limbo in
+    let asking = asks_within root most (is_heard settled.refusal && is_watched (answered_next s past e held)) (after s settled.commit) (answered_next s past e held) (resets_by e settled.commit past) is.asked is.asks in
     let sending = behind_within root most settled.refusal (steps_by e settled.refusal (steps_of past)) (after s settled.commit).batches in
     subst (λ (x : Turn). IsWithin (after s x.commit).number (printed root number (of_event x))) (sym is.is)
-    (with_lines_within root number most settled (is.asked ++ batches_behind s past e settled) within_it
+    (with_lines_within root number most held (is.asked ++ batches_behind s past e settled) within_it
     (All-append (LineWithin root most) is.asked (batches_behind s past e settled) asking sending))
 
 pub turn_within : (root : Root) (s : State) (past : Past) (reading : Reading) (t : LineTurn) (number : ℕ) → IsCounted s → HasListenerIds past → number < 2 ^ 64 → IsSpelledReading reading → IsLineTurn root s past reading t → IsWithin (after s t.commit).number (printed root number t)

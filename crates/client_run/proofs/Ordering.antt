@@ -31,8 +31,8 @@ event_comes root first s past e u it turn = by (is_heard (refusal_in (option_map
     same : refusal_in (option_map unheard u.refusal) ≡ u.refusal
     same = refusal_back u.refusal
 
-    as_turn : IsTurn root s past e (record { refusal = refusal_in (option_map unheard u.refusal); commit = u.commit; lines = u.lines })
-    as_turn = subst (λ (r : Option Refusal). IsTurn root s past e (record { refusal = r; commit = u.commit; lines = u.lines })) (sym same) turn
+    as_turn : IsTurn root s past e (record { refusal = refusal_in (option_map unheard u.refusal); commit = u.commit; lines = u.lines; limbo = u.limbo })
+    as_turn = subst (λ (r : Option Refusal). IsTurn root s past e (record { refusal = r; commit = u.commit; lines = u.lines; limbo = u.limbo })) (sym same) turn
 
     unmade : (r : Option Refusal) → u.refusal ≡ r → is_heard r ≡ false → u.commit ≡ None
     unmade None is not = absurd (true≢false not)

@@ -1,6 +1,7 @@
 -- What one line of input does: why it is refused, at most one commit, and the lines that answer it.
 use Rattle.std.specs.Prelude.{◌≡◌, List, [], Option, Some, None, option_map}
 use Rattle.document_keys.specs.Names.{Root}
+use Rattle.limbo_resolver.specs.Limbo.{Key}
 use Rattle.record_codec.specs.declared.commit.Commit.{Commit}
 use Rattle.local_store.specs.State.{State}
 use Rattle.client_events.specs.declared.event.Event.{Event}
@@ -18,18 +19,20 @@ pub data Cause : Type 0 where
   unread : Unread → Cause
   unheard : Refusal → Cause
 
+-- why it is refused, at most one commit, the lines that answer it, and the keys of the documents that are in limbo then
 pub record LineTurn : Type 0 where
   pub cause : Option Cause
   pub commit : Option Commit
   pub lines : List Line
+  pub limbo : List Key
 
 -- a line that is no event does nothing
 abbrev pub unread_turn : Unread → LineTurn
-unread_turn refusal = record { cause = Some (unread refusal); commit = None; lines = [] }
+unread_turn refusal = record { cause = Some (unread refusal); commit = None; lines = []; limbo = [] }
 
 -- the turn of an event, as that of its line
 abbrev pub of_event : Turn → LineTurn
-of_event t = record { cause = option_map unheard t.refusal; commit = t.commit; lines = t.lines }
+of_event t = record { cause = option_map unheard t.refusal; commit = t.commit; lines = t.lines; limbo = t.limbo }
 
 -- the line's event has the turn
 pub record IsEventTurn (root : Root) (s : State) (past : Past) (e : Event) (t : LineTurn) : Type 0 where
@@ -55,8 +58,11 @@ refusal_in (Some (unheard refusal)) = Some refusal
 
 -- the event of a line, with its turn
 abbrev pub entry_of : State → Event → LineTurn → Entry
-entry_of s e t =
-    record { state = s; event = e; turn = record { refusal = refusal_in t.cause; commit = t.commit; lines = t.lines } }
+entry_of s e t = record {
+  state = s;
+  event = e;
+  turn = record { refusal = refusal_in t.cause; commit = t.commit; lines = t.lines; limbo = t.limbo };
+}
 
 -- what was heard, with this line, if it was heard
 abbrev pub and_heard : State → Reading → LineTurn → Past → Past

@@ -4,7 +4,7 @@ ghost use Rattle.std.specs.Prelude.{◌≡◌, List, ◌++◌, IfOk};
 ghost use Rattle.std.specs.String.{string_bytes};
 ghost use Rattle.line_printer.specs.Lines.{document_tree, line_of};
 ghost use Rattle.local_store.specs.Documents.{document_of, standing_of};
-ghost use Rattle.sync_engine.specs.Asking.{IsAddLine};
+ghost use Rattle.sync_engine.specs.Asking.{IsAddLine, IsListenLine};
 ghost use Rattle.sync_engine.specs.Lines.{Line};
 ghost use Rattle.sync_engine.specs.Standing.{IsStanding};
 ghost use Rattle.sync_engine.specs.Telling.{IsRaised, IsSent, IsShown};
@@ -23,7 +23,7 @@ use line_printer::{
 };
 use line_reader::Refusal as Unread;
 use local_store::{LocalStore, documents_are_local};
-use queries::QueryRule;
+use queries::{QueryRule, Target};
 use std::alloc::Global;
 use sync_engine::{Client, Out, Outcome, Refusal};
 use value_model::Documents;
@@ -145,6 +145,20 @@ fn print_added(alloc: Global, client: &Client, id: i32) -> Result<String, NoMemo
     Ok(line)
 }
 
+/// The request that adds the listen of the document in limbo under the id.
+fn print_limbo_added(alloc: Global, client: &Client, id: i32) -> Result<String, NoMemory>
+    requires { (line : Line) × IsListenLine client.now.limbo.limbo id line }
+    ensures { IfOk result (λ text. (line : Line) → IsListenLine client.now.limbo.limbo id line
+        → string_bytes text ≡ line_of (tree_of client.now.root line)) }
+{
+    let Some(key) = client.limbo_document(id) else {
+        unreachable!();
+    };
+    let target = Target::Document(key.copy(alloc)?);
+    let line = print_add_target(alloc, client.root(), id, &target, None)?;
+    Ok(line)
+}
+
 /// A line that was handed out.
 fn print_out(alloc: Global, client: &Client, out: &Out) -> Result<String, NoMemory>
     requires standing { IsStanding client.now }
@@ -173,6 +187,7 @@ fn print_out(alloc: Global, client: &Client, out: &Out) -> Result<String, NoMemo
         Out::Error { id, status } => print_error(alloc, *id, status),
         Out::Raised(id) => print_raised(alloc, client, *id),
         Out::AddTarget(id) => print_added(alloc, client, *id),
+        Out::AddLimboTarget(id) => print_limbo_added(alloc, client, *id),
         Out::RemoveTarget(id) => print_remove_target(alloc, client.root(), *id),
         Out::SendHandshake => print_handshake(alloc, client.root()),
         Out::SendBatch(place) => print_sent(alloc, client, *place),

@@ -1,5 +1,5 @@
 -- What an item of a source is: an event, or why it is refused.
-use Rattle.std.specs.Prelude.{◌≡◌, ℕ, List, [], Bool, Option, Some, None, IsUtf8, length, take, nat_lt, not, ◌&&◌, if◌then◌else◌}
+use Rattle.std.specs.Prelude.{◌≡◌, ℕ, List, [], Option, Some, None, IsUtf8, length, take, if◌then◌else◌}
 use Rattle.std.specs.List.{AllZip}
 use Rattle.host_api.specs.Items.{Item, Bytes, Overlong}
 use Rattle.serde_json.specs.Data.{Data}
@@ -15,7 +15,7 @@ use Rattle.queries.specs.declared.raw.RawQuery.{RawQuery}
 use Rattle.queries.specs.declared.raw.QueryFault.TheVariants as query_fault
 use Rattle.queries.specs.Queried.{IsQueryOf, HasQueryFault}
 use Rattle.client_events.specs.declared.event.Event.TheVariants as event
-use Rattle.client_events.specs.Spelled.{max_writes}
+use Rattle.client_events.specs.Spelled.{is_batch}
 use Rattle.line_reader.specs.Faults.{LineFaults}
 use Rattle.line_reader.specs.Grammar.{Spells}
 use Rattle.line_reader.specs.declared.raw_event.RawEvent.{RawEvent}
@@ -39,10 +39,6 @@ refusal_of json_fault.TooDeep = Some TooDeep
 refusal_of (json_fault.Unsupported member) = Some (Unsupported member)
 refusal_of (json_fault.BadName bad) = Some (BadName bad)
 refusal_of json_fault.NoMemory = None
-
--- so many writes may be made at once
-abbrev pub is_batch : ℕ → Bool
-is_batch count = nat_lt 0 count && not (nat_lt max_writes count)
 
 -- writes, unless there are none or too many
 abbrev pub batch_reading : Timestamp → List Write → Reading

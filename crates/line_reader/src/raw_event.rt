@@ -4,12 +4,12 @@ ghost use Rattle.value_model.specs.Time.{IsMoment};
 ghost use Rattle.json_messages.specs.Storable.{IsStorableAnswer, IsStorableResponse};
 ghost use Rattle.json_queries.specs.Storable.{IsStorableRawQuery};
 ghost use Rattle.json_rpc.specs.Storable.{IsStorableWrite};
-ghost use Rattle.line_reader.specs.Reading.{is_batch as is_batch_of, batch_reading, IsListenerReading, IsReadingOf};
+ghost use Rattle.line_reader.specs.Reading.{batch_reading, IsListenerReading, IsReadingOf};
 ghost use Rattle.line_reader.specs.Spelled.{HasCountedOrders, HoldsStorable, IsSpelledReading};
 
 use crate::reading::Reading;
 use crate::refusal::Refusal;
-use client_events::{Event, MAX_WRITES};
+use client_events::{Event, is_batch};
 use document_keys::{DocumentKey, NoMemory, Text};
 use mutations::{WriteResponse, Writes};
 use queries::{Query, QueryFault, RawQuery, Target};
@@ -41,13 +41,6 @@ pub enum RawEvent {
     BadWritten(Text),
     /// The timer went off.
     Timer,
-}
-
-/// Whether so many writes may be made at once.
-fn is_batch(count: u64) -> bool
-    ensures { result ≡ is_batch_of count }
-{
-    0 < count && count <= MAX_WRITES
 }
 
 /// The writes, unless there are none or too many.

@@ -7,7 +7,7 @@ use std::process::Abort;
 use std::test::Fail;
 
 /// The key `rooms/` and the number, in three digits.
-fn room(alloc: Global, number: u32) -> Result<DocumentKey, Fail> {
+pub(crate) fn room(alloc: Global, number: u32) -> Result<DocumentKey, Fail> {
     let id = format!(in alloc; "{number:03}")?;
     let mut segments = Vec::new(alloc);
     segments.push(Segment::read(alloc, "rooms")?)?;

@@ -9,6 +9,7 @@ use Rattle.client_events.specs.declared.event.Event.TheVariants as event
 use Rattle.durable_state.specs.Cached.{first_writes}
 use Rattle.host_api.specs.Host.{View}
 use Rattle.listen_protocol.specs.Calls.{Calls}
+use Rattle.limbo_resolver.specs.Limbo.{Key}
 use Rattle.listeners.specs.Table.{Table, viewed}
 use Rattle.local_store.specs.Files.{Moves}
 use Rattle.durable_state.specs.State.{IsAnswered}
@@ -39,7 +40,7 @@ use Rattle.sync_engine.specs.Concerned.{AreConcerned}
 use Rattle.sync_engine.specs.Lines.{Line, rejected, result, send}
 use Rattle.sync_engine.specs.Past.{Past, Turn, listener, raised_in, steps_by, steps_of}
 use Rattle.sync_engine.specs.Settling.{Stance}
-use Rattle.sync_engine.specs.Standing.{Kept, IsQuiet, GoesOn, StandsFor, StandsOn, stance_in}
+use Rattle.sync_engine.specs.Standing.{Kept, IsQuiet, GoesOn, StandsFor, StandsOn, limbo_in, stance_in}
 use Rattle.sync_engine.specs.Telling.{HandsSettled, IsQuietOrAmong, IsShown, KeepsRest, MovesBy, Raises}
 use Rattle.sync_engine.specs.Turn.{answered_next, is_heard}
 use Rattle.sync_engine.specs.Turns.{after, answered, commits, refused}
@@ -53,10 +54,10 @@ use Rattle.sync_engine.specs.declared.refusal.Refusal.TheVariants.{BadMessage, I
 use Rattle.sync_engine.specs.declared.watch_stream.Due.TheVariants.{Nothing}
 use Rattle.sync_engine.specs.declared.write_stream.WriteStream.{WriteStream}
 use Rattle.sync_engine.proofs.Committed.{moves_by}
-use Rattle.sync_engine.proofs.Following.{AreQuiet, IsPlain, are_quiet, follows_plain, stance_kept}
+use Rattle.sync_engine.proofs.Following.{AreQuiet, IsPlain, are_quiet, follows_plain, quiet_kept}
 use Rattle.sync_engine.proofs.Handing.{Handed, as_done, as_refused, handed, keeps_all, no_reset, raises_none}
 use Rattle.sync_engine.specs.Asking.{resets_by}
-use Rattle.sync_engine.specs.Stream.{reset_of}
+use Rattle.sync_engine.specs.Stream.{resets_of}
 use Rattle.sync_engine.specs.declared.watch_stream.WatchStream.{WatchStream}
 use Rattle.sync_engine.proofs.Quiet.{quiet_acknowledged, quiet_rejected}
 use Rattle.sync_engine.proofs.Steps.{few_by}
@@ -69,14 +70,13 @@ pub record KeepsButWrites (old new : Kept) : Type 0 where
   pub root : new.root ≡ old.root
   pub store : new.store ≡ old.store
   pub listeners : new.listeners ≡ old.listeners
+  pub limbo : new.limbo ≡ old.limbo
   pub watch : new.watch ≡ old.watch
 
-quiet_kept : {old new : Kept} → KeepsButWrites old new → AreQuiet old → AreQuiet new
-quiet_kept {old} {new} rest quiet id view there =
-    subst (λ (r : Root). IsQuiet r new.store.state (stance_in new id) view) (sym rest.root)
-    (subst (λ (x : Store). IsQuiet old.root x.state (stance_in new id) view) (sym rest.store)
-    (subst (λ (k : Stance). IsQuiet old.root old.store.state k view) (sym (stance_kept old new rest.listeners rest.watch id))
-    (quiet id view (ap (λ (t : Table). viewed t id) (sym rest.listeners) ∙ there))))
+still_quiet : {old new : Kept} → KeepsButWrites old new → AreQuiet old → AreQuiet new
+still_quiet {old} {new} rest quiet id view there =
+    quiet_kept old new old.store.state id view rest.root (ap (λ (x : Store). x.state) rest.store) rest.listeners rest.limbo rest.watch
+    (quiet id view (ap (λ (t : Table). viewed t id) (sym rest.listeners) ∙ there))
 
 -- an event that is none of the stream's of listeners, by which no listener begins or ends, and that makes no commit
 pub record IsOfWrites (s : State) (past : Past) (e : Event) (answer : Turn) : Type 0 where
@@ -88,8 +88,8 @@ hands_of_writes : {old new : Kept} {s : State} {past : Past} {outs : List Out} (
 hands_of_writes {old} {new} {s} {past} {outs} e answer heard stands rest such writes pending answers shown =
     handed s past e answer new new outs outs answers heard
     (follows_plain new e answer stands such.is_plain
-    (ap (λ (x : Store). x.state) rest.store ∙ stands.state ∙ ap (after s) (sym such.unmade)) rest.listeners rest.watch (ap (λ (c : Option Commit). (after s c).rows) such.unmade) writes pending)
-    keeps_all (raises_none outs (quiet_kept rest (are_quiet stands))) such.is_plain.unraised shown
+    (ap (λ (x : Store). x.state) rest.store ∙ stands.state ∙ ap (after s) (sym such.unmade)) rest.listeners rest.limbo rest.watch (ap (λ (c : Option Commit). (after s c).rows) such.unmade) writes pending)
+    keeps_all (raises_none outs (still_quiet rest (are_quiet stands))) such.is_plain.unraised shown
 
 -- a bad message closes the stream
 pub hands_closed : {old new : Kept} {s : State} {past : Past} {vec : Vec Out Global} (e : Event) (refusal : Refusal) → is_heard (Some refusal) ≡ true → new.watch.due ≡ Nothing → StandsFor old s past → KeepsButWrites old new → IsOfWrites s past e (refused refusal)
@@ -102,16 +102,16 @@ hands_closed {old} {new} {s} {past} {vec} e refusal heard idle stands rest such 
 pub hands_opened : {old new : Kept} {s : State} {past : Past} {vec : Vec Out Global} → old.watch.due ≡ Nothing → StandsFor old s past → KeepsButWrites old new → StandsOn new.writes (opened ∷ steps_of past) → Answers s past (event.Opened stream.Write) (answered (send the_first ∷ []))
     → vec.items ≡ SendHandshake ∷ [] → HandsSettled s past (event.Opened stream.Write) (Done vec) new
 hands_opened {old} {new} {s} {past} {vec} idle stands rest writes answers is =
-    as_done refl (no_reset past (event.Opened stream.Write) new (λ t. refl) (ap reset_of (ap (λ (w : WatchStream). w.due) rest.watch ∙ idle)))
+    as_done refl (no_reset past (event.Opened stream.Write) None new (λ t. refl) (ap resets_of (ap (λ (w : WatchStream). w.due) rest.watch ∙ idle)))
     (hands_of_writes {outs = vec.items} (event.Opened stream.Write) (answered (send the_first ∷ [])) refl stands rest
     (record { is_plain = record { step = refl; plain = λ id. refl; targets = λ id. refl; began = refl; unrequested = λ h. refl; unraised = λ id. refl }; unmade = refl })
     writes (omega arith) answers (subst (λ (os : List Out). AllZip (IsShown new) os (send the_first ∷ [])) (sym is) (refl, tt)))
 
 -- nothing is handed out
-pub hands_nothing : {old new : Kept} {s : State} {past : Past} {vec : Vec Out Global} (e : Event) → ((t : ℤ) → resets_by e past t ≡ false) → old.watch.due ≡ Nothing → StandsFor old s past → KeepsButWrites old new → IsOfWrites s past e (answered []) → StandsOn new.writes (steps_by e None (steps_of past)) → Answers s past e (answered [])
+pub hands_nothing : {old new : Kept} {s : State} {past : Past} {vec : Vec Out Global} (e : Event) → ((t : ℤ) → resets_by e None past t ≡ false) → old.watch.due ≡ Nothing → StandsFor old s past → KeepsButWrites old new → IsOfWrites s past e (answered []) → StandsOn new.writes (steps_by e None (steps_of past)) → Answers s past e (answered [])
     → vec.items ≡ [] → HandsSettled s past e (Done vec) new
 hands_nothing {old} {new} {s} {past} {vec} e never idle stands rest such writes answers is =
-    as_done refl (no_reset past e new never (ap reset_of (ap (λ (w : WatchStream). w.due) rest.watch ∙ idle)))
+    as_done refl (no_reset past e None new never (ap resets_of (ap (λ (w : WatchStream). w.due) rest.watch ∙ idle)))
     (hands_of_writes {outs = vec.items} e (answered []) refl stands rest such writes (few_by s past e (answered []) answers stands.pending) answers (subst (λ (os : List Out). AllZip (IsShown new) os []) (sym is) tt))
 
 -- ---- what the events come to
@@ -179,11 +179,11 @@ first_is (b ∷ bs) batch is = ap (λ (x : Batch). x.writes) (some_one b batch i
     some_one x y same = cc
 
 -- the listeners that no write of it concerns stay quiet
-quiet_or_first : {old : Kept} (mid : Kept) {past : Past} (batch : Batch) (ids : List ℕ) (commit : Commit) → StandsFor old old.store.state past → AreConcerned old.listeners batch.writes ids → first_batch old.store.state ≡ Some batch → mid.root ≡ old.root → mid.listeners ≡ old.listeners → mid.watch ≡ old.watch
+quiet_or_first : {old : Kept} (mid : Kept) {past : Past} (batch : Batch) (ids : List ℕ) (commit : Commit) → StandsFor old old.store.state past → AreConcerned old.listeners batch.writes ids → first_batch old.store.state ≡ Some batch → mid.root ≡ old.root → mid.listeners ≡ old.listeners → mid.limbo ≡ old.limbo → mid.watch ≡ old.watch
     → mid.store.state ≡ committed old.store.state commit
-    → ((stance : Stance) (view : Viewed) → ((write : Write) → Contains (first_writes old.store.state.batches) write → Rattle.listeners.specs.Concerns.Concerns view.target (written_key write) → ⊥) → IsQuiet old.root old.store.state stance view → IsQuiet old.root (committed old.store.state commit) stance view)
+    → ((stance : Stance) (limbo : List Key) (view : Viewed) → ((write : Write) → Contains (first_writes old.store.state.batches) write → Rattle.listeners.specs.Concerns.Concerns view.target (written_key write) → ⊥) → IsQuiet old.root old.store.state stance limbo view → IsQuiet old.root (committed old.store.state commit) stance limbo view)
     → IsQuietOrAmong ids mid
-quiet_or_first {old} mid batch ids commit stands concerned first root listeners watch state stays id view there = ⊎_elim inl (λ never. inr (quiet never)) (among_or_not ids id)
+quiet_or_first {old} mid batch ids commit stands concerned first root listeners limbo watch state stays id view there = ⊎_elim inl (λ never. inr (quiet never)) (among_or_not ids id)
   where
     was : viewed old.listeners id ≡ Some view
     was = ap (λ (t : Table). viewed t id) (sym listeners) ∙ there
@@ -191,14 +191,12 @@ quiet_or_first {old} mid batch ids commit stands concerned first root listeners 
     writes : first_writes old.store.state.batches ≡ batch.writes
     writes = first_is old.store.state.batches batch first
 
-    quiet : (Contains ids id → ⊥) → IsQuiet mid.root mid.store.state (stance_in mid id) view
+    quiet : (Contains ids id → ⊥) → IsQuiet mid.root mid.store.state (stance_in mid id) (limbo_in mid id) view
     quiet never =
-        subst (λ (r : Root). IsQuiet r mid.store.state (stance_in mid id) view) (sym root)
-        (subst (λ (t : State). IsQuiet old.root t (stance_in mid id) view) (sym state)
-        (subst (λ (k : Stance). IsQuiet old.root (committed old.store.state commit) k view) (sym (stance_kept old mid listeners watch id))
-        (stays (stance_in old id) view
+        quiet_kept old mid (committed old.store.state commit) id view root state listeners limbo watch
+        (stays (stance_in old id) (limbo_in old id) view
         (λ write one concerns. never (concerned.each id (record { write = write; one = subst (λ (ws : List Write). Contains ws write) writes one; concerned = record { view = view; there = was; concerns = concerns } })))
-        (are_quiet stands id view was))))
+        (are_quiet stands id view was))
 
 pub rejects_is : (s : State) (batch : Batch) (status : RpcStatus) → s.number < most_commits → first_batch s ≡ Some batch → rejects s (first_batch s) status ≡ commits (Reject batch.id) (rejected batch.id (s.number + 1) status ∷ [])
 rejects_is s batch status few first = ap (λ (b : Option Batch). rejects s b status) first ∙ ap (λ b. if b then commits (Reject batch.id) (rejected batch.id (s.number + 1) status ∷ []) else refused IdsSpent) (lt-ltb s.number most_commits few)
@@ -218,36 +216,36 @@ settles_not s batch time results many = ap (λ b. if b then commits (Acknowledge
 -- a batch is rejected
 pub hands_rejected : {old new : Kept} (mid : Kept) {past : Past} {before : List Out} {vec : Vec Out Global} {given : List ℕ} (batch : Batch) (status : RpcStatus) (ids : List ℕ) → old.watch.due ≡ Nothing → StandsFor old old.store.state past → AreConcerned old.listeners batch.writes ids
     → old.store.state.number < most_commits → first_batch old.store.state ≡ Some batch → old.writes.is_open ≡ true → closing_of (steps_of past) status.code ≡ Rejects
-    → mid.root ≡ old.root → mid.listeners ≡ old.listeners → mid.watch ≡ old.watch → GoesOn old.writes mid.writes (λ h. closed ∷ h) → mid.store.state ≡ committed old.store.state (Reject batch.id)
+    → mid.root ≡ old.root → mid.listeners ≡ old.listeners → mid.limbo ≡ old.limbo → mid.watch ≡ old.watch → GoesOn old.writes mid.writes (λ h. closed ∷ h) → mid.store.state ≡ committed old.store.state (Reject batch.id)
     → KeepsRest mid new → given ≡ ids → (IsQuietOrAmong given mid → Raises mid new before vec.items) → before ≡ Rejected batch.id (old.store.state.number + 1) status ∷ []
     → HandsSettled old.store.state past (event.Closed stream.Write status) (Done vec) new
-hands_rejected {old} {new} mid {past} {before} {vec} {given} batch status ids idle stands concerned few first opening such root listeners watch goes state rest same raises begins =
+hands_rejected {old} {new} mid {past} {before} {vec} {given} batch status ids idle stands concerned few first opening such root listeners limbo watch goes state rest same raises begins =
     let answer = commits (Reject batch.id) (rejected batch.id (old.store.state.number + 1) status ∷ []) in
     let e = event.Closed stream.Write status in
     let answers : Answers old.store.state past e answer = sym (rejects_is old.store.state batch status few first) ∙ closed_rejects stands status opening such in
-    as_done refl (no_reset past e new (λ t. refl) (ap reset_of (ap (λ (w : WatchStream). w.due) (rest.watch ∙ watch) ∙ idle)))
+    as_done refl (no_reset past e answer.commit new (λ t. refl) (ap resets_of (ap (λ (w : WatchStream). w.due) (rest.watch ∙ watch) ∙ idle)))
     (handed old.store.state past e answer mid new before vec.items answers refl
-    (follows_plain mid e answer stands (record { step = refl; plain = λ id. refl; targets = λ id. refl; began = refl; unrequested = λ h. refl; unraised = λ id. refl }) state listeners watch refl (goes (steps_of past) stands.writes) (few_by old.store.state past e answer answers stands.pending))
+    (follows_plain mid e answer stands (record { step = refl; plain = λ id. refl; targets = λ id. refl; began = refl; unrequested = λ h. refl; unraised = λ id. refl }) state listeners limbo watch refl (goes (steps_of past) stands.writes) (few_by old.store.state past e answer answers stands.pending))
     rest
-    (raises (subst (λ (l : List ℕ). IsQuietOrAmong l mid) (sym same) (quiet_or_first mid batch ids (Reject batch.id) stands concerned first root listeners watch state (λ stance view never quiet. quiet_rejected old.root old.store.state stance batch.id view never quiet))))
+    (raises (subst (λ (l : List ℕ). IsQuietOrAmong l mid) (sym same) (quiet_or_first mid batch ids (Reject batch.id) stands concerned first root listeners limbo watch state (λ stance held view never quiet. quiet_rejected old.root old.store.state stance batch.id held view never quiet))))
     (λ id. refl) (subst (λ (os : List Out). AllZip (IsShown new) os (rejected batch.id (old.store.state.number + 1) status ∷ [])) (sym begins) (refl, tt)))
 
 -- a batch is acknowledged
 pub hands_acknowledged : {old new : Kept} (mid : Kept) {past : Past} {before : List Out} {vec : Vec Out Global} {given : List ℕ} (batch : Batch) (time : Timestamp) (response : WriteResponse) (ids : List ℕ) → old.watch.due ≡ Nothing → StandsFor old old.store.state past → AreConcerned old.listeners batch.writes ids
     → old.store.state.number < most_commits → first_batch old.store.state ≡ Some batch → response.commit_time ≡ Some time → old.writes.is_open ≡ true → Fits (steps_of past) (first_batch old.store.state) response Acknowledges
-    → mid.root ≡ old.root → mid.listeners ≡ old.listeners → mid.watch ≡ old.watch → GoesOn old.writes mid.writes (λ h. kept response.token ∷ acknowledged ∷ h) → mid.store.state ≡ committed old.store.state (Acknowledge batch.id time response.results)
+    → mid.root ≡ old.root → mid.listeners ≡ old.listeners → mid.limbo ≡ old.limbo → mid.watch ≡ old.watch → GoesOn old.writes mid.writes (λ h. kept response.token ∷ acknowledged ∷ h) → mid.store.state ≡ committed old.store.state (Acknowledge batch.id time response.results)
     → KeepsRest mid new → given ≡ ids → (IsQuietOrAmong given mid → Raises mid new before vec.items) → before ≡ Result batch.id (old.store.state.number + 1) time ∷ []
     → HandsSettled old.store.state past (event.Written response) (Done vec) new
-hands_acknowledged {old} {new} mid {past} {before} {vec} {given} batch time response ids idle stands concerned few first at opening fits root listeners watch goes state rest same raises begins =
+hands_acknowledged {old} {new} mid {past} {before} {vec} {given} batch time response ids idle stands concerned few first at opening fits root listeners limbo watch goes state rest same raises begins =
     let answer = commits (Acknowledge batch.id time response.results) (result batch.id (old.store.state.number + 1) time ∷ []) in
     let e = event.Written response in
     let answers : Answers old.store.state past e answer = written_as stands response _ opening (acknowledges batch time first at fits (sym (settles_is old.store.state batch.id time response.results few))) in
-    as_done refl (no_reset past e new (λ t. refl) (ap reset_of (ap (λ (w : WatchStream). w.due) (rest.watch ∙ watch) ∙ idle)))
+    as_done refl (no_reset past e answer.commit new (λ t. refl) (ap resets_of (ap (λ (w : WatchStream). w.due) (rest.watch ∙ watch) ∙ idle)))
     (handed old.store.state past e answer mid new before vec.items answers refl
-    (follows_plain mid e answer stands (record { step = refl; plain = λ id. refl; targets = λ id. refl; began = refl; unrequested = λ h. refl; unraised = λ id. refl }) state listeners watch refl
+    (follows_plain mid e answer stands (record { step = refl; plain = λ id. refl; targets = λ id. refl; began = refl; unrequested = λ h. refl; unraised = λ id. refl }) state listeners limbo watch refl
     (subst (λ (b : Bool). StandsOn mid.writes (kept response.token ∷ (if b then acknowledged else shaken) ∷ steps_of past)) (sym fits.0) (goes (steps_of past) stands.writes)) (few_by old.store.state past e answer answers stands.pending))
     rest
-    (raises (subst (λ (l : List ℕ). IsQuietOrAmong l mid) (sym same) (quiet_or_first mid batch ids (Acknowledge batch.id time response.results) stands concerned first root listeners watch state (λ stance view never quiet. quiet_acknowledged old.root old.store.state stance batch.id time response.results view never quiet))))
+    (raises (subst (λ (l : List ℕ). IsQuietOrAmong l mid) (sym same) (quiet_or_first mid batch ids (Acknowledge batch.id time response.results) stands concerned first root listeners limbo watch state (λ stance held view never quiet. quiet_acknowledged old.root old.store.state stance batch.id time response.results held view never quiet))))
     (λ id. refl) (subst (λ (os : List Out). AllZip (IsShown new) os (result batch.id (old.store.state.number + 1) time ∷ [])) (sym begins) (refl, tt)))
 
 pub some_moment : {found : Option Timestamp} {time : Timestamp} → found ≡ Some time → IfSome found IsMoment → IsMoment time

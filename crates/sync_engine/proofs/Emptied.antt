@@ -1,5 +1,5 @@
 -- listeners that stay quiet where rows are made blank
-use Rattle.std.proofs.Common.{◌≡◌, ◌↔◌, ◌⊎◌, ⊎_elim, inl, ℕ, zero, suc, ◌+◌, ◌<◌, ◌≤◌, ◌^◌, ℤ, nat_eq, Bool, true, false, IsTrue, List, [], ◌∷◌, length, Option, Some, None, is_some, IfSome, if◌then◌else◌, refl, sym, ap, subst, ◌∙◌}
+use Rattle.std.proofs.Common.{◌≡◌, ◌↔◌, ◌⊎◌, ⊎_elim, inl, ℕ, zero, suc, ◌+◌, ◌<◌, ◌≤◌, ◌^◌, ℤ, nat_eq, Bool, true, false, ◌||◌, IsTrue, List, [], ◌∷◌, length, Option, Some, None, is_some, IfSome, if◌then◌else◌, refl, sym, ap, subst, ◌∙◌}
 use Rattle.std.proofs.lemmas.Bool.{lt-ltb, le-ltb, true≢false}
 use Rattle.std.proofs.lemmas.List.Elements.{All-weaker, All-contains_itself}
 use Rattle.std.proofs.lemmas.Option.{same_Some}
@@ -19,15 +19,17 @@ use Rattle.target_cache.specs.Cache.{IsRow, id_at}
 use Rattle.target_cache.specs.declared.row.Row.{Row}
 use Rattle.value_model.specs.Documents.{DocumentMap}
 use Rattle.views.specs.Viewed.{Viewed}
+use Rattle.limbo_resolver.specs.Limbo.{Key}
 use Rattle.sync_engine.specs.Blanking.{IsBlanking, blanked_state}
 use Rattle.sync_engine.specs.Hearing as hearing
 use Rattle.sync_engine.specs.Hearing.{Blanks, HaveRows, IsAnyHeld}
 use Rattle.sync_engine.specs.Lines.{Line}
 use Rattle.sync_engine.specs.Past.{Past, Turn}
 use Rattle.sync_engine.specs.Settling.{IsHeldFor, IsHeldRow, MayStart, Stance, standing_or}
-use Rattle.sync_engine.specs.Standing.{HasTargetRow, IsQuiet, Kept, StandsFor, stance_in, standing_in}
+use Rattle.sync_engine.specs.Standing.{HasTargetRow, IsQuiet, Kept, StandsFor, limbo_in, stance_in, standing_in}
 use Rattle.sync_engine.specs.Turns.{after, commits, refused}
-use Rattle.sync_engine.specs.Watching.{is_offline}
+use Rattle.sync_engine.specs.Asking.{is_told_dropped}
+use Rattle.sync_engine.specs.Watching.{is_dropped_by, is_offline}
 use Rattle.sync_engine.specs.declared.online.OnlineState.TheVariants.{Online}
 use Rattle.sync_engine.specs.declared.refusal.Refusal.TheVariants.{IdsSpent}
 use Rattle.sync_engine.proofs.Following.{are_quiet}
@@ -37,7 +39,7 @@ use Rattle.sync_engine.proofs.Showing.{row_starts}
 -- ---- what an event comes to by which rows are made blank, where one is held
 
 abbrev pub blank_turn : Bool → List ℕ → List Line → Turn
-blank_turn blanks rows lines = record { refusal = None; commit = if blanks then Some (Reset rows) else None; lines = lines }
+blank_turn blanks rows lines = record { refusal = None; commit = if blanks then Some (Reset rows) else None; lines = lines; limbo = [] }
 
 pub after_blank : (s : State) (blanks : Bool) (rows : List ℕ) (lines : List Line) → after s (blank_turn blanks rows lines).commit ≡ blanked_state blanks s rows
 after_blank s true rows lines = refl
@@ -53,6 +55,20 @@ spent_blanks s rows lines it many = hearing.held it (sym (ap (λ b. if b then co
 pub batches_blank : (s : State) (blanks : Bool) (rows : List ℕ) → (blanked_state blanks s rows).batches ≡ s.batches
 batches_blank s true rows = refl
 batches_blank s false rows = refl
+
+-- such a commit drops no key
+pub blank_drops : (blanks : Bool) (rows : List ℕ) (x : ℤ) (b : Bool) → (b || is_dropped_by (if blanks then Some (Reset rows) else None) x) ≡ b
+blank_drops true rows x true = refl
+blank_drops true rows x false = refl
+blank_drops false rows x true = refl
+blank_drops false rows x false = refl
+
+pub blank_resets : (blanks : Bool) (rows : List ℕ) (past : Past) (x : ℤ) (b : Bool)
+    → (b || (is_dropped_by (if blanks then Some (Reset rows) else None) x || is_told_dropped (if blanks then Some (Reset rows) else None) past x)) ≡ b
+blank_resets true rows past x true = refl
+blank_resets true rows past x false = refl
+blank_resets false rows past x true = refl
+blank_resets false rows past x false = refl
 
 -- ---- the documents stay
 
@@ -83,7 +99,7 @@ row_held (r ∷ rows) first id (suc place) row there some = row_held rows (first
 held_one : (rows : List Row) (id : ℕ) (t : ℤ) → IsHeldRow (holding id None rows) t → IsHeldRow rows t
 held_one rows id t it = record { row = it.row; of_id = record { place = it.of_id.place; is = it.of_id.is; there = row_held rows 2 id it.of_id.place it.row it.of_id.there it.held }; held = it.held }
 
-held_blanked : (ids : List ℕ) (rows : List Row) (t : ℤ) → IsHeldRow (blanked ids rows) t → IsHeldRow rows t
+pub held_blanked : (ids : List ℕ) (rows : List Row) (t : ℤ) → IsHeldRow (blanked ids rows) t → IsHeldRow rows t
 held_blanked [] rows t it = it
 held_blanked (id ∷ ids) rows t it = held_one rows id t (held_blanked ids (holding id None rows) t it)
 
@@ -93,7 +109,7 @@ held_state s true ids None it = it
 held_state s true ids (Some t) it = held_blanked ids s.rows t it
 
 -- who has a row has it still
-row_blanked : (ids : List ℕ) (rows : List Row) (t : ℤ) → HasTargetRow rows t → HasTargetRow (blanked ids rows) t
+pub row_blanked : (ids : List ℕ) (rows : List Row) (t : ℤ) → HasTargetRow rows t → HasTargetRow (blanked ids rows) t
 row_blanked [] rows t has = has
 row_blanked (id ∷ ids) rows t has = row_blanked ids (holding id None rows) t (one has)
   where
@@ -117,18 +133,18 @@ starts_in s stance online rows = by stance.target refl rows
 
 -- ---- a listener whose target stands as before stays quiet
 
-module _ (old new : Kept) (past : Past) (blanks : Bool) (ids : List ℕ) (stands : StandsFor old old.store.state past) (root : new.root ≡ old.root) (state : new.store.state ≡ blanked_state blanks old.store.state ids) (online : new.watch.online ≡ Online) where
-  pub quiet_blank : (q : ℕ) (view : Viewed) → viewed old.listeners q ≡ Some view → target_of new.listeners q ≡ target_of old.listeners q → ((x : ℤ) → target_of old.listeners q ≡ Some x → standing_in new.watch.current.targets.items x ≡ standing_in old.watch.current.targets.items x) → IsQuiet new.root new.store.state (stance_in new q) view
-  quiet_blank q view there link keeps =
-      subst (λ (r : Root). IsQuiet r new.store.state (stance_in new q) view) (sym root)
-      (quiet_falls old.root old.store.state new.store.state (stance_in old q) (stance_in new q) view documents touched standing falls may.0 may.1 (are_quiet stands q view there))
+module _ (old new : Kept) (past : Past) (t : State) (stands : StandsFor old old.store.state past) (root : new.root ≡ old.root) (state : new.store.state ≡ t) (online : new.watch.online ≡ Online)
+    (held_falls : (o : Option ℤ) → IsHeldFor t.rows o → IsHeldFor old.store.state.rows o) (rows_stay : (o : Option ℤ) → IfSome o (HasTargetRow old.store.state.rows) → IfSome o (HasTargetRow t.rows)) where
+  pub quiet_over : (q : ℕ) (view : Viewed) → viewed old.listeners q ≡ Some view
+      → ((key : List (List ℕ)) → Concerns view.target key → map.get (documents_of t) key ≡ map.get (documents_of old.store.state) key) → TouchesSame old.store.state t view
+      → target_of new.listeners q ≡ target_of old.listeners q → ((x : ℤ) → target_of old.listeners q ≡ Some x → standing_in new.watch.current.targets.items x ≡ standing_in old.watch.current.targets.items x) → limbo_in new q ≡ limbo_in old q
+      → IsQuiet new.root new.store.state (stance_in new q) (limbo_in new q) view
+  quiet_over q view there documents touched link keeps same_limbo =
+      subst (λ (r : Root). IsQuiet r new.store.state (stance_in new q) (limbo_in new q) view) (sym root)
+      (subst (λ (x : State). IsQuiet old.root x (stance_in new q) (limbo_in new q) view) (sym state)
+      (subst (λ (held : List Key). IsQuiet old.root t (stance_in new q) held view) (sym same_limbo)
+      (quiet_falls old.root old.store.state t (stance_in old q) (stance_in new q) (limbo_in old q) view documents touched standing falls may.0 may.1 (are_quiet stands q view there))))
     where
-      documents : (key : List (List ℕ)) → Concerns view.target key → map.get (documents_of new.store.state) key ≡ map.get (documents_of old.store.state) key
-      documents key concerns = ap (λ (m : DocumentMap). map.get m key) (ap documents_of state ∙ documents_blank old.store.state blanks ids)
-
-      touched : TouchesSame old.store.state new.store.state view
-      touched key concerns = subst (λ (keys : List (List (List ℕ))). Contains keys key ↔ Contains (touched_keys_of old.store.state) key) (sym (ap touched_keys_of state ∙ touched_blank old.store.state blanks ids)) (λ it. it, λ it. it)
-
       keys : (o : Option ℤ) → target_of new.listeners q ≡ o → option_and_then (standing_in new.watch.current.targets.items) o ≡ option_and_then (standing_in old.watch.current.targets.items) o
       keys None is = refl
       keys (Some x) is = keeps x (sym link ∙ is)
@@ -136,20 +152,27 @@ module _ (old new : Kept) (past : Past) (blanks : Bool) (ids : List ℕ) (stands
       standing : (stance_in new q).standing ≡ (stance_in old q).standing
       standing = ap standing_or (keys (target_of new.listeners q) refl ∙ ap (option_and_then (standing_in old.watch.current.targets.items)) link)
 
-      falls : (IsHeldFor new.store.state.rows (target_of new.listeners q) ⊎ (is_offline new.watch.online ≡ true)) → IsHeldFor old.store.state.rows (target_of old.listeners q) ⊎ (is_offline old.watch.online ≡ true)
+      falls : (IsHeldFor t.rows (target_of new.listeners q) ⊎ (is_offline new.watch.online ≡ true)) → IsHeldFor old.store.state.rows (target_of old.listeners q) ⊎ (is_offline old.watch.online ≡ true)
       falls it = ⊎_elim
-          (λ held. inl (subst (IsHeldFor old.store.state.rows) link (held_state old.store.state blanks ids (target_of new.listeners q) (subst (λ (t : State). IsHeldFor t.rows (target_of new.listeners q)) state held))))
+          (λ held. inl (subst (IsHeldFor old.store.state.rows) link (held_falls (target_of new.listeners q) held)))
           (λ off. absurd (true≢false (sym off ∙ ap is_offline online)))
           it
 
-      rows : IfSome (target_of new.listeners q) (HasTargetRow new.store.state.rows)
-      rows =
-          subst (λ (t : State). IfSome (target_of new.listeners q) (HasTargetRow t.rows)) (sym state)
-          (rows_state old.store.state blanks ids (target_of new.listeners q)
-          (subst (λ (o : Option ℤ). IfSome o (HasTargetRow old.store.state.rows)) (sym (link ∙ stands.targets q)) (stands.rows q)))
+      rows : IfSome (target_of new.listeners q) (HasTargetRow t.rows)
+      rows = rows_stay (target_of new.listeners q) (subst (λ (o : Option ℤ). IfSome o (HasTargetRow old.store.state.rows)) (sym (link ∙ stands.targets q)) (stands.rows q))
 
-      may : (b : Bool) × MayStart new.store.state (stance_in new q) b
-      may = starts_in new.store.state (stance_in new q) (ap is_offline online) rows
+      may : (b : Bool) × MayStart t (stance_in new q) b
+      may = starts_in t (stance_in new q) (ap is_offline online) rows
+
+-- so it does where rows are made blank
+pub quiet_blank : (old new : Kept) (past : Past) (blanks : Bool) (ids : List ℕ) → StandsFor old old.store.state past → new.root ≡ old.root → new.store.state ≡ blanked_state blanks old.store.state ids → new.watch.online ≡ Online
+    → (q : ℕ) (view : Viewed) → viewed old.listeners q ≡ Some view → target_of new.listeners q ≡ target_of old.listeners q → ((x : ℤ) → target_of old.listeners q ≡ Some x → standing_in new.watch.current.targets.items x ≡ standing_in old.watch.current.targets.items x) → limbo_in new q ≡ limbo_in old q
+    → IsQuiet new.root new.store.state (stance_in new q) (limbo_in new q) view
+quiet_blank old new past blanks ids stands root state online q view there link keeps same_limbo =
+    quiet_over old new past (blanked_state blanks old.store.state ids) stands root state online (held_state old.store.state blanks ids) (rows_state old.store.state blanks ids) q view there
+    (λ key concerns. ap (λ (m : DocumentMap). map.get m key) (documents_blank old.store.state blanks ids))
+    (λ key concerns. subst (λ (keys : List (List (List ℕ))). Contains keys key ↔ Contains (touched_keys_of old.store.state) key) (sym (touched_blank old.store.state blanks ids)) (λ it. it, λ it. it))
+    link keeps same_limbo
 
 -- ---- the commit fits
 

@@ -13,6 +13,7 @@ use Rattle.document_keys.specs.Names.{Root}
 use Rattle.client_events.specs.declared.event.Event.{Event}
 use Rattle.client_events.specs.declared.event.Event.TheVariants as event
 use Rattle.record_codec.specs.declared.commit.Commit.{Commit}
+use Rattle.limbo_listens.specs.Listens.{is_id as limbo_id}
 use Rattle.listeners.proofs.Tabled.{no_target}
 use Rattle.listeners.specs.Table.{Changes, ChangesTarget, IsWanted, Listening as Link, Table, fresh, is_id, target_of, viewed}
 use Rattle.local_store.specs.Documents.{document_of, standing_of}
@@ -35,10 +36,11 @@ use Rattle.sync_engine.specs.Lines.{Line, document, listening, unlistened, wrote
 use Rattle.write_pipeline.specs.Order.{Steps, outstanding}
 use Rattle.sync_engine.specs.Past.{Turn, Past, asked, is_refused_in, listener, raised_in, sent_in, steps_of, told, unless_refused}
 use Rattle.sync_engine.specs.Settling.{Stance, stance_by, stance_of, standing_or}
-use Rattle.sync_engine.specs.Stream.{Ends, reset_of}
+use Rattle.sync_engine.specs.Stream.{Ends, resets_of}
 use Rattle.sync_engine.specs.Turn.{answered_next, is_heard}
 use Rattle.sync_engine.specs.Watching.{is_offline, is_wanted, listened, listened_in, passes, requested_in, step_by}
-use Rattle.sync_engine.specs.Standing.{HasTargetRow, IsQuiet, Kept, StandsFor, StandsOn, Watches, stance_in, standing_in}
+use Rattle.sync_engine.specs.LimboListens.{limbo_of}
+use Rattle.sync_engine.specs.Standing.{HasTargetRow, IsQuiet, Kept, StandsFor, StandsOn, Watches, limbo_in, stance_in, standing_in}
 use Rattle.sync_engine.specs.declared.watch_stream.Due.TheVariants.{Nothing, One}
 use Rattle.sync_engine.specs.declared.watch_stream.WatchStream.{WatchStream}
 use Rattle.sync_engine.specs.declared.write_stream.WriteStream.{WriteStream}
@@ -48,7 +50,7 @@ use Rattle.sync_engine.specs.declared.out.Out.{Out}
 use Rattle.sync_engine.specs.declared.out.Out.TheVariants.{Document, Listening, Unlistened, Wrote}
 use Rattle.sync_engine.specs.declared.out.Outcome.TheVariants.{Done}
 use Rattle.sync_engine.specs.declared.refusal.Refusal.TheVariants.{IdsSpent, ListenerTaken, NoListener}
-use Rattle.sync_engine.proofs.Following.{AreQuiet, Follows, are_quiet, follows_plain, stance_kept}
+use Rattle.sync_engine.proofs.Following.{AreQuiet, Follows, are_quiet, quiet_as}
 use Rattle.sync_engine.proofs.Handing.{as_done, handed, keeps_all, no_reset, raises_none, same_id}
 use Rattle.sync_engine.proofs.Passing.{watches_began, watches_ended}
 use Rattle.sync_engine.proofs.Quiet.{quiet_allocated, quiet_enqueued, slice_get_more}
@@ -60,6 +62,7 @@ use Rattle.sync_engine.proofs.Turning.{some_is, stays_on, viewed_linked}
 
 module _ (old new : Kept) (s : State) (past : Past) (id : ℕ) (target : ℤ) (wanted : Bool) (there : target_of old.listeners id ≡ Some target) (stands : StandsFor old s past) (idle : old.watch.due ≡ Nothing)
     (root : new.root ≡ old.root) (store : new.store ≡ old.store) (writes : new.writes ≡ old.writes) (changes : Changes id None old.listeners new.listeners) (links : ChangesTarget id None old.listeners new.listeners)
+    (forgets : (q : ℕ) → limbo_in new q ≡ (if limbo_id id q then [] else limbo_in old q)) (held : new.limbo.limbo ≡ old.limbo.limbo)
     (tells : IsTrue wanted ↔ IsWanted new.listeners target) (watched : Ends target wanted old.watch new.watch) where
   was : listened id past ≡ Some target
   was = sym (stands.targets id) ∙ there
@@ -103,13 +106,24 @@ module _ (old new : Kept) (s : State) (past : Past) (id : ℕ) (target : ℤ) (w
   answers : Answers s past (event.Unlisten id) (answered (unlistened id s.number ∷ []))
   answers = sym ended
 
-  follows_ended : Follows new s (answered_next s past (event.Unlisten id) (answered (unlistened id s.number ∷ [])))
+  -- who is no listener has nothing in limbo
+  unshown : (q : ℕ) → listener q (answered_next s past (event.Unlisten id) (answered (unlistened id s.number ∷ []))) ≡ None → limbo_in new q ≡ []
+  unshown q none = forgets q ∙ by (nat_eq id q) (ap (λ b. if b then [] else limbo_in old q) (same_id id q)) none
+    where
+      by : (b : Bool) → (if limbo_id id q then [] else limbo_in old q) ≡ (if b then [] else limbo_in old q) → (if b then None else listener q past) ≡ None → (if limbo_id id q then [] else limbo_in old q) ≡ []
+      by true is gone = is
+      by false is gone = is ∙ stands.unshown q gone
+
+  follows_ended : Follows new s (answered_next s past (event.Unlisten id) (answered (unlistened id s.number ∷ []))) (limbo_of past)
   follows_ended = record {
     state = ap (λ (x : Store). x.state) store ∙ stands.state;
     listeners = listeners;
     targets = targets;
     rows = rows;
-    watch = watches_ended s past (event.Unlisten id) (answered (unlistened id s.number ∷ [])) refl old.watch new.watch target wanted (λ h. refl) wanted_others wanted_now (has_wanted target past (id, was)) idle watched stands.watch;
+    unshown = unshown;
+    limbo_is = held ∙ stands.limbo_is;
+    sound = stands.sound;
+    watch = watches_ended s past (event.Unlisten id) (answered (unlistened id s.number ∷ [])) refl old.watch new.watch (limbo_of past) target wanted (λ h. refl) wanted_others wanted_now (has_wanted target past (id, was)) idle watched stands.watch;
     writes = stays_on (sym writes) stands.writes;
     pending = stands.pending;
   }
@@ -118,13 +132,11 @@ module _ (old new : Kept) (s : State) (past : Past) (id : ℕ) (target : ℤ) (w
   quiet : AreQuiet new
   quiet q view now = by (nat_eq id q) refl
     where
-      by : (b : Bool) → nat_eq id q ≡ b → IsQuiet new.root new.store.state (stance_in new q) view
+      by : (b : Bool) → nat_eq id q ≡ b → IsQuiet new.root new.store.state (stance_in new q) (limbo_in new q) view
       by true same = absurd (none-some view (sym (changes q ∙ ap (λ b. if b then None else viewed old.listeners q) (same_id id q ∙ same)) ∙ now))
       by false other =
-          subst (λ (r : Root). IsQuiet r new.store.state (stance_in new q) view) (sym root)
-          (subst (λ (x : Store). IsQuiet old.root x.state (stance_in new q) view) (sym store)
-          (subst (λ (k : Stance). IsQuiet old.root old.store.state k view) (sym same_stance)
-          (are_quiet stands q view (sym (changes q ∙ ap (λ b. if b then None else viewed old.listeners q) (same_id id q ∙ other)) ∙ now))))
+          quiet_as old new old.store.state q view root (ap (λ (x : Store). x.state) store) same_stance (forgets q ∙ ap (λ b. if b then [] else limbo_in old q) (same_id id q ∙ other))
+          (are_quiet stands q view (sym (changes q ∙ ap (λ b. if b then None else viewed old.listeners q) (same_id id q ∙ other)) ∙ now))
         where
           link : target_of new.listeners q ≡ target_of old.listeners q
           link = links q ∙ ap (λ b. if b then None else target_of old.listeners q) (same_id id q ∙ other)
@@ -146,7 +158,7 @@ module _ (old new : Kept) (s : State) (past : Past) (id : ℕ) (target : ℤ) (w
 
   pub hands_ended : {vec : Vec Out Global} → vec.items ≡ Unlistened id old.store.state.number ∷ [] → HandsSettled s past (event.Unlisten id) (Done vec) new
   hands_ended {vec} is =
-      as_done refl (no_reset past (event.Unlisten id) new (λ t. refl) (ap reset_of watched.due))
+      as_done refl (no_reset past (event.Unlisten id) None new (λ t. refl) (ap resets_of watched.due))
       (handed s past (event.Unlisten id) (answered (unlistened id s.number ∷ [])) new new vec.items vec.items answers refl follows_ended keeps_all (raises_none vec.items quiet) (λ q. refl)
       (subst (λ (os : List Out). AllZip (IsShown new) os (unlistened id s.number ∷ [])) (sym is) (ap (λ (x : State). unlistened id x.number) (sym stands.state), tt)))
 

@@ -1,6 +1,6 @@
 -- what is handed out for an event
 use Rattle.std.proofs.Common.{◌≡◌, ℕ, ◌≤◌, ◌<◌, ℤ, Bool, true, false, not, ◌||◌, nat_eq, List, [], ◌∷◌, ◌++◌, map as each, length, Option, Some, None, option_map, is_some, IfSome, if◌then◌else◌, Vec, Global, refl, sym, ap, subst, ◌∙◌, arith, append-nil}
-use Rattle.std.specs.List.{All, AllPairs, AllZip}
+use Rattle.std.specs.List.{All, AllPairs, AllZip, Contains}
 use Rattle.std.proofs.lemmas.Bool.{eqb-true, eqb-false, true≢false}
 use Rattle.std.proofs.lemmas.Option.{none-some}
 use Rattle.std.proofs.lemmas.List.Elements.{All-nil, All-cons, All-head, All-tail, All-weaker}
@@ -8,7 +8,10 @@ use Rattle.document_keys.specs.Names.{Root}
 use Rattle.client_events.specs.declared.event.Event.{Event}
 use Rattle.listeners.proofs.Ids.{one_id, other_ids}
 use Rattle.listeners.specs.Table.{is_id, viewed}
+use Rattle.limbo_resolver.specs.Limbo.{Limbo}
 use Rattle.local_store.specs.State.{State}
+use Rattle.record_codec.specs.declared.commit.Commit.{Commit}
+use Rattle.views.specs.declared.raised.Raised.{Raised}
 use Rattle.local_store.specs.Store.{Store}
 use Rattle.queries.proofs.Counting.{pairs_tail}
 use Rattle.views.specs.Viewed.{Viewed}
@@ -18,14 +21,15 @@ use Rattle.sync_engine.specs.Lines.{Line, Told, wrote, listening, unlistened, do
 use Rattle.write_pipeline.specs.Order.{Steps, outstanding}
 use Rattle.sync_engine.specs.Past.{Turn, Past, asked, is_refused_in, listener, raised_in, sent_in, steps_by, steps_of, told, unless_refused}
 use Rattle.sync_engine.specs.Settling.{IsBelow, Settles, ShowsAt, Stance, stance_of, told_to}
-use Rattle.sync_engine.specs.Standing.{HasTargetRow, IsQuiet, Kept, StandsFor, StandsOn, Watches, stance_in}
+use Rattle.sync_engine.specs.LimboListens.{going_on, limbo_of}
+use Rattle.sync_engine.specs.Standing.{HasTargetRow, IsQuiet, Kept, StandsAfter, StandsFor, StandsOn, StandsWith, Watches, limbo_in, stance_in}
 use Rattle.sync_engine.specs.Telling.{HandsOut, HandsSettled, IsOutcome, IsRaised, IsShown, KeepsRest, Raises, ResetsAsDue}
 use Rattle.sync_engine.specs.Asking.{resets_by}
-use Rattle.sync_engine.specs.Stream.{reset_of}
+use Rattle.sync_engine.specs.Stream.{resets_of}
 use Rattle.sync_engine.specs.Turn.{IsSettled, SettlesAfter, answered_next, is_heard, snapshot_line, with_snapshots}
-use Rattle.sync_engine.specs.Watching.{begun_by, begun_in, listened, listened_by, listened_in, requested_by}
+use Rattle.sync_engine.specs.Watching.{begun_by, begun_in, calls_of, listened, listened_by, listened_in, requested_by, step_by}
 use Rattle.sync_engine.specs.declared.out.Out.{Out}
-use Rattle.sync_engine.specs.declared.out.Out.TheVariants.{Document, Listening, Unlistened, Wrote, Result, Rejected, Error, Raised as RaisedBy, AddTarget, RemoveTarget, SendHandshake, SendBatch}
+use Rattle.sync_engine.specs.declared.out.Out.TheVariants.{Document, Listening, Unlistened, Wrote, Result, Rejected, Error, Raised as RaisedBy, AddLimboTarget, AddTarget, RemoveTarget, SendHandshake, SendBatch}
 use Rattle.sync_engine.specs.declared.out.Outcome.{Outcome}
 use Rattle.sync_engine.specs.declared.out.Outcome.TheVariants.{Done, Refused}
 use Rattle.sync_engine.specs.declared.refusal.Refusal.{Refusal}
@@ -107,13 +111,14 @@ zip_append R (x ∷ xs) (y ∷ ys) us vs first second = (first.0, zip_append R x
 pub record Handed (s : State) (past : Past) (e : Event) (answer : Turn) (outs : List Out) (client : Kept) : Type 0 where
   pub turn : Turn
   pub is_settled : IsSettled client.root s past e turn
-  pub stands : StandsFor client (after s turn.commit) (record { state = s; event = e; turn = turn } ∷ past)
+  pub stands : StandsWith client (after s turn.commit) (record { state = s; event = e; turn = turn } ∷ past) (going_on (calls_of past) (step_by e turn.refusal) (limbo_of past))
   pub shown : AllZip (IsShown client) outs turn.lines
   pub refusal : turn.refusal ≡ answer.refusal
+  pub commit : turn.commit ≡ answer.commit
 
 module _ (s : State) (past : Past) (e : Event) (answer : Turn) (mid new : Kept) (before after_them : List Out)
     (answers : Answers s past e answer) (heard : is_heard answer.refusal ≡ true)
-    (it : Follows mid (after s answer.commit) (answered_next s past e answer))
+    (it : Follows mid (after s answer.commit) (answered_next s past e answer) (going_on (calls_of past) (step_by e answer.refusal) (limbo_of past)))
     (rest : KeepsRest mid new) (raises : Raises mid new before after_them)
     (unraised : (id : ℕ) → raised_in id answer.lines ≡ None) where
   abbrev later : State
@@ -121,6 +126,9 @@ module _ (s : State) (past : Past) (e : Event) (answer : Turn) (mid new : Kept) 
 
   abbrev next : Past
   next = answered_next s past e answer
+
+  abbrev limbo : Limbo
+  limbo = going_on (calls_of past) (step_by e answer.refusal) (limbo_of past)
 
   abbrev ts : List Told
   ts = raises.told
@@ -181,22 +189,35 @@ module _ (s : State) (past : Past) (e : Event) (answer : Turn) (mid new : Kept) 
   stances_are : (id : ℕ) → stance_of behind id ≡ stance_of next id
   stances_are id = stance_behind past s e answer snaps no_target no_begin id
 
-  watch_is : Watches new.watch behind
+  watch_is : Watches new.watch behind limbo
   watch_is =
-      subst (λ (w : WatchStream). Watches w behind) (sym rest.watch)
+      subst (λ (w : WatchStream). Watches w behind limbo) (sym rest.watch)
       (watches_behind past s e answer snaps no_target no_begin (λ h. fold_told requested_by (λ b r t. refl) later ts h) it.watch)
 
-  stands : StandsFor new later behind
+  unshown : (id : ℕ) → listener id behind ≡ None → limbo_in new id ≡ []
+  unshown id none =
+      let never : listener id next ≡ None = untold (told_to id ts) (listener id next) (sym (behind_is id) ∙ none) in
+      raises.unshown id (it.listeners id ∙ never) ∙ it.unshown id never
+    where
+      untold : (r : Option Raised) (v : Option Viewed) → told r v ≡ None → v ≡ None
+      untold None v is = is
+      untold (Some raised) None is = refl
+      untold (Some raised) (Some view) is = absurd (none-some (record { target = view.target; raised = Some raised }) (sym is))
+
+  stands : StandsWith new later behind limbo
   stands = record {
     state = new_state;
     listeners = heard_then_is;
     targets = λ id. rest.targets id ∙ it.targets id ∙ sym (targets_are id);
     rows = λ id. subst (λ (o : Option ℤ). IfSome o (HasTargetRow later.rows)) (sym (targets_are id)) (it.rows id);
     quiet = λ id.
-        subst (λ (k : Stance). IfSome (listener id behind) (IsQuiet new.root later k)) (stance_same it id ∙ sym (stances_are id))
-        (subst (λ (v : Option Viewed). IfSome v (IsQuiet new.root later (stance_in mid id))) (heard_then_is id)
-        (subst (λ (root : Root). IfSome (viewed new.listeners id) (IsQuiet root later (stance_in mid id))) (sym rest.root)
-        (subst (λ (x : State). IfSome (viewed new.listeners id) (IsQuiet mid.root x (stance_in mid id))) it.state (raises.quiet id))));
+        subst (λ (k : Stance). IfSome (listener id behind) (IsQuiet new.root later k (limbo_in new id))) (stance_same it id ∙ sym (stances_are id))
+        (subst (λ (v : Option Viewed). IfSome v (IsQuiet new.root later (stance_in mid id) (limbo_in new id))) (heard_then_is id)
+        (subst (λ (root : Root). IfSome (viewed new.listeners id) (IsQuiet root later (stance_in mid id) (limbo_in new id))) (sym rest.root)
+        (subst (λ (x : State). IfSome (viewed new.listeners id) (IsQuiet mid.root x (stance_in mid id) (limbo_in new id))) it.state (raises.quiet id))));
+    unshown = unshown;
+    limbo_is = rest.limbo ∙ it.limbo_is;
+    sound = it.sound;
     watch = watch_is;
     writes = subst (λ (h : Steps). StandsOn new.writes h) (sym steps_same) (subst (λ (w : WriteStream). StandsOn w (steps_of next)) (sym rest.writes) it.writes);
     pending = subst (λ (h : Steps). outstanding h ≤ length later.batches) (sym steps_same) it.pending;
@@ -232,30 +253,31 @@ module _ (s : State) (past : Past) (e : Event) (answer : Turn) (mid new : Kept) 
     shown = subst (λ (os : List Out). AllZip (IsShown new) os turn.lines) (sym raises.outs)
         (zip_append (IsShown new) before answer.lines (each (λ (t : Told). RaisedBy t.id) ts) snaps first (shown ts (all_told ts raises.settles.ascending)));
     refusal = refl;
+    commit = refl;
   }
 
 -- ---- the outcome
 
-pub as_done : {s : State} {past : Past} {e : Event} {answer : Turn} {client : Kept} {vec : Vec Out Global} → answer.refusal ≡ None → ResetsAsDue past e client → Handed s past e answer vec.items client → HandsSettled s past e (Done vec) client
+pub as_done : {s : State} {past : Past} {e : Event} {answer : Turn} {client : Kept} {vec : Vec Out Global} → answer.refusal ≡ None → ResetsAsDue past e answer.commit client → Handed s past e answer vec.items client → HandsSettled s past e (Done vec) client
 as_done {s} {past} {e} {answer} {client} {vec} none resets it = record {
   turn = it.turn;
   is_settled = it.is_settled;
-  stands = subst (λ (b : Bool). StandsFor client (after s it.turn.commit) (if b then record { state = s; event = e; turn = it.turn } ∷ past else past)) (sym (ap is_heard (it.refusal ∙ none))) it.stands;
+  stands = subst (StandsAfter client (after s it.turn.commit) (record { state = s; event = e; turn = it.turn }) past) (sym (ap is_heard (it.refusal ∙ none))) it.stands;
   outcome = (it.refusal ∙ none, it.shown);
   idle = tt;
-  resets = resets;
+  resets = subst (λ (made : Option Commit). ResetsAsDue past e made client) (sym it.commit) resets;
 }
 
 -- an event that resets no target
-pub no_reset : (past : Past) (e : Event) (client : Kept) → ((t : ℤ) → resets_by e past t ≡ false) → reset_of client.watch.due ≡ None → ResetsAsDue past e client
-no_reset past e client never none t = (λ is. absurd (true≢false (sym is ∙ never t)), λ is. absurd (none-some t (sym none ∙ is)))
+pub no_reset : (past : Past) (e : Event) (commit : Option Commit) (client : Kept) → ((t : ℤ) → resets_by e commit past t ≡ false) → resets_of client.watch.due ≡ [] → ResetsAsDue past e commit client
+no_reset past e commit client never none t = (λ is. absurd (true≢false (sym is ∙ never t)), λ is. absurd (let inside = (subst (λ (l : List ℤ). Contains l t) none is).1 in omega (arith, inside)))
 
 pub as_refused : {s : State} {past : Past} {e : Event} {answer : Turn} {client : Kept} {vec : Vec Out Global} (refusal : Refusal) → answer.refusal ≡ Some refusal → is_heard (Some refusal) ≡ true → client.watch.due ≡ Nothing → Handed s past e answer vec.items client
     → HandsSettled s past e (Refused refusal vec) client
 as_refused {s} {past} {e} {answer} {client} {vec} refusal is heard idle it = record {
   turn = it.turn;
   is_settled = it.is_settled;
-  stands = subst (λ (b : Bool). StandsFor client (after s it.turn.commit) (if b then record { state = s; event = e; turn = it.turn } ∷ past else past)) (sym (ap is_heard (it.refusal ∙ is) ∙ heard)) it.stands;
+  stands = subst (StandsAfter client (after s it.turn.commit) (record { state = s; event = e; turn = it.turn }) past) (sym (ap is_heard (it.refusal ∙ is) ∙ heard)) it.stands;
   outcome = (it.refusal ∙ is, it.shown);
   idle = idle;
   resets = tt;
@@ -267,21 +289,22 @@ as_refused {s} {past} {e} {answer} {client} {vec} refusal is heard idle it = rec
 pub raises_none : {client : Kept} (outs : List Out) → AreQuiet client → Raises client client outs outs
 raises_none {client} outs quiet = record {
   told = [];
-  settles = settles_none client.root client.store.state (stance_in client) (viewed client.listeners) all;
+  settles = settles_none client.root client.store.state (stance_in client) (limbo_in client) (viewed client.listeners) all;
   outs = sym (append-nil outs);
   listeners = λ id. refl;
   quiet = all;
+  unshown = λ id none. refl;
 }
   where
-    by : (id : ℕ) (v : Option Viewed) → viewed client.listeners id ≡ v → IfSome v (IsQuiet client.root client.store.state (stance_in client id))
+    by : (id : ℕ) (v : Option Viewed) → viewed client.listeners id ≡ v → IfSome v (IsQuiet client.root client.store.state (stance_in client id) (limbo_in client id))
     by id None there = tt
     by id (Some view) there = quiet id view there
 
-    all : (id : ℕ) → IfSome (viewed client.listeners id) (IsQuiet client.root client.store.state (stance_in client id))
+    all : (id : ℕ) → IfSome (viewed client.listeners id) (IsQuiet client.root client.store.state (stance_in client id) (limbo_in client id))
     all id = by id (viewed client.listeners id) refl
 
 pub keeps_all : {client : Kept} → KeepsRest client client
-keeps_all = record { root = refl; store = refl; targets = λ id. refl; watch = refl; writes = refl; spent = refl }
+keeps_all = record { root = refl; store = refl; targets = λ id. refl; limbo = refl; watch = refl; writes = refl; spent = refl }
 
 -- ---- refusals that are not heard
 
@@ -292,7 +315,7 @@ hands_refused {client} {s} {past} {e} {vec} refusal unheard idle stands answers 
     record {
       turn = refused refusal;
       is_settled = record { answer = refused refusal; answers = answers; settles = subst (λ (b : Bool). SettlesAfter client.root s past e (refused refusal) b (refused refusal)) (sym unheard) refl };
-      stands = subst (λ (b : Bool). StandsFor client s (if b then entry ∷ past else past)) (sym unheard) stands;
+      stands = subst (StandsAfter client s entry past) (sym unheard) stands;
       outcome = (refl, subst (λ (os : List Out). AllZip (IsShown client) os []) (sym none) tt);
       idle = idle;
       resets = tt;
@@ -321,10 +344,10 @@ some_viewed f (Some x) v b maps is so = (f x, sym maps)
 -- ---- whether it is spent says nothing of what it stands for
 
 abbrev as_spent : Kept → Bool → Kept
-as_spent k b = record { root = k.root; store = k.store; listeners = k.listeners; watch = k.watch; writes = k.writes; spent = b }
+as_spent k b = record { root = k.root; store = k.store; listeners = k.listeners; limbo = k.limbo; watch = k.watch; writes = k.writes; spent = b }
 
 pub stands_still : {k : Kept} {s : State} {past : Past} (b : Bool) → StandsFor k s past → StandsFor (as_spent k b) s past
-stands_still b stands = record { state = stands.state; listeners = stands.listeners; targets = stands.targets; rows = stands.rows; quiet = stands.quiet; watch = stands.watch; writes = stands.writes; pending = stands.pending }
+stands_still b stands = record { state = stands.state; listeners = stands.listeners; targets = stands.targets; rows = stands.rows; quiet = stands.quiet; unshown = stands.unshown; limbo_is = stands.limbo_is; sound = stands.sound; watch = stands.watch; writes = stands.writes; pending = stands.pending }
 
 shown_still : (k : Kept) (b : Bool) (out : Out) (line : Line) → IsShown k out line → IsShown (as_spent k b) out line
 shown_still k b (Wrote batch commit) line is = is
@@ -335,6 +358,7 @@ shown_still k b (Result batch commit time) line is = is
 shown_still k b (Rejected batch commit status) line is = is
 shown_still k b (Error id status) line is = is
 shown_still k b (AddTarget t) line is = record { row = is.row; of_id = is.of_id; is = is.is }
+shown_still k b (AddLimboTarget t) line is = record { key = is.key; of_id = is.of_id; is = is.is }
 shown_still k b (RemoveTarget t) line is = is
 shown_still k b SendHandshake line is = is
 shown_still k b (SendBatch place) line is = record { steps = is.steps; stands = is.stands; batch = is.batch; there = is.there; is = is.is }

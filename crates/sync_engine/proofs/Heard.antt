@@ -5,10 +5,11 @@ use Rattle.std.proofs.lemmas.Bool.Decides.{Decides-int_eq}
 use Rattle.std.proofs.lemmas.Option.{none-some}
 use Rattle.std.proofs.Math.Nat.{suc-ne-zero}
 use Rattle.record_codec.specs.declared.commit.Commit.{Commit}
-use Rattle.std.specs.List.{AllZip, slice_get}
+use Rattle.std.specs.List.{AllZip, filter, slice_get}
 use Rattle.std.specs.Ordering.{int_eq}
 use Rattle.client_events.specs.Spelled.{IsSpelledMessage}
 use Rattle.client_events.specs.declared.event.Event.TheVariants as event
+use Rattle.limbo_resolver.specs.Limbo.{Limbo}
 use Rattle.listen_protocol.specs.Calls.{Calls, Key, came, changes, is_remove, is_of, lists, skipped}
 use Rattle.listen_protocol.specs.ToldKeys.{told_keys}
 use Rattle.listen_protocol.specs.Transcript.{counts, is_asked_in, is_live, is_wanted as is_wanted_in, open_count}
@@ -33,8 +34,9 @@ use Rattle.sync_engine.specs.Answers.{Answers}
 use Rattle.sync_engine.specs.Hearing.{HeardTurn, IsHeard, IsOld, fails, nothing, old_point, watch_member_name}
 use Rattle.sync_engine.specs.Past.{Past, Turn}
 use Rattle.sync_engine.specs.Settling.{IsHeldFor, IsHeldRow, MayStart, Stance, current_with, stance_by}
-use Rattle.sync_engine.specs.Standing.{IsDue, IsQuiet, Kept, StandsFor, Watches, stance_in, standing_in}
-use Rattle.sync_engine.specs.Stream.{Hears, Skips, reset_of}
+use Rattle.sync_engine.specs.LimboListens.{heard_limbo, limbo_of}
+use Rattle.sync_engine.specs.Standing.{IsDue, IsQuiet, Kept, StandsFor, Watches, limbo_in, stance_in, standing_in}
+use Rattle.sync_engine.specs.Stream.{Hears, Skips, resets_of}
 use Rattle.sync_engine.specs.Telling.{HandsSettled, IsShown, Loses, with_watch}
 use Rattle.sync_engine.specs.Turn.{answered_next}
 use Rattle.sync_engine.specs.Turns.{answered, refused}
@@ -49,7 +51,7 @@ use Rattle.sync_engine.proofs.Following.{AreQuiet, Follows, are_quiet}
 use Rattle.sync_engine.proofs.Handing.{as_done, as_refused, handed, keeps_all, no_reset, raises_none}
 use Rattle.sync_engine.proofs.Passing.{current_held, offline_current}
 use Rattle.sync_engine.proofs.Quiet.{quiet_falls}
-use Rattle.sync_engine.proofs.Reading.{due_same}
+use Rattle.sync_engine.proofs.Passing.{due_still}
 use Rattle.sync_engine.proofs.Streamed.{IsOfWatch, follows_watch, hands_lost, lost_due}
 
 -- ---- whether a row is held
@@ -91,7 +93,7 @@ decide_held rows (Some t) =
 online_quiet : (client : Kept) (lost : WatchStream) → lost.online ≡ Online → lost.current ≡ client.watch.current → AreQuiet client → AreQuiet (with_watch client lost)
 online_quiet client lost online current quiet id view there =
     let may = decide_held client.store.state.rows (stance_in client id).target in
-    quiet_falls client.root client.store.state client.store.state (stance_in client id) (stance_in (with_watch client lost) id) view (λ key concerns. refl) (λ key concerns. (λ it. it, λ it. it)) standing falls may.0 start (quiet id view there)
+    quiet_falls client.root client.store.state client.store.state (stance_in client id) (stance_in (with_watch client lost) id) (limbo_in client id) view (λ key concerns. refl) (λ key concerns. (λ it. it, λ it. it)) standing falls may.0 start (quiet id view there)
   where
     standing : (stance_in (with_watch client lost) id).standing ≡ (stance_in client id).standing
     standing = λ i. (stance_by (Rattle.listeners.specs.Table.target_of client.listeners id) (standing_in (current i).targets.items) lost.online).standing
@@ -202,6 +204,36 @@ point_unended h (message.Change change) at gives t is = absurd (true≢false (sy
 point_unended h (message.Delete delete) at gives t is = absurd (true≢false (sym is))
 point_unended h (message.Remove remove) at gives t is = absurd (true≢false (sym is))
 
+-- ---- the listens of documents in limbo behind a message
+
+-- nothing is taken out where all is to stay
+pub filter_all : {X : Type 0} (p : X → Bool) (xs : List X) → ((x : X) → p x ≡ true) → filter p xs ≡ xs
+filter_all p [] all = refl
+filter_all p (x ∷ xs) all = ap (λ b. if b then x ∷ filter p xs else filter p xs) (all x) ∙ ap (λ l. x ∷ l) (filter_all p xs all)
+
+-- they go on where the message ends no live incarnation
+pub heard_still : (h : Calls) (response : ListenResponse) (limbo : Limbo) → ((t : ℤ) → changes is_remove response t ≡ true → is_live t h ≡ false) → limbo ≡ heard_limbo h response limbo
+heard_still h (message.Target change) limbo unended = by (is_remove change.kind) refl
+  where
+    stays : is_remove change.kind ≡ true → (t : ℤ) → not (lists change.target_ids t && is_live t h) ≡ true
+    stays ends t = listed (lists change.target_ids t) refl
+      where
+        or_true : (b : Bool) → (b || true) ≡ true
+        or_true true = refl
+        or_true false = refl
+
+        listed : (b : Bool) → lists change.target_ids t ≡ b → not (b && is_live t h) ≡ true
+        listed false is = refl
+        listed true is = ap not (unended t (ap (λ b. b && is_of change.target_ids t) ends ∙ ap (λ b. (length change.target_ids == 0) || b) is ∙ or_true (length change.target_ids == 0)))
+
+    by : (b : Bool) → is_remove change.kind ≡ b → limbo ≡ (if b then record limbo { running = filter (λ p. not (lists change.target_ids p.0 && is_live p.0 h)) limbo.running } else limbo)
+    by false is = refl
+    by true is = ap (λ l. record limbo { running = l }) (sym (filter_all (λ p. not (lists change.target_ids p.0 && is_live p.0 h)) limbo.running (λ p. stays is p.0)))
+heard_still h (message.Filter f) limbo unended = refl
+heard_still h (message.Change change) limbo unended = refl
+heard_still h (message.Delete delete) limbo unended = refl
+heard_still h (message.Remove remove) limbo unended = refl
+
 -- ---- the stream behind a message without a commit
 
 -- what was current stays so while the client is online
@@ -220,13 +252,13 @@ no_commit : (b : Bool) → (b && false) ≡ false
 no_commit true = refl
 no_commit false = refl
 
-module _ (s : State) (past : Past) (response : ListenResponse) (old new : WatchStream) (it : Watches old past) (opening : old.is_open ≡ true) (spelled : IsSpelledMessage response)
+module _ (s : State) (past : Past) (response : ListenResponse) (old new : WatchStream) (it : Watches old past (limbo_of past)) (opening : old.is_open ≡ true) (spelled : IsSpelledMessage response)
     (same_open : new.is_open ≡ old.is_open) (online : new.online ≡ Online) (current : new.current ≡ old.current) (due : new.due ≡ old.due) (asked : (t : ℤ) → is_asked_in t (came response ∷ calls_of past) ≡ is_asked_in t (calls_of past)) where
   told_still : (x : ℤ) → ((is_point response && false) ≡ false) → is_mismatch (calls_of past) response x ≡ false → told_after x response None (calls_of past) (current_keys x past) ≡ current_keys x past
-  told_still x not_point agrees = (λ i. if not_point i then Rattle.sync_engine.specs.Watching.keys_at_point x (came response ∷ calls_of past) else if agrees i then None else current_keys x past)
+  told_still x not_point agrees = (λ i. if not_point i then Rattle.sync_engine.specs.Watching.keys_at_point x (came response ∷ calls_of past) else if agrees i || false then None else current_keys x past)
 
   pub watches_heard : ((t : ℤ) → is_mismatch (calls_of past) response t ≡ false) → (calls : Calls) → calls_of (answered_next s past (event.Watch response) (answered [])) ≡ calls → AggregatorStandsFor new.aggregator calls → ((t : ℤ) → is_asked_in t calls ≡ is_asked_in t (came response ∷ calls_of past)) → Rattle.watch_points.specs.SpelledCalls.AreSpelledCalls calls
-      → Watches new (answered_next s past (event.Watch response) (answered []))
+      → Watches new (answered_next s past (event.Watch response) (answered [])) (limbo_of past)
   watches_heard agrees calls are stands same spelled_calls = record {
     opening = same_open ∙ it.opening;
     calls = subst (AggregatorStandsFor new.aggregator) (sym are) stands;
@@ -234,7 +266,7 @@ module _ (s : State) (past : Past) (response : ListenResponse) (old new : WatchS
     current = λ x. ap (λ (c : _). standing_in c.targets.items x) current ∙ it.current x ∙ ap (option_map current_with) (sym (ap (if_so (is_wanted x past && true)) (told_still x (no_commit (is_point response)) (agrees x)) ∙ current_online x past));
     spelled = subst Rattle.watch_points.specs.SpelledCalls.AreSpelledCalls (sym are) spelled_calls;
     due = λ opened x. ⊎_elim
-        (λ is. inl (subst (λ (d : _). IsDue (answered_next s past (event.Watch response) (answered [])) d x) (sym due) (due_same past (answered_next s past (event.Watch response) (answered [])) x old.due refl is)))
+        (λ is. inl (subst (λ (d : _). IsDue (answered_next s past (event.Watch response) (answered [])) (limbo_of past) d x) (sym due) (due_still past (answered_next s past (event.Watch response) (answered [])) (limbo_of past) x old.due refl is)))
         (λ asks. inr (ap (is_asked_in x) are ∙ same x ∙ asked x ∙ asks))
         (it.due opened x);
   }
@@ -249,17 +281,17 @@ module _ {old : Kept} {s : State} {past : Past} (vec : Vec Out Global) (response
   such : IsOfWatch s past (event.Watch response) (answered [])
   such = record { plain = λ id. refl; silent = refl; unmade = refl; steps = refl }
 
-  hands_same : IsHeard s past response (answered []) → ((t : ℤ) → is_mismatch (calls_of past) response t ≡ false) → lost.online ≡ Online → lost.current ≡ old.watch.current → lost.due ≡ old.watch.due → Watches lost (answered_next s past (event.Watch response) (answered []))
+  hands_same : IsHeard s past response (answered []) → ((t : ℤ) → is_mismatch (calls_of past) response t ≡ false) → limbo_of past ≡ heard_limbo (calls_of past) response (limbo_of past) → lost.online ≡ Online → lost.current ≡ old.watch.current → lost.due ≡ old.watch.due → Watches lost (answered_next s past (event.Watch response) (answered [])) (limbo_of past)
       → HandsSettled s past (event.Watch response) (Done vec) (with_watch old lost)
-  hands_same is agrees online current due watch =
-      as_done refl (no_reset past (event.Watch response) (with_watch old lost) agrees (ap reset_of (due ∙ idle)))
+  hands_same is agrees goes_on online current due watch =
+      as_done refl (no_reset past (event.Watch response) None (with_watch old lost) (λ t. ap (λ b. b || false) (agrees t)) (ap resets_of (due ∙ idle)))
       (handed s past (event.Watch response) (answered []) (with_watch old lost) (with_watch old lost) vec.items vec.items (heard_as response stands opening is) refl
-      (follows_watch old lost s past (event.Watch response) (answered []) stands such watch)
+      (follows_watch old lost s past (event.Watch response) (answered []) stands such goes_on (subst (Watches lost (answered_next s past (event.Watch response) (answered []))) goes_on watch))
       keeps_all (raises_none vec.items (online_quiet old lost online current (are_quiet stands))) (λ id. refl) (subst (λ (os : List Out). AllZip (IsShown (with_watch old lost)) os []) (sym none) tt))
 
   pub hands_heard : Hears response old.watch lost → Gives (calls_of past) response effect.Nothing → HandsSettled s past (event.Watch response) (Done vec) (with_watch old lost)
   hands_heard hears gives =
-      hands_same (nothing gives refl) (no_mismatch (calls_of past) response gives) hears.online hears.current hears.due
+      hands_same (nothing gives refl) (no_mismatch (calls_of past) response gives) (heard_still (calls_of past) response (limbo_of past) (nothing_unended (calls_of past) response gives)) hears.online hears.current hears.due
       (watches_heard s past response old.watch lost stands.watch opening spelled hears.opening hears.online hears.current hears.due
       (λ t. asked_unended t response (calls_of past) (nothing_unended (calls_of past) response gives t))
       (no_mismatch (calls_of past) response gives) (came response ∷ calls_of past) (ap (λ b. Rattle.sync_engine.specs.Watching.passed b None (came response ∷ calls_of past)) (nothing_is (calls_of past) response gives))
@@ -267,7 +299,7 @@ module _ {old : Kept} {s : State} {past : Past} (vec : Vec Out Global) (response
 
   pub hands_old : (mid : WatchStream) (at : Timestamp) → Hears response old.watch mid → Skips mid lost → Gives (calls_of past) response (effect.Point at) → IsOld s.last_read at → HandsSettled s past (event.Watch response) (Done vec) (with_watch old lost)
   hands_old mid at hears skips gives is_old =
-      hands_same (old_point at gives is_old refl) agrees (skips.rest.online ∙ hears.online) (skips.rest.current ∙ hears.current) (skips.rest.due ∙ hears.due)
+      hands_same (old_point at gives is_old refl) agrees (heard_still (calls_of past) response (limbo_of past) (point_unended (calls_of past) response at gives)) (skips.rest.online ∙ hears.online) (skips.rest.current ∙ hears.current) (skips.rest.due ∙ hears.due)
       (watches_heard s past response old.watch lost stands.watch opening spelled (skips.rest.opening ∙ hears.opening) (skips.rest.online ∙ hears.online) (skips.rest.current ∙ hears.current) (skips.rest.due ∙ hears.due)
       (λ t. asked_unended t response (calls_of past) (point_unended (calls_of past) response at gives t))
       agrees (skipped ∷ came response ∷ calls_of past) (ap (λ b. Rattle.sync_engine.specs.Watching.passed b None (came response ∷ calls_of past)) (point_is (calls_of past) response at gives))

@@ -1,5 +1,5 @@
 -- what a message on the stream of listeners comes to, and which requests go out, is determined
-use Rattle.std.proofs.Common.{◌≡◌, ◌↔◌, ◌⊎◌, inl, inr, ⊎_elim, ℕ, ◌+◌, ◌<◌, ◌≤◌, if◌then◌else◌, ℤ, ◌<ℤ◌, pos, Bool, true, false, List, [], ◌∷◌, ◌++◌, map as each, Option, Some, None, refl, sym, ap, subst, ◌∙◌, arith}
+use Rattle.std.proofs.Common.{◌≡◌, ◌≢◌, ◌↔◌, ◌⊎◌, inl, inr, ⊎_elim, ℕ, ◌<◌, ◌≤◌, if◌then◌else◌, ℤ, ◌<ℤ◌, pos, Bool, true, false, List, [], ◌∷◌, ◌++◌, map as each, Option, Some, None, refl, sym, ap, subst, ◌∙◌, arith}
 use Rattle.std.specs.Cmp.{int_chain}
 use Rattle.std.specs.Int.Signed.{<ℤ_irrefl}
 use Rattle.std.specs.List.{AllPairs, AllZip, Contains}
@@ -28,8 +28,13 @@ use Rattle.watch_aggregator.specs.declared.effect.WatchMember.TheVariants as mem
 use Rattle.watch_points.proofs.Lists.{same_lists}
 use Rattle.watch_points.proofs.Once.{once}
 use Rattle.watch_points.specs.PointCommit.{IsPointCommit}
-use Rattle.sync_engine.specs.Asking.{AreJust, Asks, AsksIf, IsAddLine, IsAdded, IsRemoved}
-use Rattle.sync_engine.specs.Hearing.{AreListenersOf, Blanks, HaveRows, HeardTurn, IsHeard, IsOld, commits_if_left, ended, fails, held, mismatch, none_held, nothing, old_point, point, point_spent, watch_member_name}
+use Rattle.document_keys.proofs.Exact.{same_keys}
+use Rattle.limbo_resolver.specs.Limbo.{Key, Limbo, key_in}
+use Rattle.queries.specs.declared.target.Target.TheVariants.{Document as a_document}
+use Rattle.target_cache.specs.Cache.{blank}
+use Rattle.sync_engine.specs.Asking.{AreJust, Asks, AsksIf, IsAddLine, IsAdded, IsListenAdded, IsListenLine, IsRemoved}
+use Rattle.sync_engine.specs.Hearing.{AreBlankedFor, AreDropped, AreListenersOf, Blanks, HaveRows, HeardTurn, Holds, IsHeard, IsOld, commits_if_left, dropped, ended, fails, held, mismatch, none_held, nothing, old_point, point, point_spent, watch_member_name}
+use Rattle.sync_engine.specs.LimboListens.{limbo_of}
 use Rattle.sync_engine.specs.Lines.{Line, add, error, remove}
 use Rattle.sync_engine.specs.Past.{Past, Turn}
 use Rattle.sync_engine.specs.Turns.{answered, commits, refused}
@@ -59,6 +64,15 @@ have_rows_one rows ids a b one two = same_numbers (λ n. Contains ids (pos n) ×
 
 listeners_one : (past : Past) (ids : List ℤ) (a b : List ℕ) → AreListenersOf past ids a → AreListenersOf past ids b → a ≡ b
 listeners_one past ids a b one two = same_numbers (λ l. (t : ℤ) × Contains ids t × (listened l past ≡ Some t)) a b (record { ascending = one.ascending; each_one = one.each }) (record { ascending = two.ascending; each_one = two.each })
+
+-- the keys that go are one list, and so are the rows that are made blank
+dropped_one : (limbo : Limbo) (ids : List ℤ) (a b : List Key) → AreDropped limbo ids a → AreDropped limbo ids b → a ≡ b
+dropped_one limbo ids a b one two = same_keys a b one.ascending two.ascending (both_just (λ key. (t : ℤ) × Contains ids t × (key_in limbo.running t ≡ Some key)) a b one.each two.each)
+
+blanked_one : (s : State) (past : Past) (gone : List ℤ) (keys : List Key) (a b : List ℕ) → AreBlankedFor s past gone keys a → AreBlankedFor s past gone keys b → a ≡ b
+blanked_one s past gone keys a b one two =
+    same_numbers (λ n. HasRow s.rows n × (Contains gone (pos n) ⊎ ((key : Key) × Contains keys key × Holds s past (pos n) key))) a b
+    (record { ascending = one.ascending; each_one = one.each }) (record { ascending = two.ascending; each_one = two.each })
 
 -- ---- a message has one effect
 
@@ -165,17 +179,29 @@ record Unnumbered (s : State) (at : Timestamp) (t : Turn) : Type 0 where
 
 -- targets ended
 record EndsAll (s : State) (past : Past) (ids : List ℤ) (status : RpcStatus) (t : Turn) : Type 0 where
+  none : AreDropped (limbo_of past) ids []
   those : List ℕ
   listeners : List ℕ
   have : HaveRows s.rows ids those
   are : AreListenersOf past ids listeners
   blanks : Blanks s those (each (λ l. error l status) listeners) t
 
+-- targets ended, and documents in limbo go
+record DropsAll (s : State) (past : Past) (ids : List ℤ) (status : RpcStatus) (t : Turn) : Type 0 where
+  keys : List Key
+  those : List ℕ
+  listeners : List ℕ
+  drops : AreDropped (limbo_of past) ids keys
+  some : keys ≢ []
+  blanked : AreBlankedFor s past ids keys those
+  are : AreListenersOf past ids listeners
+  is : t ≡ commits_if_left s (commit.Drop keys those) (each (λ l. error l status) listeners)
+
 abbrev Comes : State → Past → ListenResponse → Effect → Turn → Type 0
 Comes s past response effect.Nothing t = t ≡ answered []
 Comes s past response (effect.Point at) t = (IsOld s.last_read at × (t ≡ answered [])) ⊎ (Committed s past response at t ⊎ Unnumbered s at t)
 Comes s past response (effect.Mismatch id told count) t = (ids : List ℕ) × HaveRows s.rows (id ∷ []) ids × Blanks s ids [] t
-Comes s past response (effect.Ended ids status) t = EndsAll s past ids status t
+Comes s past response (effect.Ended ids status) t = EndsAll s past ids status t ⊎ DropsAll s past ids status t
 
 -- a message has an effect, or it is refused
 abbrev Ways : State → Past → ListenResponse → Turn → Type 0
@@ -189,7 +215,8 @@ way_of s past response t (old_point at gives old is) = inl (effect.Point at, giv
 way_of s past response t (point at entries rows gives below makes is) = inl (effect.Point at, gives, inr (inl (record { below = below; entries = entries; rows = rows; makes = makes; is = is })))
 way_of s past response t (point_spent at gives below many is) = inl (effect.Point at, gives, inr (inr (record { below = below; many = many; is = is })))
 way_of s past response t (mismatch id told count ids gives have blanks) = inl (effect.Mismatch id told count, gives, (ids, have, blanks))
-way_of s past response t (ended ids status those listeners gives have are blanks) = inl (effect.Ended ids status, gives, record { those = those; listeners = listeners; have = have; are = are; blanks = blanks })
+way_of s past response t (ended ids status those listeners gives none have are blanks) = inl (effect.Ended ids status, gives, inl (record { none = none; those = those; listeners = listeners; have = have; are = are; blanks = blanks }))
+way_of s past response t (dropped ids status keys those listeners gives drops some blanked are is) = inl (effect.Ended ids status, gives, inr (record { keys = keys; those = those; listeners = listeners; drops = drops; some = some; blanked = blanked; are = are; is = is }))
 way_of s past response t (fails why refuses is) = inr (why, refuses, is)
 
 old_or_not : (last : Option Timestamp) (at : Timestamp) → IsOld last at → IsNotBelow last at → ⊥
@@ -219,7 +246,14 @@ comes_one s past response (effect.Point at) t u (inr (inr one)) (inr (inl two)) 
 comes_one s past response (effect.Point at) t u (inr (inr one)) (inr (inr two)) = one.is ∙ sym two.is
 comes_one s past response (effect.Mismatch id told count) t u one two =
     blanks_one s two.0 [] t u (subst (λ ids. Blanks s ids [] t) (have_rows_one s.rows (id ∷ []) one.0 two.0 one.1 two.1) one.2) two.2
-comes_one s past response (effect.Ended ids status) t u one two =
+comes_one s past response (effect.Ended ids status) t u (inl one) (inr two) = absurd (two.some (sym (dropped_one (limbo_of past) ids [] two.keys one.none two.drops)))
+comes_one s past response (effect.Ended ids status) t u (inr one) (inl two) = absurd (one.some (sym (dropped_one (limbo_of past) ids [] one.keys two.none one.drops)))
+comes_one s past response (effect.Ended ids status) t u (inr one) (inr two) =
+    let keys = dropped_one (limbo_of past) ids one.keys two.keys one.drops two.drops in
+    let those = blanked_one s past ids two.keys one.those two.those (subst (λ ks. AreBlankedFor s past ids ks one.those) keys one.blanked) two.blanked in
+    let listeners = listeners_one past ids one.listeners two.listeners one.are two.are in
+    one.is ∙ (λ i. commits_if_left s (commit.Drop (keys i) (those i)) (each (λ l. error l status) (listeners i))) ∙ sym two.is
+comes_one s past response (effect.Ended ids status) t u (inl one) (inl two) =
     let those = have_rows_one s.rows ids one.those two.those one.have two.have in
     let listeners = listeners_one past ids one.listeners two.listeners one.are two.are in
     blanks_one s two.those (each (λ l. error l status) two.listeners) t u
@@ -251,12 +285,26 @@ adds_one s (t ∷ ids) (line ∷ lines) (other ∷ others) one two =
     let rest = adds_one s ids lines others one.1 two.1 in
     λ i. first i ∷ rest i
 
+listens_one : (limbo : Limbo) (ids : List ℤ) (lines others : List Line) → AllZip (IsListenLine limbo) ids lines → AllZip (IsListenLine limbo) ids others → lines ≡ others
+listens_one limbo [] [] [] one two = refl
+listens_one limbo [] [] (line ∷ others) one two = absurd two
+listens_one limbo [] (line ∷ lines) others one two = absurd one
+listens_one limbo (t ∷ ids) [] others one two = absurd one
+listens_one limbo (t ∷ ids) (line ∷ lines) [] one two = absurd two
+listens_one limbo (t ∷ ids) (line ∷ lines) (other ∷ others) one two =
+    let key = same_Some one.0.key two.0.key (sym one.0.of_id ∙ two.0.of_id) in
+    let first : line ≡ other = one.0.is ∙ ap (λ k. add t (blank (a_document k))) key ∙ sym two.0.is in
+    let rest = listens_one limbo ids lines others one.1 two.1 in
+    λ i. first i ∷ rest i
+
 asked_one : (s : State) (next : Past) (reset : ℤ → Bool) (lines others : List Line) → Asks s next reset lines → Asks s next reset others → lines ≡ others
 asked_one s next reset lines others one two =
     let removed = same_ids (IsRemoved next reset) one.removed two.removed one.are_removed two.are_removed in
     let added = same_ids (IsAdded next two.removed) one.added two.added (subst (λ ids. AreJust (IsAdded next ids) one.added) removed one.are_added) two.are_added in
+    let listens = same_ids (IsListenAdded next two.removed) one.listens two.listens (subst (λ ids. AreJust (IsListenAdded next ids) one.listens) removed one.are_listens) two.are_listens in
     let adds = adds_one s two.added one.adds two.adds (subst (λ ids. AllZip (IsAddLine s) ids one.adds) added one.rows) two.rows in
-    one.is ∙ (λ i. each remove (removed i) ++ adds i) ∙ sym two.is
+    let listen_adds = listens_one (limbo_of next) two.listens one.listen_adds two.listen_adds (subst (λ ids. AllZip (IsListenLine (limbo_of next)) ids one.listen_adds) listens one.keys) two.keys in
+    one.is ∙ (λ i. each remove (removed i) ++ adds i ++ listen_adds i) ∙ sym two.is
 
 pub asks_one : (goes : Bool) (s : State) (next : Past) (reset : ℤ → Bool) (lines others : List Line) → AsksIf goes s next reset lines → AsksIf goes s next reset others → lines ≡ others
 asks_one true s next reset lines others first second = asked_one s next reset lines others first second

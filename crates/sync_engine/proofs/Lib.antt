@@ -1,8 +1,10 @@
+pub mod Among
 pub mod Asked
 pub mod Blanked
 pub mod Closed
 pub mod Committed
 pub mod Dropped
+pub mod DroppedDocuments
 pub mod Emptied
 pub mod Ending
 pub mod Following
@@ -10,6 +12,8 @@ pub mod Gathering
 pub mod Handing
 pub mod Heard
 pub mod HeardOnes
+pub mod Holding
+pub mod InLimbo
 pub mod Mismatched
 pub mod Moved
 pub mod Ones
@@ -19,6 +23,7 @@ pub mod Passing
 pub mod Picking
 pub mod Pointed
 pub mod Quiet
+pub mod Refused
 pub mod Reading
 pub mod Requested
 pub mod Requests

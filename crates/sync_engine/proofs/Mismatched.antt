@@ -1,5 +1,5 @@
 -- a filter by which a target is reset
-use Rattle.std.proofs.Common.{◌≡◌, ◌↔◌, ⊎_elim, inl, inr, ℕ, ◌<◌, ◌≤◌, ℤ, Bool, true, false, ◌&&◌, ◌==◌, not, IsTrue, List, [], ◌∷◌, length, Some, None, option_map, IfSome, if◌then◌else◌, Vec, Global, refl, sym, ap, subst, ◌∙◌}
+use Rattle.std.proofs.Common.{◌≡◌, ◌↔◌, ⊎_elim, inl, inr, ℕ, ◌<◌, ◌≤◌, ℤ, Bool, true, false, ◌&&◌, ◌||◌, ◌==◌, not, IsTrue, List, [], ◌∷◌, length, Option, Some, None, option_map, IfSome, if◌then◌else◌, Vec, Global, refl, sym, ap, subst, ◌∙◌}
 use Rattle.std.proofs.lemmas.Bool.Decides.{Decides-int_eq}
 use Rattle.std.specs.List.{AllZip, Contains}
 use Rattle.std.specs.Ordering.{int_eq}
@@ -9,6 +9,7 @@ use Rattle.client_events.specs.declared.event.Event.TheVariants as event
 use Rattle.listen_protocol.specs.Calls.{Calls, came}
 use Rattle.listen_protocol.specs.ToldKeys.{told_keys}
 use Rattle.listen_protocol.specs.Transcript.{counts, is_asked_in}
+use Rattle.limbo_listens.specs.Listens.{Listens, limbo_at}
 use Rattle.listeners.specs.Table.{Table, target_of, viewed}
 use Rattle.local_store.specs.Files.{Moves}
 use Rattle.local_store.specs.State.{State, most_commits}
@@ -25,12 +26,15 @@ use Rattle.sync_engine.specs.Hearing as hearing
 use Rattle.sync_engine.specs.Hearing.{Blanks, HaveRows, HeardTurn, IsAnyHeld}
 use Rattle.sync_engine.specs.Past.{Past, Turn, steps_of}
 use Rattle.sync_engine.specs.Settling.{current_with}
+use Rattle.record_codec.specs.declared.commit.Commit.TheVariants.{Reset}
+use Rattle.sync_engine.specs.Asking.{resets_by}
+use Rattle.sync_engine.specs.LimboListens.{is_sought, limbo_of}
 use Rattle.sync_engine.specs.Standing.{HasTargetRow, IsDue, Kept, StandsFor, Watches, standing_in}
-use Rattle.sync_engine.specs.Stream.{Hears, Resets, reset_of}
+use Rattle.sync_engine.specs.Stream.{Hears, Resets, resets_of}
 use Rattle.sync_engine.specs.Telling.{HandsSettled, IsQuietOrAmong, IsShown, KeepsRest, MovesBy, Raises, ResetsAsDue}
 use Rattle.sync_engine.specs.Turn.{answered_next}
 use Rattle.sync_engine.specs.Turns.{after, refused}
-use Rattle.sync_engine.specs.Watching.{calls_of, current_keys, if_so, is_mismatch, is_offline, is_wanted, is_watched, listened, online_of}
+use Rattle.sync_engine.specs.Watching.{calls_of, current_keys, if_so, is_dropped_by, is_mismatch, is_offline, is_wanted, is_watched, listened, online_of}
 use Rattle.sync_engine.specs.declared.out.Out.{Out}
 use Rattle.sync_engine.specs.declared.out.Outcome.TheVariants.{Done}
 use Rattle.sync_engine.specs.declared.refusal.Refusal.TheVariants.{IdsSpent}
@@ -38,11 +42,13 @@ use Rattle.sync_engine.specs.declared.watch_stream.Due.{Due}
 use Rattle.sync_engine.specs.declared.watch_stream.Due.TheVariants.{Nothing}
 use Rattle.sync_engine.specs.declared.watch_stream.WatchStream.{WatchStream}
 use Rattle.sync_engine.proofs.Committed.{moves_by}
-use Rattle.sync_engine.proofs.Emptied.{after_blank, batches_blank, blank_blanks, blank_turn, quiet_blank, rows_state, spent_blanks}
+use Rattle.sync_engine.proofs.Among.{one_among}
+use Rattle.sync_engine.proofs.Emptied.{after_blank, batches_blank, blank_blanks, blank_drops, blank_resets, blank_turn, quiet_blank, rows_state, spent_blanks}
 use Rattle.sync_engine.proofs.Following.{Follows}
 use Rattle.sync_engine.proofs.Handing.{as_done, handed}
 use Rattle.sync_engine.proofs.Passing.{current_held, if_so_more, if_so_none}
 use Rattle.sync_engine.proofs.Turning.{among_or_not, stays_on}
+use Rattle.sync_engine.proofs.Wanted.{first_among}
 
 -- ---- what the filter says
 
@@ -102,7 +108,7 @@ module _ {client : Kept} {past : Past} (response : ListenResponse) (id : ℤ) (t
 module _ (old mid new : Kept) (past : Past) (f : ExistenceFilter) (id : ℤ) (told count : ℕ) (rows ids : List ℕ) (blanks : Bool) (heard : WatchStream)
     (stands : StandsFor old old.store.state past) (opening : old.watch.is_open ≡ true) (idle : old.watch.due ≡ Nothing) (spelled : IsSpelledMessage (sent.Filter f)) (is : effect.Mismatch id told count ≡ filter_effect (calls_of past) f)
     (have : HaveRows old.store.state.rows (id ∷ []) rows) (tells : IsTrue blanks ↔ IsAnyHeld old.store.state.rows rows) (left : blanks ≡ true → old.store.state.number < most_commits)
-    (root : mid.root ≡ old.root) (state : mid.store.state ≡ blanked_state blanks old.store.state rows) (listeners : mid.listeners ≡ old.listeners) (writes : mid.writes ≡ old.writes)
+    (root : mid.root ≡ old.root) (state : mid.store.state ≡ blanked_state blanks old.store.state rows) (listeners : mid.listeners ≡ old.listeners) (held : mid.limbo ≡ old.limbo) (writes : mid.writes ≡ old.writes)
     (hears : Hears (sent.Filter f) old.watch heard) (resets : Resets id heard mid.watch)
     (those : (q : ℕ) → Contains ids q ↔ (target_of old.listeners q ≡ Some id)) where
   abbrev next : Past
@@ -111,7 +117,7 @@ module _ (old mid new : Kept) (past : Past) (f : ExistenceFilter) (id : ℤ) (to
   current : (x : ℤ) (b : Bool) → int_eq id x ≡ b → (if b then None else standing_in heard.current.targets.items x) ≡ option_map current_with (current_keys x next)
   current x b at =
       let k = current_keys x past in
-      let now : is_mismatch (calls_of past) (sent.Filter f) x ≡ b = mismatch_is (calls_of past) f id told count is x ∙ at in
+      let now : (is_mismatch (calls_of past) (sent.Filter f) x || is_dropped_by (if blanks then Some (Reset rows) else None) x) ≡ b = blank_drops blanks rows x (is_mismatch (calls_of past) (sent.Filter f) x) ∙ mismatch_is (calls_of past) f id told count is x ∙ at in
       by b refl ∙ sym (ap (λ m. option_map current_with (if_so (is_wanted x past && true) (if m then None else current_keys x past))) now)
     where
       by : (c : Bool) → b ≡ c → (if b then None else standing_in heard.current.targets.items x) ≡ option_map current_with (if_so (is_wanted x past && true) (if b then None else current_keys x past))
@@ -123,10 +129,10 @@ module _ (old mid new : Kept) (past : Past) (f : ExistenceFilter) (id : ℤ) (to
           ∙ ap (λ (c : _). standing_in c.targets.items x) hears.current ∙ stands.watch.current x ∙ ap (option_map current_with) (sym (kept_online x past))
           ∙ sym (ap (λ c. option_map current_with (if_so (is_wanted x past && true) (if c then None else current_keys x past))) so)
 
-  due : is_watched past ≡ true → (x : ℤ) → is_asked_in x (calls_of past) ≡ is_wanted x past
-  due opened x = ⊎_elim (λ was. absurd (subst (λ (d : Due). IsDue past d x) idle was)) (λ asks. asks) (stands.watch.due opened x)
+  due : is_watched past ≡ true → (x : ℤ) → is_asked_in x (calls_of past) ≡ is_sought x past (limbo_of past)
+  due opened x = ⊎_elim (λ was. absurd (subst (λ (d : Due). IsDue past (limbo_of past) d x) idle was)) (λ asks. asks) (stands.watch.due opened x)
 
-  watches : Watches mid.watch (answered_next old.store.state past (event.Watch (sent.Filter f)) (blank_turn blanks rows []))
+  watches : Watches mid.watch (answered_next old.store.state past (event.Watch (sent.Filter f)) (blank_turn blanks rows [])) (limbo_of past)
   watches = record {
     opening = resets.opening ∙ hears.opening ∙ stands.watch.opening;
     calls = subst (λ (a : _). AggregatorStandsFor a (came (sent.Filter f) ∷ calls_of past)) (sym resets.aggregator) (hears.calls (calls_of past) stands.watch.calls);
@@ -139,12 +145,15 @@ module _ (old mid new : Kept) (past : Past) (f : ExistenceFilter) (id : ℤ) (to
   same_after : after old.store.state (blank_turn blanks rows []).commit ≡ blanked_state blanks old.store.state rows
   same_after = after_blank old.store.state blanks rows []
 
-  follows : Follows mid (after old.store.state (blank_turn blanks rows []).commit) (answered_next old.store.state past (event.Watch (sent.Filter f)) (blank_turn blanks rows []))
+  follows : Follows mid (after old.store.state (blank_turn blanks rows []).commit) (answered_next old.store.state past (event.Watch (sent.Filter f)) (blank_turn blanks rows [])) (limbo_of past)
   follows = record {
     state = state ∙ sym same_after;
     listeners = λ q. ap (λ (t : Table). viewed t q) listeners ∙ stands.listeners q;
     targets = λ q. ap (λ (t : Table). target_of t q) listeners ∙ stands.targets q;
     rows = λ q. subst (λ (t : State). IfSome (listened q past) (HasTargetRow t.rows)) (sym same_after) (rows_state old.store.state blanks rows (listened q past) (stands.rows q));
+    unshown = λ q none. ap (λ (l : Listens). limbo_at l q) held ∙ stands.unshown q none;
+    limbo_is = ap (λ (l : Listens). l.limbo) held ∙ stands.limbo_is;
+    sound = stands.sound;
     watch = watches;
     writes = stays_on (sym writes) stands.writes;
     pending = subst (λ (n : ℕ). outstanding (steps_of past) ≤ n) (ap length (sym (batches_blank old.store.state blanks rows)) ∙ ap (λ (t : State). length t.batches) (sym same_after)) stands.pending;
@@ -153,7 +162,7 @@ module _ (old mid new : Kept) (past : Past) (f : ExistenceFilter) (id : ℤ) (to
   -- a listener of another target stays quiet
   quiet_or : IsQuietOrAmong ids mid
   quiet_or q view there = ⊎_elim inl
-      (λ never. inr (quiet_blank old mid past blanks rows stands root state (resets.online ∙ hears.online) q view (ap (λ (t : Table). viewed t q) (sym listeners) ∙ there) (ap (λ (t : Table). target_of t q) listeners) (keeps never)))
+      (λ never. inr (quiet_blank old mid past blanks rows stands root state (resets.online ∙ hears.online) q view (ap (λ (t : Table). viewed t q) (sym listeners) ∙ there) (ap (λ (t : Table). target_of t q) listeners) (keeps never) (ap (λ (l : Listens). limbo_at l q) held)))
       (among_or_not ids q)
     where
       keeps : (Contains ids q → ⊥) → (x : ℤ) → target_of old.listeners q ≡ Some x → standing_in mid.watch.current.targets.items x ≡ standing_in old.watch.current.targets.items x
@@ -163,17 +172,17 @@ module _ (old mid new : Kept) (past : Past) (f : ExistenceFilter) (id : ℤ) (to
           by true same = absurd (never ((those q).1 (at ∙ ap Some (sym ((Decides-int_eq id x).0 same)))))
           by false other = refl
 
-  as_due : new.watch ≡ mid.watch → ResetsAsDue past (event.Watch (sent.Filter f)) new
+  as_due : new.watch ≡ mid.watch → ResetsAsDue past (event.Watch (sent.Filter f)) (if blanks then Some (Reset rows) else None) new
   as_due same t = (
-    λ so. due_is ∙ ap Some ((Decides-int_eq id t).0 (sym (mismatch_is (calls_of past) f id told count is t) ∙ so)),
-    λ now. mismatch_is (calls_of past) f id told count is t ∙ (Decides-int_eq id t).1 (one id t (sym due_is ∙ now)),
+    λ so. subst (λ (l : List ℤ). Contains l t) (sym due_is) (subst (Contains (id ∷ [])) ((Decides-int_eq id t).0 (sym tells_is ∙ so)) (first_among id [])),
+    λ now. tells_is ∙ (Decides-int_eq id t).1 (one_among id t (subst (λ (l : List ℤ). Contains l t) due_is now)),
   )
     where
-      due_is : reset_of new.watch.due ≡ Some id
-      due_is = ap (λ (w : WatchStream). reset_of w.due) same ∙ ap reset_of resets.due
+      due_is : resets_of new.watch.due ≡ id ∷ []
+      due_is = ap (λ (w : WatchStream). resets_of w.due) same ∙ resets.due
 
-      one : (a b : ℤ) → Some a ≡ Some b → a ≡ b
-      one a b so = cc
+      tells_is : resets_by (event.Watch (sent.Filter f)) (if blanks then Some (Reset rows) else None) past t ≡ int_eq id t
+      tells_is = blank_resets blanks rows past t (is_mismatch (calls_of past) (sent.Filter f) t) ∙ mismatch_is (calls_of past) f id told count is t
 
   hands_filter : {before : List Out} {vec : Vec Out Global} → KeepsRest mid new → (IsQuietOrAmong ids mid → Raises mid new before vec.items) → before ≡ [] → HandsSettled old.store.state past (event.Watch (sent.Filter f)) (Done vec) new
   hands_filter {before} {vec} rest raises begins =
@@ -187,10 +196,10 @@ module _ (old mid new : Kept) (past : Past) (f : ExistenceFilter) (id : ℤ) (to
 pub hands_mismatch : {old new : Kept} (mid : Kept) {past : Past} {before : List Out} {vec : Vec Out Global} {given : List ℕ} (response : ListenResponse) (id : ℤ) (told count : ℕ) (rows ids : List ℕ) (blanks : Bool) (heard : WatchStream)
     → StandsFor old old.store.state past → old.watch.is_open ≡ true → old.watch.due ≡ Nothing → IsSpelledMessage response → Gives (calls_of past) response (effect.Mismatch id told count)
     → HaveRows old.store.state.rows (id ∷ []) rows → IsTrue blanks ↔ IsAnyHeld old.store.state.rows rows → (blanks ≡ true → old.store.state.number < most_commits)
-    → mid.root ≡ old.root → mid.store.state ≡ blanked_state blanks old.store.state rows → mid.listeners ≡ old.listeners → mid.writes ≡ old.writes
+    → mid.root ≡ old.root → mid.store.state ≡ blanked_state blanks old.store.state rows → mid.listeners ≡ old.listeners → mid.limbo ≡ old.limbo → mid.writes ≡ old.writes
     → Hears response old.watch heard → Resets id heard mid.watch → ((q : ℕ) → Contains ids q ↔ (target_of old.listeners q ≡ Some id))
     → KeepsRest mid new → given ≡ ids → (IsQuietOrAmong given mid → Raises mid new before vec.items) → before ≡ [] → HandsSettled old.store.state past (event.Watch response) (Done vec) new
-hands_mismatch {old} {new} mid {past} {before} {vec} {given} response id told count rows ids blanks heard stands opening idle spelled gives have tells left root state listeners writes hears resets those rest same raises begins =
+hands_mismatch {old} {new} mid {past} {before} {vec} {given} response id told count rows ids blanks heard stands opening idle spelled gives have tells left root state listeners held writes hears resets those rest same raises begins =
     let found = mismatch_filter (calls_of past) response id told count gives in
     subst (λ (r : ListenResponse). HandsSettled old.store.state past (event.Watch r) (Done vec) new) (sym found.1)
-    (hands_filter old mid new past found.0 id told count rows ids blanks heard stands opening idle (subst IsSpelledMessage found.1 spelled) found.2 have tells left root state listeners writes (subst (λ (r : ListenResponse). Hears r old.watch heard) found.1 hears) resets those rest (subst (λ (l : List ℕ). IsQuietOrAmong l mid → Raises mid new before vec.items) same raises) begins)
+    (hands_filter old mid new past found.0 id told count rows ids blanks heard stands opening idle (subst IsSpelledMessage found.1 spelled) found.2 have tells left root state listeners held writes (subst (λ (r : ListenResponse). Hears r old.watch heard) found.1 hears) resets those rest (subst (λ (l : List ℕ). IsQuietOrAmong l mid → Raises mid new before vec.items) same raises) begins)

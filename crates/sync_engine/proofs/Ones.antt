@@ -1,5 +1,5 @@
 -- an event has one turn
-use Rattle.std.proofs.Common.{◌≡◌, ◌↔◌, ⊎_elim, ℕ, ◌<◌, ℤ, Bool, true, false, IsTrue, nat_eq, suc, List, [], ◌∷◌, length, ◌++◌, ◌&&◌, Option, Some, None, is_none, if◌then◌else◌, refl, sym, ap, subst, ◌∙◌, arith}
+use Rattle.std.proofs.Common.{◌≡◌, ◌↔◌, ⊎_elim, ℕ, ◌<◌, ℤ, Bool, true, false, IsTrue, nat_eq, suc, List, [], ◌∷◌, length, ◌++◌, ◌&&◌, Option, Some, None, if◌then◌else◌, refl, sym, ap, subst, ◌∙◌, arith}
 use Rattle.std.specs.List.{All, AllPairs}
 use Rattle.std.specs.Prelude.{nat_lt}
 use Rattle.std.proofs.lemmas.Bool.{eqb-true, eq-eqb, eqb-false, ltb-true, ltb-false, true≢false}
@@ -8,6 +8,7 @@ use Rattle.std.proofs.lemmas.List.Elements.{All-cons, All-head, All-tail, All-we
 use Rattle.document_keys.specs.Names.{Root}
 use Rattle.client_events.specs.declared.event.Event.{Event}
 use Rattle.client_events.specs.declared.event.Event.TheVariants as event
+use Rattle.limbo_resolver.specs.Limbo.{Key}
 use Rattle.listeners.proofs.Outcomes.{refresh_is_one}
 use Rattle.local_store.specs.State.{State}
 use Rattle.queries.proofs.Counting.{pairs_tail}
@@ -41,9 +42,10 @@ use Rattle.write_pipeline.specs.declared.answer.WriteMember.{WriteMember}
 use Rattle.write_pipeline.specs.declared.answer.WriteMember.TheVariants.{WriteResults, CommitTime, TransformResults}
 use Rattle.sync_engine.specs.Asking.{resets_by}
 use Rattle.sync_engine.specs.Settling.{Shows, ShowsAt, Settles, Stance, IsBelow, raised_by, stance_of, told_to}
-use Rattle.sync_engine.specs.Turn.{AsksBehind, IsSettled, Settled, SettlesAfter, answered_next, batches_behind, is_heard, with_lines, with_snapshots}
+use Rattle.sync_engine.specs.Turn.{AsksBehind, IsSettled, LimboBehind, Settled, SettlesAfter, answered_next, batches_behind, is_heard, with_limbo, with_lines, with_snapshots}
 use Rattle.sync_engine.specs.Watching.{is_watched}
 use Rattle.sync_engine.proofs.HeardOnes.{asks_one, heard_one}
+use Rattle.sync_engine.proofs.InLimbo.{limbo_once}
 
 -- ---- what is shown of one listener
 
@@ -228,9 +230,19 @@ settled_is_one root s past e t u first second =
     let same = answers_one s past e first.answer second.answer first.answers second.answers in
     after_one root s past e second.answer (is_heard second.answer.refusal) t u (subst (λ (a : Turn). SettlesAfter root s past e a (is_heard a.refusal) t) same first.settles) second.settles
 
+-- the documents in limbo behind it are one list
+limbo_is_one : (root : Root) (s : State) (past : Past) (e : Event) (t : Turn) (heard : Bool) (keys others : List Key) → LimboBehind root s past e t heard keys → LimboBehind root s past e t heard others → keys ≡ others
+limbo_is_one root s past e t true keys others first second =
+    limbo_once root (after s t.commit) (stance_of (answered_next s past e t)) (λ id. listener id (answered_next s past e t)) keys others first second
+limbo_is_one root s past e t false keys others first second = first ∙ sym second
+
 pub a_turn_is_one : ATurnIsOne
 a_turn_is_one root s past e t u first second =
     let same : first.settled ≡ second.settled = settled_is_one root s past e first.settled second.settled first.is_settled second.is_settled in
-    let asks : first.asked ≡ second.asked = asks_one (is_none second.settled.refusal && is_watched (answered_next s past e second.settled)) (after s second.settled.commit) (answered_next s past e second.settled) (resets_by e past) first.asked second.asked
-    (subst (λ (a : Turn). AsksBehind s past e a first.asked) same first.asks) second.asks in
-    first.is ∙ (λ i. with_lines (same i) (asks i ++ batches_behind s past e (same i))) ∙ sym second.is
+    let keys : first.limbo ≡ second.limbo = limbo_is_one root s past e second.settled (is_heard second.settled.refusal) first.limbo second.limbo
+    (subst (λ (a : Turn). LimboBehind root s past e a (is_heard a.refusal) first.limbo) same first.in_limbo) second.in_limbo in
+    let with_keys : with_limbo first.settled first.limbo ≡ with_limbo second.settled second.limbo = λ i. with_limbo (same i) (keys i) in
+    let next = answered_next s past e (with_limbo second.settled second.limbo) in
+    let asks : first.asked ≡ second.asked = asks_one (is_heard second.settled.refusal && is_watched next) (after s second.settled.commit) next (resets_by e second.settled.commit past) first.asked second.asked
+    (subst (λ (a : Turn). AsksBehind s past e a first.asked) with_keys first.asks) second.asks in
+    first.is ∙ (λ i. with_lines (with_keys i) (asks i ++ batches_behind s past e (same i))) ∙ sym second.is

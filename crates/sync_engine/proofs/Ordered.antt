@@ -1,9 +1,9 @@
 -- the pending batches go out in order
-use Rattle.std.proofs.Common.{◌≡◌, ℕ, ℤ, ◌+◌, ◌-◌, ◌≤◌, ◌<◌, suc, zero, Bool, true, false, nat_lt, List, [], ◌∷◌, ◌++◌, map as each, length, drop, take, Option, Some, None, is_none, ◌&&◌, if◌then◌else◌, refl, sym, ap, subst, ◌∙◌, append-nil, arith, length-append}
+use Rattle.std.proofs.Common.{◌≡◌, ℕ, ℤ, ◌+◌, ◌-◌, ◌≤◌, ◌<◌, suc, zero, Bool, true, false, nat_lt, List, [], ◌∷◌, ◌++◌, map as each, length, drop, take, Option, Some, None, ◌&&◌, if◌then◌else◌, refl, sym, ap, subst, ◌∙◌, append-nil, arith, length-append}
 use Rattle.std.proofs.lemmas.Bool.{true≢false}
 use Rattle.std.proofs.lemmas.List.{append_assoc, drop-append-le, length-drop, length-map, take-append-drop}
 use Rattle.std.proofs.lemmas.Option.{none-some}
-use Rattle.std.specs.List.{AllZip, slice_get}
+use Rattle.std.specs.List.{slice_get}
 use Rattle.document_keys.specs.Names.{Root}
 use Rattle.client_events.specs.declared.event.Event.{Event}
 use Rattle.client_events.specs.declared.event.Event.TheVariants as event
@@ -14,7 +14,7 @@ use Rattle.mutations.specs.declared.results.WriteResponse.{WriteResponse}
 use Rattle.mutations.specs.declared.write.Write.{Write}
 use Rattle.queries.specs.declared.target.Target.{Target}
 use Rattle.record_codec.specs.declared.commit.Commit.{Commit}
-use Rattle.record_codec.specs.declared.commit.Commit.TheVariants.{Acknowledge, Allocate, Enqueue, Point, Reject, Reset}
+use Rattle.record_codec.specs.declared.commit.Commit.TheVariants.{Acknowledge, Allocate, Drop, Enqueue, Point, Reject, Reset}
 use Rattle.target_cache.specs.Cache.{id_at}
 use Rattle.value_model.specs.declared.document.RpcStatus.{RpcStatus}
 use Rattle.value_model.specs.declared.message.ListenResponse.{ListenResponse}
@@ -26,19 +26,22 @@ use Rattle.write_pipeline.specs.Standing.{closing_of}
 use Rattle.write_pipeline.specs.declared.answer.Closing.{Closing}
 use Rattle.write_pipeline.specs.declared.answer.Closing.TheVariants.{Kept as KeepsAll, Rejects}
 use Rattle.sync_engine.specs.Answers.{Answers, Begins, are_left, ends, listens}
-use Rattle.sync_engine.specs.Asking.{AsksIf, IsAddLine, resets_by}
-use Rattle.sync_engine.specs.Hearing.{Blanks, HeardTurn, ended, held, mismatch, none_held, nothing, old_point, point, point_spent}
+use Rattle.limbo_resolver.specs.Limbo.{Key}
+use Rattle.sync_engine.specs.Asking.{AsksIf, resets_by}
+use Rattle.sync_engine.specs.Hearing.{Blanks, HeardTurn, dropped, ended, held, mismatch, none_held, nothing, old_point, point, point_spent}
 use Rattle.sync_engine.specs.Hearing.{fails as fails_heard}
+use Rattle.sync_engine.specs.LimboListens.{limbo_of}
 use Rattle.sync_engine.specs.Lines.{Line, add, document, error, listening, rejected, remove, result, send, snapshot, unlistened, wrote}
 use Rattle.sync_engine.specs.Order.{AreHeard, WritesGoInOrder, left_since, now, queue_since, sent_since, unless_opened, writes_in}
 use Rattle.sync_engine.specs.Past.{Past, Turn, listener, sent_in, steps_by, steps_of}
 use Rattle.sync_engine.specs.Sending.{sent_times}
-use Rattle.sync_engine.specs.Turn.{AsksBehind, IsSettled, SettlesAfter, answered_next, batches_behind, is_heard}
+use Rattle.sync_engine.specs.Turn.{AsksBehind, IsSettled, SettlesAfter, answered_next, batches_behind, is_heard, with_limbo}
 use Rattle.sync_engine.specs.Turns.{after, commits, refused}
 use Rattle.sync_engine.specs.Watching.{is_watched}
 use Rattle.sync_engine.specs.Writing.{WrittenTurn, acknowledges, bad_turn, closed_turn, closes, fails, first_batch, is_open, is_stream_open, opened_turn, rejects, request_of, requests, shakes, to_send}
 use Rattle.sync_engine.specs.declared.refusal.Refusal.{Refusal}
 use Rattle.sync_engine.specs.declared.refusal.Refusal.TheVariants.{IdsSpent}
+use Rattle.sync_engine.proofs.Requested.{adds_unsent, all_adds, removes_unsent}
 use Rattle.sync_engine.proofs.Requests.{settled_silent}
 use Rattle.sync_engine.proofs.Sent.{requests_sent, sent_count, sent_open, sent_ready}
 use Rattle.sync_engine.proofs.Steps.{length_more, sent_behind}
@@ -235,7 +238,7 @@ module _ (first : State) (past : Past) (s : State) (state : s ≡ now first past
 
   -- an event with this refusal and this commit
   abbrev heard_of : Event → Option Refusal → Option Commit → Past
-  heard_of e refusal commit = record { state = s; event = e; turn = record { refusal = refusal; commit = commit; lines = [] } } ∷ past
+  heard_of e refusal commit = record { state = s; event = e; turn = record { refusal = refusal; commit = commit; lines = []; limbo = [] } } ∷ past
 
   -- what stands behind it, but for its requests
   abbrev StandsBy : Event → Option Refusal → Option Commit → Type 0
@@ -309,7 +312,9 @@ module _ (first : State) (past : Past) (s : State) (state : s ≡ now first past
       (stands_if (event.Watch response) (nat_lt s.number most_commits) (commits (Point at entries rows) []) (refused IdsSpent) (λ heard. same_again it) (λ heard. unheard heard))
   stands_heard response true t (point_spent at gives below many is) = subst (Stands (event.Watch response)) (sym is) (λ heard. unheard heard)
   stands_heard response true t (mismatch id told count ids gives have blanks) = stands_blanks response ids [] t blanks
-  stands_heard response true t (ended ids status those listeners gives have are blanks) = stands_blanks response those (each (λ l. error l status) listeners) t blanks
+  stands_heard response true t (ended ids status those listeners gives none have are blanks) = stands_blanks response those (each (λ l. error l status) listeners) t blanks
+  stands_heard response true t (dropped ids status keys those listeners gives drops some blanked are is) = subst (Stands (event.Watch response)) (sym is)
+      (stands_if (event.Watch response) (nat_lt s.number most_commits) (commits (Drop keys those) (each (λ l. error l status) listeners)) (refused IdsSpent) (λ heard. same_again it) (λ heard. unheard heard))
   stands_heard response true t (fails_heard why refuses is) = subst (Stands (event.Watch response)) (sym is) (λ heard. same_again it)
 
   shaken_now : (response : WriteResponse) → is_open h ≡ true → Ordered (sent_since past) (queue_since first past) (left_since past) (kept_token response.token ∷ shaken ∷ h) s.batches
@@ -388,20 +393,11 @@ requests_written token [] = refl
 requests_written token (b ∷ bs) = ap (λ l. b.writes ∷ l) (requests_written token bs)
 
 -- requests on the stream of listeners send no batch
-removes_silent : (ids : List ℤ) (g : Steps) → sent_in (each remove ids) g ≡ g
-removes_silent [] g = refl
-removes_silent (id ∷ ids) g = removes_silent ids g
-
-adds_silent : (s : State) (ids : List ℤ) (lines : List Line) → AllZip (IsAddLine s) ids lines → (g : Steps) → sent_in lines g ≡ g
-adds_silent s [] [] all g = refl
-adds_silent s [] (line ∷ lines) all g = absurd all
-adds_silent s (id ∷ ids) [] all g = absurd all
-adds_silent s (id ∷ ids) (line ∷ lines) all g = ap (λ (l : Line). sent_in (l ∷ lines) g) all.0.is ∙ adds_silent s ids lines all.1 g
-
 asked_silent : (goes : Bool) (s : State) (next : Past) (reset : ℤ → Bool) (lines : List Line) → AsksIf goes s next reset lines → (g : Steps) → sent_in lines g ≡ g
 asked_silent true s next reset lines asks g =
-    ap (λ (l : List Line). sent_in l g) asks.is ∙ sent_behind (each remove asks.removed) asks.adds g
-    ∙ ap (sent_in asks.adds) (removes_silent asks.removed g) ∙ adds_silent s asks.added asks.adds asks.rows g
+    let all = all_adds s (limbo_of next) asks.added asks.listens asks.adds asks.listen_adds asks.rows asks.keys in
+    ap (λ (l : List Line). sent_in l g) (asks.is ∙ append_assoc (each remove asks.removed) asks.adds asks.listen_adds) ∙ sent_behind (each remove asks.removed) (asks.adds ++ asks.listen_adds) g
+    ∙ ap (sent_in (asks.adds ++ asks.listen_adds)) (removes_unsent asks.removed g) ∙ adds_unsent (asks.added ++ asks.listens) (asks.adds ++ asks.listen_adds) g all
 asked_silent false s next reset lines none g = ap (λ (l : List Line). sent_in l g) none
 
 settled_same : (root : Root) (s : State) (past : Past) (e : Event) (answer : Turn) (heard : Bool) (t : Turn) → SettlesAfter root s past e answer heard t → (t.refusal ≡ answer.refusal) × (t.commit ≡ answer.commit)
@@ -410,7 +406,7 @@ settled_same root s past e answer false t is = (ap (λ (x : Turn). x.refusal) is
 
 module _ (root : Root) (first : State) (past : Past) (s : State) (e : Event) (settled : Turn) (state : s ≡ now first past)
     (it : Ordered (sent_since past) (queue_since first past) (left_since past) (steps_of past) s.batches) (is_settled : IsSettled root s past e settled)
-    (asked : List Line) (asks : AsksBehind s past e settled asked) where
+    (limbo : List Key) (asked : List Line) (asks : AsksBehind s past e (with_limbo settled limbo) asked) where
   -- the lines before the batches
   abbrev lead : List Line
   lead = settled.lines ++ asked
@@ -418,7 +414,7 @@ module _ (root : Root) (first : State) (past : Past) (s : State) (e : Event) (se
   silent : (g : Steps) → sent_in lead g ≡ g
   silent g =
       sent_behind settled.lines asked g ∙ ap (sent_in asked) (settled_silent root s past e settled is_settled g)
-      ∙ asked_silent (is_none settled.refusal && is_watched (answered_next s past e settled)) (after s settled.commit) (answered_next s past e settled) (resets_by e past) asked asks g
+      ∙ asked_silent (is_heard settled.refusal && is_watched (answered_next s past e (with_limbo settled limbo))) (after s settled.commit) (answered_next s past e (with_limbo settled limbo)) (resets_by e settled.commit past) asked asks g
 
   stands : StandsBy first past s state it e settled.refusal settled.commit
   stands =
@@ -430,7 +426,7 @@ module _ (root : Root) (first : State) (past : Past) (s : State) (e : Event) (se
 
   -- the event with its lines
   abbrev entry_with : Option Refusal → List Line → Past
-  entry_with refusal more = record { state = s; event = e; turn = record { refusal = refusal; commit = settled.commit; lines = lead ++ more } } ∷ past
+  entry_with refusal more = record { state = s; event = e; turn = record { refusal = refusal; commit = settled.commit; lines = lead ++ more; limbo = limbo } } ∷ past
 
   by_refusal : (refusal : Option Refusal) → settled.refusal ≡ refusal → is_heard refusal ≡ true
       → let more = Rattle.sync_engine.specs.Turn.unless_refused refusal (requests (steps_by e refusal (steps_of past)) (after s settled.commit).batches) in
@@ -467,11 +463,11 @@ ordered_all root first (entry ∷ past) heard =
     let settled = turn.settled in
     let sends = batches_behind entry.state past entry.event settled in
     let all : settled.lines ++ (turn.asked ++ sends) ≡ (settled.lines ++ turn.asked) ++ sends = sym (append_assoc settled.lines turn.asked sends) in
-    let is : entry.turn ≡ record { refusal = settled.refusal; commit = settled.commit; lines = (settled.lines ++ turn.asked) ++ sends } =
-    turn.is ∙ (λ i. record { refusal = settled.refusal; commit = settled.commit; lines = all i }) in
+    let is : entry.turn ≡ record { refusal = settled.refusal; commit = settled.commit; lines = (settled.lines ++ turn.asked) ++ sends; limbo = turn.limbo } =
+    turn.is ∙ (λ i. record { refusal = settled.refusal; commit = settled.commit; lines = all i; limbo = turn.limbo }) in
     subst (λ (t : Turn). Ordered (sent_since (record { state = entry.state; event = entry.event; turn = t } ∷ past)) (queue_since first (record { state = entry.state; event = entry.event; turn = t } ∷ past)) (left_since (record { state = entry.state; event = entry.event; turn = t } ∷ past))
     (steps_of (record { state = entry.state; event = entry.event; turn = t } ∷ past)) (after entry.state t.commit).batches) (sym is)
-    (by_refusal root first past entry.state entry.event settled next.state it turn.is_settled turn.asked turn.asks settled.refusal refl (ap (λ (t : Turn). is_heard t.refusal) (sym is) ∙ next.heard))
+    (by_refusal root first past entry.state entry.event settled next.state it turn.is_settled turn.limbo turn.asked turn.asks settled.refusal refl (ap (λ (t : Turn). is_heard t.refusal) (sym is) ∙ next.heard))
 
 pub writes_go_in_order : WritesGoInOrder
 writes_go_in_order root first past heard =

@@ -1,10 +1,11 @@
 -- what a client keeps of the stream of listeners at an event that is none of the stream's
-use Rattle.std.proofs.Common.{◌≡◌, ◌⊎◌, ⊎_elim, inl, inr, ℕ, ℤ, Bool, true, false, ◌&&◌, not, List, [], ◌∷◌, Option, Some, None, option_map, if◌then◌else◌, refl, sym, ap, subst, ◌∙◌}
+use Rattle.std.proofs.Common.{◌≡◌, ◌⊎◌, ⊎_elim, inl, inr, ℕ, ℤ, Bool, true, false, ◌&&◌, ◌||◌, not, List, [], ◌∷◌, Option, Some, None, option_map, if◌then◌else◌, refl, sym, ap, subst, ◌∙◌}
 use Rattle.std.proofs.lemmas.Bool.{and_parts, true≢false}
 use Rattle.std.proofs.lemmas.Bool.Decides.{Decides-int_eq}
 use Rattle.std.proofs.lemmas.Option.{none-some}
 use Rattle.std.specs.Ordering.{int_eq}
 use Rattle.client_events.specs.declared.event.Event.{Event}
+use Rattle.limbo_resolver.specs.Limbo.{Limbo}
 use Rattle.listen_protocol.specs.Calls.{Calls, Key}
 use Rattle.listen_protocol.specs.Transcript.{is_asked_in}
 use Rattle.local_store.specs.State.{State}
@@ -12,15 +13,15 @@ use Rattle.views.specs.declared.standing.Standing.{Standing}
 use Rattle.watch_aggregator.specs.Standing.{StandsFor as AggregatorStandsFor}
 use Rattle.watch_points.specs.SpelledCalls.{AreSpelledCalls}
 use Rattle.sync_engine.specs.declared.watch_stream.Due.{Due}
-use Rattle.sync_engine.specs.declared.watch_stream.Due.TheVariants.{Nothing, One}
+use Rattle.sync_engine.specs.declared.watch_stream.Due.TheVariants.{Nothing, One, Resets, All}
 use Rattle.sync_engine.specs.declared.watch_stream.WatchStream.{WatchStream}
+use Rattle.sync_engine.specs.LimboListens.{is_running, is_sought}
 use Rattle.sync_engine.specs.Past.{Past, Turn}
 use Rattle.sync_engine.specs.Settling.{current_with}
 use Rattle.sync_engine.specs.Standing.{IsDue, Watches, standing_in}
 use Rattle.sync_engine.specs.Stream.{Ends}
 use Rattle.sync_engine.specs.Turn.{answered_next}
 use Rattle.sync_engine.specs.Watching.{WatchStep, calls_by, calls_of, current_keys, if_so, is_any_wanted, is_offline, is_wanted, is_watched, online_by, online_of, open_by, passes, requested_in, step_by, told_by}
-use Rattle.sync_engine.proofs.Reading.{due_same}
 
 -- ---- current targets
 
@@ -58,6 +59,19 @@ offline_current x past off = sym (current_held x past) ∙ ap (λ b. if_so (is_w
     by true = refl
     by false = refl
 
+-- ---- what is sought, and for what a request is due
+
+-- a target is sought as before where it is wanted as before
+pub sought_still : (past next : Past) (limbo : Limbo) (x : ℤ) → is_wanted x next ≡ is_wanted x past → is_sought x next limbo ≡ is_sought x past limbo
+sought_still past next limbo x same = ap (λ b. b || is_running x limbo) same
+
+-- and a request is due for it where one was
+pub due_still : (past next : Past) (limbo : Limbo) (x : ℤ) (due : Due) → is_wanted x next ≡ is_wanted x past → IsDue past limbo due x → IsDue next limbo due x
+due_still past next limbo x Nothing same is = is
+due_still past next limbo x (One t) same is = is
+due_still past next limbo x (Resets ids) same is = is
+due_still past next limbo x All same is = sought_still past next limbo x same ∙ is
+
 -- ---- an event that is none of the stream's
 
 module _ (s : State) (past : Past) (e : Event) (answer : Turn) (step : step_by e answer.refusal ≡ passes) where
@@ -83,55 +97,55 @@ module _ (s : State) (past : Past) (e : Event) (answer : Turn) (step : step_by e
   current_passes x more = current_next x ∙ if_so_more (is_wanted x past && not (is_offline (online_of past))) (is_wanted x next && not (is_offline (online_of past))) (current_keys x past) (and_more (is_wanted x past) (is_wanted x next) (not (is_offline (online_of past))) more) (current_held x past)
 
   -- the stream stays as it was
-  pub watches_passes : (watch : WatchStream) → ((h : Calls) → requested_in answer.lines h ≡ h) → ((x : ℤ) → is_wanted x next ≡ is_wanted x past) → Watches watch past → Watches watch next
-  watches_passes watch unrequested wanted it = record {
+  pub watches_passes : (watch : WatchStream) (limbo : Limbo) → ((h : Calls) → requested_in answer.lines h ≡ h) → ((x : ℤ) → is_wanted x next ≡ is_wanted x past) → Watches watch past limbo → Watches watch next limbo
+  watches_passes watch limbo unrequested wanted it = record {
     opening = it.opening ∙ sym opening_passes;
     calls = subst (AggregatorStandsFor watch.aggregator) (sym (calls_passes unrequested)) it.calls;
     online = it.online ∙ sym online_passes;
     current = λ x. it.current x ∙ ap (option_map current_with) (sym (current_passes x (λ is. wanted x ∙ is)));
     spelled = subst AreSpelledCalls (sym (calls_passes unrequested)) it.spelled;
     due = λ opened x. ⊎_elim
-        (λ due. inl (due_same past next x watch.due (sym (wanted x)) due))
-        (λ asks. inr (ap (is_asked_in x) (calls_passes unrequested) ∙ asks ∙ sym (wanted x)))
+        (λ due. inl (due_still past next limbo x watch.due (wanted x) due))
+        (λ asks. inr (ap (is_asked_in x) (calls_passes unrequested) ∙ asks ∙ sym (sought_still past next limbo x (wanted x))))
         (it.due (sym opening_passes ∙ opened) x);
   }
 
   -- no request was due, and now one may be for this target
-  due_one : (watch : WatchStream) (t : ℤ) (due : Due) → ((h : Calls) → requested_in answer.lines h ≡ h) → ((x : ℤ) → (x ≡ t → ⊥) → is_wanted x next ≡ is_wanted x past) → watch.due ≡ Nothing → due ≡ One t → Watches watch past
-      → is_watched next ≡ true → (x : ℤ) → IsDue next due x ⊎ (is_asked_in x (calls_of next) ≡ is_wanted x next)
-  due_one watch t due unrequested others idle is it opened x = by (int_eq x t) refl
+  due_one : (watch : WatchStream) (limbo : Limbo) (t : ℤ) (due : Due) → ((h : Calls) → requested_in answer.lines h ≡ h) → ((x : ℤ) → (x ≡ t → ⊥) → is_wanted x next ≡ is_wanted x past) → watch.due ≡ Nothing → due ≡ One t → Watches watch past limbo
+      → is_watched next ≡ true → (x : ℤ) → IsDue next limbo due x ⊎ (is_asked_in x (calls_of next) ≡ is_sought x next limbo)
+  due_one watch limbo t due unrequested others idle is it opened x = by (int_eq x t) refl
     where
-      by : (b : Bool) → int_eq x t ≡ b → IsDue next due x ⊎ (is_asked_in x (calls_of next) ≡ is_wanted x next)
-      by true same = inl (subst (λ (d : Due). IsDue next d x) (sym is) ((Decides-int_eq x t).0 same))
+      by : (b : Bool) → int_eq x t ≡ b → IsDue next limbo due x ⊎ (is_asked_in x (calls_of next) ≡ is_sought x next limbo)
+      by true same = inl (subst (λ (d : Due). IsDue next limbo d x) (sym is) ((Decides-int_eq x t).0 same))
       by false other =
           let apart : x ≡ t → ⊥ = λ same. true≢false (sym ((Decides-int_eq x t).1 same) ∙ other) in
           inr (⊎_elim
-          (λ was. absurd (subst (λ (d : Due). IsDue past d x) idle was))
-          (λ asks. ap (is_asked_in x) (calls_passes unrequested) ∙ asks ∙ sym (others x apart))
+          (λ was. absurd (subst (λ (d : Due). IsDue past limbo d x) idle was))
+          (λ asks. ap (is_asked_in x) (calls_passes unrequested) ∙ asks ∙ sym (sought_still past next limbo x (others x apart)))
           (it.due (sym opening_passes ∙ opened) x))
 
   -- a target is wanted that may not have been
-  pub watches_began : (old new : WatchStream) (t : ℤ) → ((h : Calls) → requested_in answer.lines h ≡ h) → ((x : ℤ) → (x ≡ t → ⊥) → is_wanted x next ≡ is_wanted x past) → ((x : ℤ) → is_wanted x past ≡ true → is_wanted x next ≡ true)
-      → old.due ≡ Nothing → new ≡ record old { due = One t } → Watches old past → Watches new next
-  watches_began old new t unrequested others more idle is it = subst (λ (w : WatchStream). Watches w next) (sym is) (record {
+  pub watches_began : (old new : WatchStream) (limbo : Limbo) (t : ℤ) → ((h : Calls) → requested_in answer.lines h ≡ h) → ((x : ℤ) → (x ≡ t → ⊥) → is_wanted x next ≡ is_wanted x past) → ((x : ℤ) → is_wanted x past ≡ true → is_wanted x next ≡ true)
+      → old.due ≡ Nothing → new ≡ record old { due = One t } → Watches old past limbo → Watches new next limbo
+  watches_began old new limbo t unrequested others more idle is it = subst (λ (w : WatchStream). Watches w next limbo) (sym is) (record {
     opening = it.opening ∙ sym opening_passes;
     calls = subst (AggregatorStandsFor old.aggregator) (sym (calls_passes unrequested)) it.calls;
     online = it.online ∙ sym online_passes;
     current = λ x. it.current x ∙ ap (option_map current_with) (sym (current_passes x (more x)));
     spelled = subst AreSpelledCalls (sym (calls_passes unrequested)) it.spelled;
-    due = due_one old t (One t) unrequested others idle refl it;
+    due = due_one old limbo t (One t) unrequested others idle refl it;
   })
 
   -- a listener of the target ended
-  pub watches_ended : (old new : WatchStream) (t : ℤ) (wanted : Bool) → ((h : Calls) → requested_in answer.lines h ≡ h) → ((x : ℤ) → (x ≡ t → ⊥) → is_wanted x next ≡ is_wanted x past) → is_wanted t next ≡ wanted → is_wanted t past ≡ true
-      → old.due ≡ Nothing → Ends t wanted old new → Watches old past → Watches new next
-  watches_ended old new t wanted unrequested others now was idle ends it = record {
+  pub watches_ended : (old new : WatchStream) (limbo : Limbo) (t : ℤ) (wanted : Bool) → ((h : Calls) → requested_in answer.lines h ≡ h) → ((x : ℤ) → (x ≡ t → ⊥) → is_wanted x next ≡ is_wanted x past) → is_wanted t next ≡ wanted → is_wanted t past ≡ true
+      → old.due ≡ Nothing → Ends t wanted old new → Watches old past limbo → Watches new next limbo
+  watches_ended old new limbo t wanted unrequested others now was idle ends it = record {
     opening = ends.opening ∙ it.opening ∙ sym opening_passes;
     calls = subst (λ (a : _). AggregatorStandsFor a (calls_of next)) (sym ends.aggregator) (subst (AggregatorStandsFor old.aggregator) (sym (calls_passes unrequested)) it.calls);
     online = ends.online ∙ it.online ∙ sym online_passes;
     current = λ x. ends.current x ∙ by x (int_eq t x) refl;
     spelled = subst AreSpelledCalls (sym (calls_passes unrequested)) it.spelled;
-    due = due_one old t new.due unrequested others idle ends.due it;
+    due = due_one old limbo t new.due unrequested others idle ends.due it;
   }
     where
       by : (x : ℤ) (b : Bool) → int_eq t x ≡ b → (if b && not wanted then None else standing_in old.current.targets.items x) ≡ option_map current_with (current_keys x next)

@@ -1,6 +1,14 @@
 -- those of some targets of which something holds
-use Rattle.std.proofs.Common.{◌≡◌, ◌↔◌, ◌⊎◌, ⊎_elim, ℕ, ◌+◌, ◌<◌, ◌≤◌, suc, zero, ℤ, ◌<ℤ◌, List, [], ◌∷◌, ◌++◌, take, length, get_or, refl, sym, ap, subst, ◌∙◌, arith}
+use Rattle.std.proofs.Common.{◌≡◌, ◌↔◌, ◌⊎◌, ⊎_elim, ℕ, ◌+◌, ◌<◌, ◌≤◌, suc, zero, ℤ, ◌<ℤ◌, List, [], ◌∷◌, ◌++◌, take, length, get_or, Less, refl, sym, ap, subst, ◌∙◌, arith}
+use Rattle.std.specs.BTreeSet.{BTreeSet}
+use Rattle.std.specs.BTreeSet as set
+use Rattle.std.specs.Cmp.{int_ranks}
 use Rattle.std.specs.List.{All, AllPairs, Contains}
+use Rattle.std.specs.Ordering.{MatchOrdering, int_cmp}
+use Rattle.std.proofs.lemmas.Cmp.{int_cmp_total}
+use Rattle.std.proofs.lemmas.Map.Keys.{Less-from_sorted}
+use Rattle.std.proofs.lemmas.Map.Lookups.{exact_signed}
+use Rattle.std.proofs.lemmas.Map.Views.{btree_set_contains_from_list, btree_set_contains_iff}
 use Rattle.std.proofs.lemmas.List.{take_more, get_or-take, length-take-le}
 use Rattle.std.proofs.lemmas.List.Quantifiers.{all_pairs_push}
 use Rattle.std.proofs.lemmas.List.Elements.{All-contains, All-from_get_or, Contains-get_or, Contains-append_left, Contains-push, Contains-push_cases}
@@ -73,3 +81,21 @@ module _ (P : ℤ → Type 0) (ids those : List ℤ) (n : ℕ) (x : ℤ) (ascend
           (of_grown t both.0),
     );
   }
+
+-- ---- sets of ids
+
+less_is : (x y : ℤ) → int_cmp x y ≡ Less → x <ℤ y
+less_is x y is = subst (λ o. MatchOrdering o (x <ℤ y) (x ≡ y) (y <ℤ x)) is (int_ranks x y)
+
+-- the items of a set ascend
+pub ids_ascend : (s : BTreeSet ℤ) (ids : List ℤ) → set.IsOrdered int_cmp s → ids ≡ s.keys → AllPairs ◌<ℤ◌ ids
+ids_ascend s ids ordered same i j d before inside =
+    let all = ap (λ (l : List ℤ). length l) same in
+    subst (λ (l : List ℤ). get_or l i d <ℤ get_or l j d) (sym same) (less_is (get_or s.keys i d) (get_or s.keys j d) (Less-from_sorted int_cmp s.keys i j d ordered before (omega (arith, inside, all))))
+
+-- they are those of which the set was made
+pub ids_members : (s : BTreeSet ℤ) (ids from : List ℤ) → set.IsFromIterResult int_cmp from s → ids ≡ s.keys → (t : ℤ) → Contains ids t ↔ Contains from t
+ids_members s ids from made same t =
+    let has = btree_set_contains_iff int_cmp_total exact_signed s t in
+    let is = btree_set_contains_from_list int_cmp_total exact_signed from s made t in
+    (λ there. is.0 (has.1 (subst (λ (l : List ℤ). Contains l t) same there)), λ there. subst (λ (l : List ℤ). Contains l t) (sym same) (has.0 (is.1 there)))

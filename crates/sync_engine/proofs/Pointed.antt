@@ -1,5 +1,5 @@
 -- the turn of a point that is committed
-use Rattle.std.proofs.Common.{◌≡◌, ◌↔◌, ◌⊎◌, ⊎_elim, inl, inr, ℕ, ℤ, pos, ◌+◌, ◌-◌, ◌*◌, ◌==◌, ◌<◌, ◌<ℤ◌, ◌≤◌, suc, zero, Bool, true, false, ◌&&◌, not, nat_eq, List, [], ◌∷◌, length, cond, Option, Some, None, option_map, is_some, IfSome, IsTrue, IsSome, if◌then◌else◌, Vec, Global, refl, sym, ap, subst, ◌∙◌, arith}
+use Rattle.std.proofs.Common.{◌≡◌, ◌↔◌, ◌⊎◌, ⊎_elim, inl, inr, ℕ, ℤ, pos, ◌+◌, ◌-◌, ◌*◌, ◌==◌, ◌<◌, ◌<ℤ◌, ◌≤◌, suc, zero, Bool, true, false, ◌&&◌, ◌||◌, not, nat_eq, List, [], ◌∷◌, length, cond, Option, Some, None, option_map, is_some, IfSome, IsTrue, IsSome, if◌then◌else◌, Vec, Global, refl, sym, ap, subst, ◌∙◌, arith}
 use Rattle.std.proofs.lemmas.Bool.{eqb-true, lt-ltb, true≢false}
 use Rattle.std.proofs.lemmas.Bool.Decides.{Decides-int_eq}
 use Rattle.std.proofs.lemmas.Option.{none-some}
@@ -23,9 +23,9 @@ use Rattle.listen_protocol.specs.Calls.{Calls, Key, applied, came, changes, is_o
 use Rattle.listen_protocol.specs.ToldKeys.{told_keys}
 use Rattle.listen_protocol.specs.Transcript.{counts, is_asked_in, is_current_in, is_wanted as is_wanted_in, open_count}
 use Rattle.host_api.specs.Host.{View}
-use Rattle.listeners.proofs.Settling.{raised_stays_settled, settled_stays}
 use Rattle.listeners.specs.Concerns.{Concerns}
-use Rattle.listeners.specs.Laws.{IsSettled}
+use Rattle.limbo_listens.specs.Listens.{Listens, limbo_at}
+use Rattle.limbo_resolver.specs.Laws.{IsSound}
 use Rattle.listeners.specs.Table.{IsWanted, Table, target_of, viewed}
 use Rattle.local_store.specs.Documents.{document_of, entry_of, touched_keys_of}
 use Rattle.local_store.specs.Files.{Moves}
@@ -67,8 +67,9 @@ use Rattle.sync_engine.specs.Hearing as hearing
 use Rattle.sync_engine.specs.Moving.{AreCurrentOf, AreMoved, IsCurrentAt}
 use Rattle.sync_engine.specs.Past.{Past, Turn}
 use Rattle.sync_engine.specs.Settling.{IsHeldFor, IsHeldRow, MayStart, Stance, current_with, stance_by, standing_or}
-use Rattle.sync_engine.specs.Standing.{HasTargetRow, IsDue, IsQuiet, Kept, StandsFor, Watches, stance_in, standing_in}
-use Rattle.sync_engine.specs.Stream.{Applies, Hears, reset_of}
+use Rattle.sync_engine.specs.LimboListens.{heard_limbo, limbo_of}
+use Rattle.sync_engine.specs.Standing.{HasTargetRow, IsDue, IsQuiet, Kept, StandsFor, Watches, limbo_in, stance_in, standing_in}
+use Rattle.sync_engine.specs.Stream.{Applies, Hears, resets_of}
 use Rattle.sync_engine.specs.Telling.{HandsSettled, IsQuietOrAmong, IsShown, KeepsRest, MovesBy, Raises}
 use Rattle.sync_engine.specs.Turn.{answered_next}
 use Rattle.sync_engine.specs.Turns.{after, commits, refused}
@@ -82,6 +83,8 @@ use Rattle.sync_engine.specs.declared.watch_stream.Due.TheVariants.{Nothing}
 use Rattle.sync_engine.specs.declared.watch_stream.WatchStream.{WatchStream}
 use Rattle.sync_engine.proofs.Committed.{moves_by}
 use Rattle.sync_engine.proofs.Following.{Follows, are_quiet}
+use Rattle.sync_engine.proofs.Heard.{heard_still}
+use Rattle.sync_engine.proofs.Quiet.{quiet_uncurrent}
 use Rattle.sync_engine.proofs.Handing.{as_done, handed, no_reset}
 use Rattle.sync_engine.proofs.Turning.{among_or_not, stays_on, viewed_linked}
 use Rattle.sync_engine.proofs.Wanted.{first_among, later_among, wanted_in}
@@ -147,36 +150,6 @@ document_stays s at entries rows key same =
     let document : document_of t key ≡ document_of s key = λ i. local_document key (base_of (entry i)) s.batches in
     let kept : (d : Document) → stored t key d ≡ stored s key d = λ d i. record { fields = d.fields; update_time = d.update_time; state = if is_named s key then stands.Pending else standing_by (same i) } in
     documents_local t key ∙ ap (λ (f : Document → Stored). option_map f (document_of t key)) (λ i d. kept d i) ∙ ap (option_map (stored s key)) document ∙ sym (documents_local s key)
-
--- ---- listeners whose target isn't current
-
--- a view that may start and is quiet has raised a snapshot
-raised_already : (root : Root) (s : State) (stance : Stance) (view : Viewed) (quiet : IsQuiet root s stance view) → quiet.may_start ≡ true → IsSome view.raised
-raised_already root s stance view quiet may = by view.raised refl
-  where
-    by : (r : Option Raised) → view.raised ≡ r → IsSome view.raised
-    by (Some raised) is = ap is_some is
-    by None is =
-        let it = quiet.settled.refreshes in
-        absurd (it.unwanted quiet.settled.silent (subst (λ (r : Option Raised). RaisesView (documents_of s) it.answer it.from_cache quiet.may_start r) (sym is) (inr (inr may))))
-
--- such a listener stays quiet where its documents stay and it may start no more, or as before
-pub quiet_uncurrent : (root : Root) (s t : State) (stance other : Stance) (view : Viewed) → ((key : List (List ℕ)) → Concerns view.target key → finite.get (documents_of t) key ≡ finite.get (documents_of s) key) → stance.standing.current ≡ false → other.standing ≡ stance.standing
-    → ((IsHeldFor t.rows other.target ⊎ (other.offline ≡ true)) → IsHeldFor s.rows stance.target ⊎ (stance.offline ≡ true)) → (may : Bool) → MayStart t other may → IsQuiet root s stance view → IsQuiet root t other view
-quiet_uncurrent root s t stance other view same uncurrent standing falls may start quiet =
-    record {
-      may_start = may;
-      start = start;
-      settled = subst (λ (k : Standing). IsSettled root (documents_of t) (touched_keys_of t) k may view) (sym standing) (by may refl quiet.may_start refl);
-    }
-  where
-    stays : IsSettled root (documents_of t) (touched_keys_of t) stance.standing quiet.may_start view
-    stays = settled_stays root (documents_of s) (documents_of t) (touched_keys_of s) (touched_keys_of t) stance.standing quiet.may_start view uncurrent quiet.settled same
-
-    by : (b : Bool) → may ≡ b → (was : Bool) → quiet.may_start ≡ was → IsSettled root (documents_of t) (touched_keys_of t) stance.standing may view
-    by b is true was = raised_stays_settled root (documents_of t) (touched_keys_of t) stance.standing quiet.may_start may view (raised_already root s stance view quiet was) stays
-    by true is false was = absurd (true≢false (sym (quiet.start.1 (falls (start.0 is))) ∙ was))
-    by false is false was = subst (λ (m : Bool). IsSettled root (documents_of t) (touched_keys_of t) stance.standing m view) (was ∙ sym is) stays
 
 -- ---- whether a row is held
 
@@ -273,6 +246,7 @@ pub record IsPointed (old mid : Kept) (past : Past) (response : ListenResponse) 
   pub current : AreCurrentOf old.listeners it.targets.items mid.watch.current.targets.items
   pub root : mid.root ≡ old.root
   pub listeners : mid.listeners ≡ old.listeners
+  pub held : mid.limbo ≡ old.limbo
   pub writes : mid.writes ≡ old.writes
   pub opening : mid.watch.is_open ≡ passed_on.is_open
   pub aggregator : mid.watch.aggregator ≡ passed_on.aggregator
@@ -334,26 +308,32 @@ module _ {old mid : Kept} {past : Past} (response : ListenResponse) (at : Timest
       by true wanted false counting d current = of_it.current.none x (λ target is same. true≢false (sym (shut target is same).1 ∙ counting))
       by true wanted true counting false current = of_it.current.none x (λ target is same. true≢false (sym (shut target is same).2 ∙ current))
 
-  watch : Watches mid.watch next
+  watch : Watches mid.watch next (limbo_of past)
   watch = record {
     opening = of_it.opening ∙ of_it.applies.rest.opening ∙ of_it.hears.opening ∙ stands.watch.opening;
     calls = subst (λ (a : _). AggregatorStandsFor a (calls_of next)) (sym of_it.aggregator) (subst (AggregatorStandsFor of_it.passed_on.aggregator) (sym calls_are) parts.1);
     online = of_it.online ∙ of_it.applies.rest.online ∙ of_it.hears.online;
-    current = λ x. current_at x ∙ sym (ap (λ b. option_map current_with (if_so (is_wanted x past && true) (if b && true then keys_at_point x (came response ∷ calls_of past) else if is_mismatch (calls_of past) response x then None else current_keys x past))) is_one);
+    current = λ x. current_at x ∙ sym (ap (λ b. option_map current_with (if_so (is_wanted x past && true) (if b && true then keys_at_point x (came response ∷ calls_of past) else if is_mismatch (calls_of past) response x || false then None else current_keys x past))) is_one);
     spelled = subst AreSpelledCalls (sym calls_are) (spelled, stands.watch.spelled);
     due = λ opened x. ⊎_elim
-        (λ due. absurd (subst (λ (d : _). IsDue past d x) idle due))
+        (λ due. absurd (subst (λ (d : _). IsDue past (limbo_of past) d x) idle due))
         (λ asks. inr (ap (is_asked_in x) calls_are ∙ asked_kept x response (calls_of past) (message_is.kept x) ∙ asks))
         (stands.watch.due opened x);
   }
 
-  follows_point : Follows mid (after old.store.state answer.commit) next
+  goes_on : limbo_of past ≡ heard_limbo (calls_of past) response (limbo_of past)
+  goes_on = heard_still (calls_of past) response (limbo_of past) (λ t is. absurd (true≢false (sym is ∙ message_is.kept t)))
+
+  follows_point : Follows mid (after old.store.state answer.commit) next (heard_limbo (calls_of past) response (limbo_of past))
   follows_point = record {
     state = of_it.state;
     listeners = λ id. ap (λ (t : Table). viewed t id) of_it.listeners ∙ stands.listeners id;
     targets = λ id. ap (λ (t : Table). target_of t id) of_it.listeners ∙ stands.targets id;
     rows = λ id. has (listened id past) (stands.rows id);
-    watch = watch;
+    unshown = λ id none. ap (λ (l : Listens). limbo_at l id) of_it.held ∙ stands.unshown id none;
+    limbo_is = ap (λ (l : Listens). l.limbo) of_it.held ∙ stands.limbo_is ∙ goes_on;
+    sound = subst IsSound goes_on stands.sound;
+    watch = subst (Watches mid.watch next) goes_on watch;
     writes = stays_on (sym of_it.writes) stands.writes;
     pending = stands.pending;
   }
@@ -405,19 +385,20 @@ module _ {old mid : Kept} {past : Past} (response : ListenResponse) (at : Timest
         online : mid.watch.online ≡ Online
         online = of_it.online ∙ of_it.applies.rest.online ∙ of_it.hears.online
 
-    quiet_still : IsQuiet mid.root mid.store.state (stance_in mid id) view
+    quiet_still : IsQuiet mid.root mid.store.state (stance_in mid id) (limbo_in mid id) view
     quiet_still =
         let may = decide_held (told at rows old.store.state.rows) t in
-        subst (λ (r : Root). IsQuiet r mid.store.state (stance_in mid id) view) (sym of_it.root)
-        (subst (λ (x : State). IsQuiet old.root x (stance_in mid id) view) (sym of_it.state)
-        (subst (λ (k : Stance). IsQuiet old.root (committed old.store.state (Point at entries rows)) k view) (sym mid_stance)
+        subst (λ (r : Root). IsQuiet r mid.store.state (stance_in mid id) (limbo_in mid id) view) (sym of_it.root)
+        (subst (λ (x : State). IsQuiet old.root x (stance_in mid id) (limbo_in mid id) view) (sym of_it.state)
+        (subst (λ (l : Listens). IsQuiet old.root (committed old.store.state (Point at entries rows)) (stance_in mid id) (limbo_at l id) view) (sym of_it.held)
+        (subst (λ (k : Stance). IsQuiet old.root (committed old.store.state (Point at entries rows)) k (limbo_in old id) view) (sym mid_stance)
         (quiet_uncurrent old.root old.store.state (committed old.store.state (Point at entries rows))
-        (stance_by (Some t) (λ x. standing_in old.watch.current.targets.items x) old.watch.online) (stance_by (Some t) (λ x. standing_in mid.watch.current.targets.items x) Online) view documents
+        (stance_by (Some t) (λ x. standing_in old.watch.current.targets.items x) old.watch.online) (stance_by (Some t) (λ x. standing_in mid.watch.current.targets.items x) Online) (limbo_in old id) view documents
         (ap (λ (o : Option Standing). (standing_or o).current) was_none)
         (ap standing_or now_none ∙ sym (ap standing_or was_none))
         (λ it. ⊎_elim (λ held. inl ((held_told at rows old.store.state.rows t row_apart).0 held)) (λ off. absurd (true≢false (sym off))) it)
         may.0 (λ is. inl (may.1.0 is), λ it. may.1.1 (⊎_elim (λ held. held) (λ off. absurd (true≢false (sym off))) it))
-        (subst (λ (k : Stance). IsQuiet old.root old.store.state k view) old_stance (are_quiet stands id view was)))))
+        (subst (λ (k : Stance). IsQuiet old.root old.store.state k (limbo_in old id) view) old_stance (are_quiet stands id view was))))))
 
   quiet_or_moved : IsQuietOrAmong ids mid
   quiet_or_moved id view there = ⊎_elim inl (λ never. inr (by never (target_of old.listeners id) refl)) (among_or_not ids id)
@@ -425,7 +406,7 @@ module _ {old mid : Kept} {past : Past} (response : ListenResponse) (at : Timest
       was : viewed old.listeners id ≡ Some view
       was = ap (λ (t : Table). viewed t id) (sym of_it.listeners) ∙ there
 
-      by : (Contains ids id → ⊥) → (o : Option ℤ) → target_of old.listeners id ≡ o → IsQuiet mid.root mid.store.state (stance_in mid id) view
+      by : (Contains ids id → ⊥) → (o : Option ℤ) → target_of old.listeners id ≡ o → IsQuiet mid.root mid.store.state (stance_in mid id) (limbo_in mid id) view
       by never None none = absurd (viewed_linked old.listeners id view was none)
       by never (Some t) linked = quiet_still id view t was linked never
 
@@ -438,7 +419,7 @@ module _ {old mid : Kept} {past : Past} (response : ListenResponse) (at : Timest
   pub hands_point : {new : Kept} {before given : _} {vec : Vec Out Global} → IsNotBelow old.store.state.last_read at → old.store.state.number < most_commits → KeepsRest mid new → given ≡ ids → (IsQuietOrAmong given mid → Raises mid new before vec.items) → before ≡ []
       → HandsSettled old.store.state past (event.Watch response) (Done vec) new
   hands_point {new} {before} {given} {vec} time few rest same raises none =
-      as_done refl (no_reset past (event.Watch response) new (λ t. message_is.agrees (calls_of past) t) (ap reset_of (ap (λ (w : WatchStream). w.due) rest.watch ∙ of_it.due ∙ of_it.applies.rest.due ∙ of_it.hears.due ∙ idle)))
+      as_done refl (no_reset past (event.Watch response) (Some (Point at entries rows)) new (λ t. ap (λ b. b || false) (message_is.agrees (calls_of past) t)) (ap resets_of (ap (λ (w : WatchStream). w.due) rest.watch ∙ of_it.due ∙ of_it.applies.rest.due ∙ of_it.hears.due ∙ idle)))
       (handed old.store.state past (event.Watch response) answer mid new before vec.items (point_answers time few) refl follows_point rest
       (raises (subst (λ (l : List ℕ). IsQuietOrAmong l mid) (sym same) quiet_or_moved)) (λ id. refl)
       (subst (λ (os : List Out). AllZip (IsShown new) os []) (sym none) tt))

@@ -1,23 +1,25 @@
 -- what is read off the past of the stream of listeners, where lines come behind an answer
-use Rattle.std.proofs.Common.{◌≡◌, ◌⊎◌, ⊎_elim, inl, inr, ℕ, ℤ, Bool, true, false, ◌&&◌, not, List, [], ◌∷◌, ◌++◌, map as each, Option, Some, None, option_map, refl, sym, ap, subst, ◌∙◌}
+use Rattle.std.proofs.Common.{◌≡◌, ⊎_elim, inl, inr, ℕ, ℤ, ◌&&◌, not, List, [], ◌∷◌, map as each, Option, option_map, refl, sym, ap, subst, ◌∙◌}
 use Rattle.std.proofs.lemmas.List.Sums.{fold-append}
 use Rattle.std.specs.List.{fold, list_any}
 use Rattle.client_events.specs.declared.event.Event.{Event}
+use Rattle.limbo_resolver.specs.Limbo.{Limbo}
 use Rattle.listen_protocol.specs.Calls.{Calls}
+use Rattle.listen_protocol.specs.Transcript.{is_asked_in}
 use Rattle.local_store.specs.State.{State}
 use Rattle.mutations.specs.declared.batch.Batch.{Batch}
 use Rattle.watch_aggregator.specs.Standing.{StandsFor as AggregatorStandsFor}
 use Rattle.watch_points.specs.SpelledCalls.{AreSpelledCalls}
-use Rattle.sync_engine.specs.declared.watch_stream.Due.{Due}
-use Rattle.sync_engine.specs.declared.watch_stream.Due.TheVariants.{Nothing, One, Reset, All as due_all}
 use Rattle.sync_engine.specs.declared.watch_stream.WatchStream.{WatchStream}
+use Rattle.sync_engine.specs.LimboListens.{is_sought}
 use Rattle.sync_engine.specs.Lines.{Line, Told}
 use Rattle.sync_engine.specs.Past.{Past, Turn}
-use Rattle.sync_engine.specs.Settling.{Stance, current_with, stance_by, stance_of}
-use Rattle.sync_engine.specs.Standing.{IsDue, Watches}
+use Rattle.sync_engine.specs.Settling.{current_with, stance_by, stance_of}
+use Rattle.sync_engine.specs.Standing.{Watches}
 use Rattle.sync_engine.specs.Turn.{answered_next, snapshot_line, with_lines}
-use Rattle.sync_engine.specs.Watching.{WatchStep, begun, begun_by, begun_in, calls_by, calls_of, current_keys, if_so, is_offline, is_target, is_wanted, listened, listened_by, listened_in, online_of, requested_by, requested_in, step_by, told_by}
+use Rattle.sync_engine.specs.Watching.{begun, begun_by, begun_in, calls_by, calls_of, current_keys, if_so, is_offline, is_target, is_wanted, listened, listened_by, listened_in, online_of, requested_by, requested_in, step_by, told_by}
 use Rattle.sync_engine.specs.Writing.{request_of}
+use Rattle.sync_engine.proofs.Passing.{due_still, sought_still}
 
 -- ---- lines of which nothing is read
 
@@ -29,13 +31,6 @@ module _ {B : Type 0} (f : B → Line → B) where
   pub fold_sent : ((b : B) (token : List ℕ) (x : Batch) → f b (request_of token x) ≡ b) → (token : List ℕ) (xs : List Batch) (b : B) → fold f b (each (request_of token) xs) ≡ b
   fold_sent plain token [] b = refl
   fold_sent plain token (x ∷ xs) b = ap (λ y. fold f y (each (request_of token) xs)) (plain b token x) ∙ fold_sent plain token xs b
-
--- a request is due for the same targets where the same are wanted
-pub due_same : (a b : Past) (x : ℤ) (d : Due) → is_wanted x a ≡ is_wanted x b → IsDue a d x → IsDue b d x
-due_same a b x Nothing same due = due
-due_same a b x (One id) same due = due
-due_same a b x (Reset id) same due = due
-due_same a b x due_all same due = sym same ∙ due
 
 -- ---- more lines behind a turn, of which no target is read
 
@@ -65,8 +60,11 @@ module _ (past : Past) (s : State) (e : Event) (t : Turn) (more : List Line)
   pub calls_behind : calls_of behind ≡ requested_in more (calls_of before)
   calls_behind = fold-append requested_by (calls_by (step_by e t.refusal) t.commit (calls_of past)) t.lines more
 
-  pub watches_behind : {watch : WatchStream} → ((h : Calls) → requested_in more h ≡ h) → Watches watch before → Watches watch behind
-  watches_behind {watch} unrequested it =
+  pub sought_behind : (x : ℤ) (limbo : Limbo) → is_sought x behind limbo ≡ is_sought x before limbo
+  sought_behind x limbo = sought_still before behind limbo x (wanted_behind x)
+
+  pub watches_behind : {watch : WatchStream} {limbo : Limbo} → ((h : Calls) → requested_in more h ≡ h) → Watches watch before limbo → Watches watch behind limbo
+  watches_behind {watch} {limbo} unrequested it =
       let same : calls_of behind ≡ calls_of before = calls_behind ∙ unrequested (calls_of before) in
       record {
         opening = it.opening;
@@ -75,7 +73,7 @@ module _ (past : Past) (s : State) (e : Event) (t : Turn) (more : List Line)
         current = λ x. it.current x ∙ ap (option_map current_with) (sym (current_behind x));
         spelled = subst AreSpelledCalls (sym same) it.spelled;
         due = λ opened x. ⊎_elim
-            (λ due. inl (due_same before behind x watch.due (sym (wanted_behind x)) due))
-            (λ asks. inr (ap (Rattle.listen_protocol.specs.Transcript.is_asked_in x) same ∙ asks ∙ sym (wanted_behind x)))
+            (λ due. inl (due_still before behind limbo x watch.due (wanted_behind x) due))
+            (λ asks. inr (ap (Rattle.listen_protocol.specs.Transcript.is_asked_in x) same ∙ asks ∙ sym (sought_behind x limbo)))
             (it.due opened x);
       }

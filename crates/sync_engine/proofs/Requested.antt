@@ -1,5 +1,5 @@
 -- the requests on the stream of listeners
-use Rattle.std.proofs.Common.{◌≡◌, ◌↔◌, ◌⊎◌, ⊎_elim, inl, inr, ℕ, ℤ, ◌+◌, Bool, true, false, ◌&&◌, ◌||◌, ◌==◌, not, if◌then◌else◌, List, [], ◌∷◌, map as each, Option, refl, sym, ap, subst, ◌∙◌, arith}
+use Rattle.std.proofs.Common.{◌≡◌, ◌↔◌, ◌⊎◌, ⊎_elim, inl, inr, ℕ, ℤ, ◌+◌, Bool, true, false, ◌&&◌, ◌||◌, ◌==◌, not, if◌then◌else◌, List, [], ◌∷◌, ◌++◌, map as each, Option, refl, sym, ap, subst, ◌∙◌, arith}
 use Rattle.std.proofs.lemmas.Bool.{ne_eqb, true≢false}
 use Rattle.std.proofs.lemmas.Bool.Decides.{Decides-int_eq}
 use Rattle.std.specs.List.{AllZip, Contains, fold}
@@ -9,8 +9,13 @@ use Rattle.listen_protocol.specs.Transcript.{is_asked_in, is_wanted as is_wanted
 use Rattle.local_store.specs.State.{State}
 use Rattle.target_cache.specs.declared.row.Row.{Row}
 use Rattle.watch_points.specs.SpelledCalls.{AreSpelledCalls}
-use Rattle.sync_engine.specs.Asking.{IsAddLine}
+use Rattle.limbo_resolver.specs.Limbo.{Limbo}
+use Rattle.queries.specs.declared.target.Target.TheVariants.{Document as a_document}
+use Rattle.target_cache.specs.Cache.{blank}
+use Rattle.sync_engine.specs.Asking.{IsAddLine, IsListenLine}
 use Rattle.sync_engine.specs.Lines.{Line, add, document, error, listening, rejected, remove, result, send, snapshot, unlistened, wrote}
+use Rattle.write_pipeline.specs.Order.{Steps}
+use Rattle.sync_engine.specs.Past.{sent_in}
 use Rattle.sync_engine.specs.Requesting.{unasked_all}
 use Rattle.sync_engine.specs.Watching.{held_keys, requested_by, requested_in, wanted_document}
 use Rattle.sync_engine.proofs.Wanted.{cons_cases, first_among, later_among}
@@ -59,19 +64,46 @@ asked_asked t x keys whose h = by (int_eq t x) refl (is_wanted_in t h)
         more n = positive n
     by false other w = (λ is. inl is, λ it. ⊎_elim (λ is. is) (λ same. absurd (true≢false (sym ((Decides-int_eq t x).1 (sym same)) ∙ other))) it)
 
+-- what holds of two lists and of two more, place by place, holds of them together
+pub zip_append : {X Y : Type 0} (R : X → Y → Type 0) (xs : List X) (ys : List Y) (us : List X) (vs : List Y) → AllZip R xs ys → AllZip R us vs → AllZip R (xs ++ us) (ys ++ vs)
+zip_append R [] [] us vs first second = second
+zip_append R [] (y ∷ ys) us vs first second = absurd first
+zip_append R (x ∷ xs) [] us vs first second = absurd first
+zip_append R (x ∷ xs) (y ∷ ys) us vs first second = (first.0, zip_append R xs ys us vs first.1 second)
+
+-- a line that is an add request of the target
+abbrev pub IsAdd : ℤ → Line → Type 0
+IsAdd t line = (row : Row) × (line ≡ add t row)
+
+pub are_adds : (s : State) (ids : List ℤ) (lines : List Line) → AllZip (IsAddLine s) ids lines → AllZip IsAdd ids lines
+are_adds s [] [] all = tt
+are_adds s [] (line ∷ lines) all = absurd all
+are_adds s (x ∷ ids) [] all = absurd all
+are_adds s (x ∷ ids) (line ∷ lines) all = ((all.0.row, all.0.is), are_adds s ids lines all.1)
+
+pub are_listens : (limbo : Limbo) (ids : List ℤ) (lines : List Line) → AllZip (IsListenLine limbo) ids lines → AllZip IsAdd ids lines
+are_listens limbo [] [] all = tt
+are_listens limbo [] (line ∷ lines) all = absurd all
+are_listens limbo (x ∷ ids) [] all = absurd all
+are_listens limbo (x ∷ ids) (line ∷ lines) all = ((blank (a_document all.0.key), all.0.is), are_listens limbo ids lines all.1)
+
+-- the adds of wanted targets, and those of the listens of documents in limbo
+pub all_adds : (s : State) (limbo : Limbo) (added listens : List ℤ) (lines listen_lines : List Line) → AllZip (IsAddLine s) added lines → AllZip (IsListenLine limbo) listens listen_lines → AllZip IsAdd (added ++ listens) (lines ++ listen_lines)
+all_adds s limbo added listens lines listen_lines first second = zip_append IsAdd added lines listens listen_lines (are_adds s added lines first) (are_listens limbo listens listen_lines second)
+
 -- behind add requests is asked what was, and these
-pub asked_added : (s : State) (t : ℤ) (ids : List ℤ) (lines : List Line) (h : Calls) → AllZip (IsAddLine s) ids lines → (is_asked_in t (requested_in lines h) ≡ true) ↔ ((is_asked_in t h ≡ true) ⊎ Contains ids t)
-asked_added s t [] [] h all = (inl, λ it. ⊎_elim (λ is. is) (λ there. absurd (omega (arith, there.1))) it)
-asked_added s t [] (line ∷ lines) h all = absurd all
-asked_added s t (x ∷ ids) [] h all = absurd all
-asked_added s t (x ∷ ids) (line ∷ lines) h all =
-    subst (λ (l : Line). (is_asked_in t (requested_in (l ∷ lines) h) ≡ true) ↔ ((is_asked_in t h ≡ true) ⊎ Contains (x ∷ ids) t)) (sym all.0.is) (down (asked_added s t ids lines one all.1), up (asked_added s t ids lines one all.1))
+pub asked_added : (t : ℤ) (ids : List ℤ) (lines : List Line) (h : Calls) → AllZip IsAdd ids lines → (is_asked_in t (requested_in lines h) ≡ true) ↔ ((is_asked_in t h ≡ true) ⊎ Contains ids t)
+asked_added t [] [] h all = (inl, λ it. ⊎_elim (λ is. is) (λ there. absurd (omega (arith, there.1))) it)
+asked_added t [] (line ∷ lines) h all = absurd all
+asked_added t (x ∷ ids) [] h all = absurd all
+asked_added t (x ∷ ids) (line ∷ lines) h all =
+    subst (λ (l : Line). (is_asked_in t (requested_in (l ∷ lines) h) ≡ true) ↔ ((is_asked_in t h ≡ true) ⊎ Contains (x ∷ ids) t)) (sym all.0.1) (down (asked_added t ids lines one all.1), up (asked_added t ids lines one all.1))
   where
     one : Calls
-    one = requested_by h (add x all.0.row)
+    one = requested_by h (add x all.0.0)
 
     step : (is_asked_in t one ≡ true) ↔ ((is_asked_in t h ≡ true) ⊎ (x ≡ t))
-    step = asked_asked t x (held_keys all.0.row.held) (wanted_document all.0.row.target) h
+    step = asked_asked t x (held_keys all.0.0.held) (wanted_document all.0.0.target) h
 
     down : ((is_asked_in t (requested_in lines one) ≡ true) ↔ ((is_asked_in t one ≡ true) ⊎ Contains ids t)) → is_asked_in t (requested_in lines one) ≡ true → (is_asked_in t h ≡ true) ⊎ Contains (x ∷ ids) t
     down rest is = ⊎_elim
@@ -110,8 +142,20 @@ pub fold_removes : {B : Type 0} (f : B → Line → B) → ((b : B) (t : ℤ) �
 fold_removes f plain [] b = refl
 fold_removes f plain (x ∷ ids) b = ap (λ y. fold f y (each remove ids)) (plain b x) ∙ fold_removes f plain ids b
 
-pub fold_adds : {B : Type 0} (f : B → Line → B) → ((b : B) (t : ℤ) (row : Row) → f b (add t row) ≡ b) → (s : State) (ids : List ℤ) (lines : List Line) (b : B) → AllZip (IsAddLine s) ids lines → fold f b lines ≡ b
-fold_adds f plain s [] [] b all = refl
-fold_adds f plain s [] (line ∷ lines) b all = absurd all
-fold_adds f plain s (x ∷ ids) [] b all = absurd all
-fold_adds f plain s (x ∷ ids) (line ∷ lines) b all = ap (λ y. fold f y lines) (ap (f b) all.0.is ∙ plain b x all.0.row) ∙ fold_adds f plain s ids lines b all.1
+pub fold_adds : {B : Type 0} (f : B → Line → B) → ((b : B) (t : ℤ) (row : Row) → f b (add t row) ≡ b) → (ids : List ℤ) (lines : List Line) (b : B) → AllZip IsAdd ids lines → fold f b lines ≡ b
+fold_adds f plain [] [] b all = refl
+fold_adds f plain [] (line ∷ lines) b all = absurd all
+fold_adds f plain (x ∷ ids) [] b all = absurd all
+fold_adds f plain (x ∷ ids) (line ∷ lines) b all = ap (λ y. fold f y lines) (ap (f b) all.0.1 ∙ plain b x all.0.0) ∙ fold_adds f plain ids lines b all.1
+
+-- ---- requests on the stream of listeners send no batch
+
+pub removes_unsent : (ids : List ℤ) (g : Steps) → sent_in (each remove ids) g ≡ g
+removes_unsent [] g = refl
+removes_unsent (x ∷ ids) g = removes_unsent ids g
+
+pub adds_unsent : (ids : List ℤ) (lines : List Line) (g : Steps) → AllZip IsAdd ids lines → sent_in lines g ≡ g
+adds_unsent [] [] g all = refl
+adds_unsent [] (line ∷ lines) g all = absurd all
+adds_unsent (x ∷ ids) [] g all = absurd all
+adds_unsent (x ∷ ids) (line ∷ lines) g all = ap (λ (l : Line). sent_in (l ∷ lines) g) all.0.1 ∙ adds_unsent ids lines g all.1

@@ -172,14 +172,14 @@ pub record Sending (old now : Kept) (before outs : List Out) (i : ℕ) : Type 0 
 
 pub none_sent : (old : Kept) (outs : List Out) → Sending old old outs outs 0
 none_sent old outs = record {
-  rest = record { root = refl; store = refl; listeners = refl; watch = refl; opening = refl; spent = refl };
+  rest = record { root = refl; store = refl; listeners = refl; limbo = refl; watch = refl; opening = refl; spent = refl };
   stands = λ h stands. stands;
   some = λ h stands. omega arith;
   told = λ h stands. sym (append-nil outs);
 }
 
 keeps_then : {old mid new : Kept} → KeepsButPipeline old mid → KeepsButPipeline mid new → KeepsButPipeline old new
-keeps_then first second = record { root = second.root ∙ first.root; store = second.store ∙ first.store; listeners = second.listeners ∙ first.listeners; watch = second.watch ∙ first.watch; opening = second.opening ∙ first.opening; spent = second.spent ∙ first.spent }
+keeps_then first second = record { root = second.root ∙ first.root; store = second.store ∙ first.store; listeners = second.listeners ∙ first.listeners; limbo = second.limbo ∙ first.limbo; watch = second.watch ∙ first.watch; opening = second.opening ∙ first.opening; spent = second.spent ∙ first.spent }
 
 pub sent_rest : {old now new : Kept} {before outs : List Out} {i : ℕ} → Sending old now before outs i → KeepsButPipeline now new → KeepsButPipeline old new
 sent_rest it more = keeps_then it.rest more

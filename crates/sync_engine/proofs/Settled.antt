@@ -1,13 +1,14 @@
 -- how the listeners are refreshed, one after another
 use Rattle.std.proofs.Common.{◌≡◌, ◌⊎◌, ⊎_elim, inl, inr, ℕ, ◌+◌, ◌<◌, ◌≤◌, Bool, true, false, nat_eq, List, [], ◌∷◌, ◌++◌, map as each, length, take, Option, Some, None, is_some, IfSome, if◌then◌else◌, refl, sym, ap, subst, ◌∙◌, arith, get_or}
-use Rattle.std.specs.List.{All, AllPairs, Contains}
-use Rattle.std.proofs.lemmas.Bool.{eqb-true, eq-eqb, eqb-false}
+use Rattle.std.specs.List.{All, AllPairs, Contains, list_any}
+use Rattle.std.proofs.lemmas.Bool.{eqb-true, eq-eqb, eqb-false, true≢false}
 use Rattle.std.proofs.lemmas.Option.{none-some}
 use Rattle.std.proofs.lemmas.List.{take_more, append-nil, append_assoc, get_or-take, length-take-le, map-append}
 use Rattle.std.proofs.lemmas.List.Quantifiers.{all_pairs_push}
 use Rattle.std.proofs.Math.Seq.{take-length}
 use Rattle.std.proofs.lemmas.List.Elements.{All-nil, All-cons, All-head, All-tail, All-weaker, All-append, All-contains, All-from_get_or, All-get_or, Contains-append_left, Contains-push, Contains-push_cases}
 use Rattle.document_keys.specs.Names.{Root}
+use Rattle.limbo_resolver.specs.Limbo.{Key}
 use Rattle.listeners.specs.Table.{viewed}
 use Rattle.local_store.specs.State.{State}
 use Rattle.local_store.specs.Store.{Store}
@@ -16,10 +17,11 @@ use Rattle.views.specs.declared.raised.Raised.{Raised}
 use Rattle.sync_engine.specs.Lines.{Told}
 use Rattle.sync_engine.specs.Past.{told}
 use Rattle.sync_engine.specs.Settling.{IsBelow, ShowsAt, Stance, stance_by, told_to}
-use Rattle.sync_engine.specs.Standing.{Kept, IsQuiet, stance_in, standing_in}
+use Rattle.sync_engine.specs.Standing.{Kept, IsQuiet, limbo_in, stance_in, standing_in}
 use Rattle.sync_engine.specs.Telling.{IsQuietOrAmong, KeepsRest, Raises, ShowsOne}
 use Rattle.sync_engine.specs.declared.out.Out.{Out}
 use Rattle.sync_engine.specs.declared.out.Out.TheVariants.{Raised as RaisedBy}
+use Rattle.sync_engine.proofs.Among.{among_any, any_among}
 use Rattle.sync_engine.proofs.Quiet.{quiet_shows_at}
 
 -- the listeners of these ids were refreshed; `ts` is what they raised, and no other listener changed
@@ -31,13 +33,16 @@ pub record Settling (old now : Kept) (before outs : List Out) (ids : List ℕ) (
   pub among : All (λ (t : Told). Contains (take done ids) t.id) ts
   pub views : (id : ℕ) → viewed now.listeners id ≡ told (told_to id ts) (viewed old.listeners id)
   pub shown : (id : ℕ) → Contains (take done ids) id → ShowsAt old.root old.store.state (stance_in old id) (viewed old.listeners id) (told_to id ts)
-  pub quiet : (id : ℕ) → Contains (take done ids) id → IfSome (viewed now.listeners id) (IsQuiet old.root old.store.state (stance_in old id))
+  pub quiet : (id : ℕ) → Contains (take done ids) id → IfSome (viewed now.listeners id) (IsQuiet old.root old.store.state (stance_in old id) (limbo_in now id))
+  pub unshown : (id : ℕ) → viewed old.listeners id ≡ None → limbo_in now id ≡ limbo_in old id
+  pub same_limbo : (id : ℕ) → (Contains (take done ids) id → ⊥) → limbo_in now id ≡ limbo_in old id
 
 pub keeps_then : {old mid new : Kept} → KeepsRest old mid → KeepsRest mid new → KeepsRest old new
 keeps_then first second = record {
   root = second.root ∙ first.root;
   store = second.store ∙ first.store;
   targets = λ id. second.targets id ∙ first.targets id;
+  limbo = second.limbo ∙ first.limbo;
   watch = second.watch ∙ first.watch;
   writes = second.writes ∙ first.writes;
   spent = second.spent ∙ first.spent;
@@ -56,13 +61,15 @@ nothing_among it = absurd (omega (arith, it.1))
 pub none_settled : (old : Kept) (outs : List Out) (ids : List ℕ) → Settling old old outs outs ids 0
 none_settled old outs ids = record {
   ts = [];
-  rest = record { root = refl; store = refl; targets = λ id. refl; watch = refl; writes = refl; spent = refl };
+  rest = record { root = refl; store = refl; targets = λ id. refl; limbo = refl; watch = refl; writes = refl; spent = refl };
   outs_are = sym (append-nil outs);
   ascending = λ i j d less inside. absurd (omega (arith, inside));
   among = All-nil (λ (t : Told). Contains (take 0 ids) t.id);
   views = λ id. refl;
   shown = λ id among. absurd (nothing_among among);
   quiet = λ id among. absurd (nothing_among among);
+  unshown = λ id none. refl;
+  same_limbo = λ id never. refl;
 }
 
 -- ---- one snapshot more, or none
@@ -176,17 +183,32 @@ module _ (old now new : Kept) (before outs after : List Out) (ids : List ℕ) (d
       subst (ShowsAt old.root old.store.state (stance_in old id) (viewed old.listeners id)) (sym (told_other id x one.raised it.ts (λ same. absurd (omega (arith, less, same))))) (it.shown id among)
   more_shown id (inr same) = subst (λ (n : ℕ). ShowsAt old.root old.store.state (stance_in old n) (viewed old.listeners n) (told_to n all_ts)) same shown_here
 
-  quiet_here : IfSome (viewed new.listeners x) (IsQuiet old.root old.store.state (stance_in old x))
+  quiet_here : IfSome (viewed new.listeners x) (IsQuiet old.root old.store.state (stance_in old x) (limbo_in new x))
   quiet_here =
-      subst (λ (k : Stance). IfSome (viewed new.listeners x) (IsQuiet old.root old.store.state k)) (stance_rest it.rest x)
-      (subst (λ (s : State). IfSome (viewed new.listeners x) (IsQuiet old.root s (stance_in now x))) (ap (λ (s : Store). s.state) it.rest.store)
-      (subst (λ (root : Root). IfSome (viewed new.listeners x) (IsQuiet root now.store.state (stance_in now x))) it.rest.root one.quiet))
+      subst (λ (k : Stance). IfSome (viewed new.listeners x) (IsQuiet old.root old.store.state k (limbo_in new x))) (stance_rest it.rest x)
+      (subst (λ (s : State). IfSome (viewed new.listeners x) (IsQuiet old.root s (stance_in now x) (limbo_in new x))) (ap (λ (s : Store). s.state) it.rest.store)
+      (subst (λ (root : Root). IfSome (viewed new.listeners x) (IsQuiet root now.store.state (stance_in now x) (limbo_in new x))) it.rest.root one.quiet))
 
-  more_quiet : (id : ℕ) → Contains (take done ids) id ⊎ (x ≡ id) → IfSome (viewed new.listeners id) (IsQuiet old.root old.store.state (stance_in old id))
+  more_quiet : (id : ℕ) → Contains (take done ids) id ⊎ (x ≡ id) → IfSome (viewed new.listeners id) (IsQuiet old.root old.store.state (stance_in old id) (limbo_in new id))
   more_quiet id (inl among) =
       let less = lower id among in
-      subst (λ (v : Option Viewed). IfSome v (IsQuiet old.root old.store.state (stance_in old id))) (sym (one.others id (λ same. absurd (omega (arith, less, same))))) (it.quiet id among)
-  more_quiet id (inr same) = subst (λ (n : ℕ). IfSome (viewed new.listeners n) (IsQuiet old.root old.store.state (stance_in old n))) same quiet_here
+      let other : id ≡ x → ⊥ = λ same. absurd (omega (arith, less, same)) in
+      subst (λ (keys : List Key). IfSome (viewed new.listeners id) (IsQuiet old.root old.store.state (stance_in old id) keys)) (sym (one.same_limbo id other))
+      (subst (λ (v : Option Viewed). IfSome v (IsQuiet old.root old.store.state (stance_in old id) (limbo_in now id))) (sym (one.others id other)) (it.quiet id among))
+  more_quiet id (inr same) = subst (λ (n : ℕ). IfSome (viewed new.listeners n) (IsQuiet old.root old.store.state (stance_in old n) (limbo_in new n))) same quiet_here
+
+  -- who is no listener keeps what it has in limbo, and who isn't refreshed
+  more_unshown : (id : ℕ) → viewed old.listeners id ≡ None → (b : Bool) → nat_eq x id ≡ b → limbo_in new id ≡ limbo_in old id
+  more_unshown id none true is =
+      let same : x ≡ id = eqb-true x id is in
+      subst (λ (n : ℕ). limbo_in new n ≡ limbo_in now n) same (one.unshown (was ∙ subst (λ (n : ℕ). viewed old.listeners n ≡ None) (sym same) none)) ∙ it.unshown id none
+  more_unshown id none false is = one.same_limbo id (λ same. eqb-false x id is (sym same)) ∙ it.unshown id none
+
+  more_same : (id : ℕ) → (Contains (take (done + 1) ids) id → ⊥) → limbo_in new id ≡ limbo_in old id
+  more_same id never =
+      let unlisted : Contains (take done ids ++ x ∷ []) id → ⊥ = λ among. never (subst (λ (l : List ℕ). Contains l id) (sym grown) among) in
+      one.same_limbo id (λ same. unlisted (subst (Contains (take done ids ++ x ∷ [])) (sym same) (Contains-push (take done ids) x)))
+      ∙ it.same_limbo id (λ among. unlisted (Contains-append_left (take done ids) (x ∷ []) id among))
 
   pub settled_more : after ≡ outs ++ outs_of (entry x one.raised) → Settling old new before after ids (done + 1)
   settled_more is = record {
@@ -201,6 +223,8 @@ module _ (old now new : Kept) (before outs after : List Out) (ids : List ℕ) (d
     views = λ id. more_views id (nat_eq x id) refl;
     shown = λ id among. more_shown id (Contains-push_cases (take done ids) x id (subst (λ (l : List ℕ). Contains l id) grown among));
     quiet = λ id among. more_quiet id (Contains-push_cases (take done ids) x id (subst (λ (l : List ℕ). Contains l id) grown among));
+    unshown = λ id none. more_unshown id none (nat_eq x id) refl;
+    same_limbo = more_same;
   }
 
   pub settled_raised : is_raised ≡ true → after ≡ outs ++ RaisedBy x ∷ [] → Settling old new before after ids (done + 1)
@@ -225,7 +249,8 @@ all_settled {old} {now} {before} {outs} {ids} {done} whole others it = record {
   settles = record { ascending = it.ascending; each = λ id. each_shows id (told_to id it.ts) refl (viewed old.listeners id) refl };
   outs = it.outs_are;
   listeners = it.views;
-  quiet = λ id. each_quiet id (told_to id it.ts) refl (viewed old.listeners id) refl;
+  quiet = λ id. each_quiet id (viewed old.listeners id) refl;
+  unshown = it.unshown;
 }
   where
     all_ids : take done ids ≡ ids
@@ -240,19 +265,30 @@ all_settled {old} {now} {before} {outs} {ids} {done} whole others it = record {
     each_shows id None is (Some view) there = ⊎_elim
         (λ among. it.shown id (in_front id among))
         (λ quiet. subst (λ (v : Option Viewed). ShowsAt old.root old.store.state (stance_in old id) v (told_to id it.ts)) (sym there)
-        (subst (ShowsAt old.root old.store.state (stance_in old id) (Some view)) (sym is) (quiet_shows_at old.root old.store.state (stance_in old id) (Some view) quiet)))
+        (subst (ShowsAt old.root old.store.state (stance_in old id) (Some view)) (sym is) (quiet_shows_at old.root old.store.state (stance_in old id) (limbo_in old id) (Some view) quiet)))
         (others id view there)
 
-    each_quiet : (id : ℕ) (r : Option Raised) → told_to id it.ts ≡ r → (v : Option Viewed) → viewed old.listeners id ≡ v → IfSome (viewed now.listeners id) (IsQuiet old.root old.store.state (stance_in old id))
-    each_quiet id (Some r) is v there = it.quiet id (told_among id (take done ids) it.ts r it.among is)
-    each_quiet id None is v there = go v there
+    each_quiet : (id : ℕ) (v : Option Viewed) → viewed old.listeners id ≡ v → IfSome (viewed now.listeners id) (IsQuiet old.root old.store.state (stance_in old id) (limbo_in now id))
+    each_quiet id v there = by (list_any (nat_eq id) (take done ids)) refl v there
       where
-        same : viewed now.listeners id ≡ viewed old.listeners id
-        same = it.views id ∙ ap (λ r. told r (viewed old.listeners id)) is
+        by : (b : Bool) → list_any (nat_eq id) (take done ids) ≡ b → (v : Option Viewed) → viewed old.listeners id ≡ v → IfSome (viewed now.listeners id) (IsQuiet old.root old.store.state (stance_in old id) (limbo_in now id))
+        by true is v there = it.quiet id (any_among id (take done ids) is)
+        by false is v there = apart v there
+          where
+            never : Contains (take done ids) id → ⊥
+            never among = true≢false (sym (among_any id (take done ids) among) ∙ is)
 
-        go : (v : Option Viewed) → viewed old.listeners id ≡ v → IfSome (viewed now.listeners id) (IsQuiet old.root old.store.state (stance_in old id))
-        go None there = subst (λ (w : Option Viewed). IfSome w (IsQuiet old.root old.store.state (stance_in old id))) (sym (same ∙ there)) tt
-        go (Some view) there = ⊎_elim
-            (λ among. it.quiet id (in_front id among))
-            (λ quiet. subst (λ (w : Option Viewed). IfSome w (IsQuiet old.root old.store.state (stance_in old id))) (sym (same ∙ there)) quiet)
-            (others id view there)
+            untold_here : (r : Option Raised) → told_to id it.ts ≡ r → told_to id it.ts ≡ None
+            untold_here None none = none
+            untold_here (Some r) some = absurd (never (told_among id (take done ids) it.ts r it.among some))
+
+            same : viewed now.listeners id ≡ viewed old.listeners id
+            same = it.views id ∙ ap (λ r. told r (viewed old.listeners id)) (untold_here (told_to id it.ts) refl)
+
+            apart : (v : Option Viewed) → viewed old.listeners id ≡ v → IfSome (viewed now.listeners id) (IsQuiet old.root old.store.state (stance_in old id) (limbo_in now id))
+            apart None none = subst (λ (w : Option Viewed). IfSome w (IsQuiet old.root old.store.state (stance_in old id) (limbo_in now id))) (sym (same ∙ none)) tt
+            apart (Some view) some = ⊎_elim
+                (λ among. absurd (never (in_front id among)))
+                (λ quiet. subst (λ (w : Option Viewed). IfSome w (IsQuiet old.root old.store.state (stance_in old id) (limbo_in now id))) (sym (same ∙ some))
+                (subst (λ (keys : List Key). IsQuiet old.root old.store.state (stance_in old id) keys view) (sym (it.same_limbo id never)) quiet))
+                (others id view some)

@@ -11,6 +11,8 @@ use Rattle.std.proofs.Math.Facts.{to_z_pos}
 use Rattle.document_keys.specs.Names.{Root}
 use Rattle.durable_state.proofs.Rows.{below_next, signed_back}
 use Rattle.durable_state.specs.Documents.{documents_of, touched_keys_of}
+use Rattle.limbo_listens.specs.Listens.{Listens, is_id as limbo_id, limbo_at}
+use Rattle.limbo_resolver.specs.Limbo.{Key}
 use Rattle.listeners.proofs.Ids.{apart, id_itself}
 use Rattle.listeners.specs.Refreshing.{RefreshesAt}
 use Rattle.listeners.specs.Table.{viewed}
@@ -25,7 +27,7 @@ use Rattle.views.specs.declared.standing.Standing.{Standing}
 use Rattle.views.specs.declared.view.Refresh.{Refresh}
 use Rattle.sync_engine.specs.Past.{told}
 use Rattle.sync_engine.specs.Settling.{IsHeldFor, IsHeldRow, MayStart, ShowsAt, Stance, raised_by, standing_or}
-use Rattle.sync_engine.specs.Standing.{IsQuiet, Kept, stance_in}
+use Rattle.sync_engine.specs.Standing.{IsQuiet, Kept, limbo_in, stance_in}
 use Rattle.sync_engine.specs.Telling.{ShowsOne}
 use Rattle.sync_engine.proofs.Quiet.{refreshed_quiet}
 
@@ -104,13 +106,18 @@ module _ (root : Root) (s : State) (stance : Stance) (may_start : Bool) (was is 
       (λ i. Some (record { target = refreshes.target i; raised = last.is i })) ∙ ap (λ (r : Option Raised). told r (Some was)) (sym last.is)
   after_told false raised = λ i. Some (record { target = refreshes.target i; raised = refreshes.kept raised i })
 
+-- the keys in limbo of the listener of the id are these, and those of every other are as before
+abbrev pub PutsLimbo : ℕ → List Key → Listens → Listens → Type 0
+PutsLimbo id keys old new = (q : ℕ) → limbo_at new q ≡ (if limbo_id id q then keys else limbo_at old q)
+
 refreshed_shown : {old new : Kept} (id : ℕ) (may_start : Bool) (refresh : Refresh)
     → (at : RefreshesAt id old.root (documents_of old.store.state) (touched_keys_of old.store.state) (stance_in old id).standing may_start old.listeners new.listeners refresh) → MayStart old.store.state (stance_in old id) may_start
-    → ShowsOne id old new refresh.raised
-refreshed_shown {old} {new} id may_start refresh at start =
+    → PutsLimbo id refresh.limbo.items old.limbo new.limbo → ShowsOne id old new refresh.raised
+refreshed_shown {old} {new} id may_start refresh at start puts =
     let s = old.store.state in
     let k = stance_in old id in
     let now_is : viewed new.listeners id ≡ Some at.is = at.changes id ∙ ap (λ b. if b then Some at.is else viewed old.listeners id) (id_itself id) in
+    let put_is : limbo_in new id ≡ refresh.limbo.items = puts id ∙ ap (λ b. if b then refresh.limbo.items else limbo_in old id) (id_itself id) in
     record {
       raised = raised_by refresh at.is;
       is = sym (is_told old.root s k may_start at.was at.is refresh at.refreshes refresh.raised refl);
@@ -118,15 +125,18 @@ refreshed_shown {old} {new} id may_start refresh at start =
           (record { may_start = may_start; start = start; new = at.is; refresh = refresh; refreshes = at.refreshes; is = refl });
       same = now_is ∙ after_told old.root s k may_start at.was at.is refresh at.refreshes refresh.raised refl ∙ ap (told (raised_by refresh at.is)) (sym at.there);
       others = λ q other. at.changes q ∙ ap (λ b. if b then Some at.is else viewed old.listeners q) (apart id q other);
-      quiet = subst (λ (v : Option Viewed). IfSome v (IsQuiet old.root s k)) (sym now_is) (refreshed_quiet old.root s k at.was at.is may_start refresh start at.refreshes);
+      quiet = subst (λ (v : Option Viewed). IfSome v (IsQuiet old.root s k (limbo_in new id))) (sym now_is)
+          (subst (λ (keys : List Key). IsQuiet old.root s k keys at.is) (sym put_is) (refreshed_quiet old.root s k at.was at.is may_start refresh start at.refreshes));
+      unshown = λ none. absurd (none-some at.was (sym none ∙ at.there));
+      same_limbo = λ q other. puts q ∙ ap (λ b. if b then refresh.limbo.items else limbo_in old q) (apart id q other);
     }
 
 -- the standing that was lent is that of the listener's target
 pub is_shown : {before old new : Kept} (id : ℕ) (may_start : Bool) (refresh : Refresh) (standing : Standing) → standing ≡ (stance_in old id).standing
-    → RefreshesAt id old.root (documents_of old.store.state) (touched_keys_of old.store.state) standing may_start old.listeners new.listeners refresh → MayStart old.store.state (stance_in old id) may_start → old ≡ before → ShowsOne id before new refresh.raised
-is_shown {before} {old} {new} id may_start refresh standing same at start whole =
+    → RefreshesAt id old.root (documents_of old.store.state) (touched_keys_of old.store.state) standing may_start old.listeners new.listeners refresh → MayStart old.store.state (stance_in old id) may_start → PutsLimbo id refresh.limbo.items old.limbo new.limbo → old ≡ before → ShowsOne id before new refresh.raised
+is_shown {before} {old} {new} id may_start refresh standing same at start puts whole =
     subst (λ (k : Kept). ShowsOne id k new refresh.raised) whole
-    (refreshed_shown id may_start refresh (subst (λ (x : Standing). RefreshesAt id old.root (documents_of old.store.state) (touched_keys_of old.store.state) x may_start old.listeners new.listeners refresh) same at) start)
+    (refreshed_shown id may_start refresh (subst (λ (x : Standing). RefreshesAt id old.root (documents_of old.store.state) (touched_keys_of old.store.state) x may_start old.listeners new.listeners refresh) same at) start puts)
 
 -- what stands for a target that isn't current
 pub lent_standing : (found : Option Standing) (other : Standing) → other ≡ record { current = false; keys = [] } → unwrap_or found other ≡ standing_or found

@@ -7,14 +7,14 @@ use Rattle.mutations.specs.declared.batch.Batch.{Batch}
 use Rattle.mutations.specs.declared.results.WriteRequest.TheVariants.{Batch as a_batch, Handshake}
 use Rattle.mutations.specs.declared.results.WriteResponse.{WriteResponse}
 use Rattle.queries.specs.declared.target.Target.{Target}
-use Rattle.record_codec.specs.declared.commit.Commit.TheVariants.{Acknowledge, Allocate, Enqueue, Point, Reset}
+use Rattle.record_codec.specs.declared.commit.Commit.TheVariants.{Acknowledge, Allocate, Drop, Enqueue, Point, Reset}
 use Rattle.value_model.specs.declared.message.ListenResponse.{ListenResponse}
 use Rattle.value_model.specs.declared.message.StreamName.TheVariants as stream
 use Rattle.target_cache.specs.Cache.{id_at}
 use Rattle.views.specs.Viewed.{Viewed}
 use Rattle.write_pipeline.specs.Order.{Steps, acknowledged, kept, outstanding, sent, shaken}
 use Rattle.sync_engine.specs.Answers.{Answers, Begins, are_left, ends, listens}
-use Rattle.sync_engine.specs.Hearing.{Blanks, HeardTurn, ended, held, mismatch, none_held, nothing, old_point, point, point_spent}
+use Rattle.sync_engine.specs.Hearing.{Blanks, HeardTurn, dropped, ended, held, mismatch, none_held, nothing, old_point, point, point_spent}
 use Rattle.sync_engine.specs.Hearing.{fails as fails_heard}
 use Rattle.sync_engine.specs.Lines.{Line, Told, add, document, error, listening, rejected, remove, result, send, snapshot, unlistened, wrote}
 use Rattle.sync_engine.specs.Past.{Past, Turn, listener, sent_in, steps_by, steps_of}
@@ -102,7 +102,8 @@ few_heard s past response true t (old_point at gives old is) few = subst (Few s 
 few_heard s past response true t (point at entries rows gives below commits_it is) few = subst (Few s (event.Watch response) (steps_of past)) (sym is) (few_left s (event.Watch response) (steps_of past) (nat_lt s.number most_commits) (commits (Point at entries rows) []) (refused IdsSpent) few few)
 few_heard s past response true t (point_spent at gives below many is) few = subst (Few s (event.Watch response) (steps_of past)) (sym is) few
 few_heard s past response true t (mismatch id told count ids gives have blanks) few = few_blanks s past response ids [] t blanks few
-few_heard s past response true t (ended ids status those listeners gives have are blanks) few = few_blanks s past response those (each (λ l. error l status) listeners) t blanks few
+few_heard s past response true t (ended ids status those listeners gives none have are blanks) few = few_blanks s past response those (each (λ l. error l status) listeners) t blanks few
+few_heard s past response true t (dropped ids status keys those listeners gives drops some blanked are is) few = subst (Few s (event.Watch response) (steps_of past)) (sym is) (few_left s (event.Watch response) (steps_of past) (nat_lt s.number most_commits) (commits (Drop keys those) (each (λ l. error l status) listeners)) (refused IdsSpent) few few)
 few_heard s past response true t (fails_heard why refuses is) few = subst (Few s (event.Watch response) (steps_of past)) (sym is) few
 
 pub few_by : (s : State) (past : Past) (e : Event) (t : Turn) → Answers s past e t → outstanding (steps_of past) ≤ length s.batches → Few s e (steps_of past) t

@@ -10,6 +10,8 @@ use Rattle.client_events.specs.declared.event.Event.TheVariants as event
 use Rattle.listen_protocol.specs.Calls.{Calls}
 use Rattle.listeners.proofs.Ids.{id_itself}
 use Rattle.listeners.proofs.Tabled.{no_target}
+use Rattle.limbo_resolver.specs.Laws.{IsSound}
+use Rattle.limbo_resolver.specs.Limbo.{Limbo}
 use Rattle.listeners.specs.Table.{Listening as Link, Table, is_id, target_of, viewed}
 use Rattle.local_store.specs.State.{State}
 use Rattle.value_model.specs.declared.message.StreamName.TheVariants as stream
@@ -21,8 +23,9 @@ use Rattle.sync_engine.specs.Answers.{Answers}
 use Rattle.sync_engine.specs.Lines.{Line}
 use Rattle.sync_engine.specs.Past.{Past, Turn, listener, raised_in, steps_by, steps_of}
 use Rattle.sync_engine.specs.Settling.{Stance, current_with, stance_by, standing_or}
-use Rattle.sync_engine.specs.Standing.{IsQuiet, Kept, StandsFor, StandsOn, Watches, stance_in, standing_in}
-use Rattle.sync_engine.specs.Stream.{IsClosed, IsOpened, IsRung, KeepsUnlessOffline, is_newly_offline, reset_of, unless_offline}
+use Rattle.sync_engine.specs.LimboListens.{going_on, is_sought, limbo_of}
+use Rattle.sync_engine.specs.Standing.{IsQuiet, Kept, StandsFor, StandsOn, Watches, limbo_in, stance_in, standing_in}
+use Rattle.sync_engine.specs.Stream.{IsClosed, IsOpened, IsRung, KeepsUnlessOffline, is_newly_offline, resets_of, unless_offline}
 use Rattle.sync_engine.specs.Telling.{HandsSettled, IsQuietOr, IsShown, KeepsRest, Loses, Raises, RefusesStream, ResetsAsDue, with_watch}
 use Rattle.sync_engine.specs.Turn.{answered_next, is_heard}
 use Rattle.sync_engine.specs.Turns.{after, answered, refused}
@@ -39,7 +42,7 @@ use Rattle.sync_engine.specs.declared.watch_stream.Due.TheVariants.{Nothing, All
 use Rattle.sync_engine.specs.declared.watch_stream.WatchStream.{WatchStream}
 use Rattle.sync_engine.proofs.Following.{AreQuiet, Follows, are_quiet}
 use Rattle.sync_engine.proofs.Handing.{Handed, as_done, as_refused, handed, hands_refused, keeps_all, no_reset, raises_none}
-use Rattle.sync_engine.proofs.Passing.{current_held, offline_current}
+use Rattle.sync_engine.proofs.Passing.{current_held, due_still, offline_current, sought_still}
 use Rattle.sync_engine.proofs.Steps.{few_by}
 use Rattle.value_model.specs.declared.document.RpcStatus.{RpcStatus}
 use Rattle.write_pipeline.specs.Order.{Steps}
@@ -103,7 +106,7 @@ unless_same online past x found is falls = by (is_offline online) refl
     by false on = refl
 
 -- What is current where an event only tells whether the client is offline.
-module _ (s : State) (past : Past) (e : Event) (answer : Turn) (old new : WatchStream) (it : Watches old past) (keeps : KeepsUnlessOffline new.online old.current new.current) (online : new.online ≡ online_of (answered_next s past e answer))
+module _ (s : State) (past : Past) (e : Event) (answer : Turn) (old new : WatchStream) {limbo : Limbo} (it : Watches old past limbo) (keeps : KeepsUnlessOffline new.online old.current new.current) (online : new.online ≡ online_of (answered_next s past e answer))
     (wanted : (x : ℤ) → is_wanted x (answered_next s past e answer) ≡ is_wanted x past)
     (told : (x : ℤ) → told_by x (step_by e answer.refusal) answer.commit (calls_of past) (current_keys x past) ≡ current_keys x past)
     (from_offline : is_offline (online_of past) ≡ true → (x : ℤ) → current_keys x past ≡ None) where
@@ -137,7 +140,7 @@ module _ (s : State) (past : Past) (e : Event) (answer : Turn) (old new : WatchS
 -- ---- how a listener's target stands then
 
 -- a listener's target stands as before, unless the client is newly offline
-stance_still : (client : Kept) (past : Past) (lost : WatchStream) (id : ℕ) → Watches client.watch past → KeepsUnlessOffline lost.online client.watch.current lost.current → is_offline lost.online ≡ is_offline client.watch.online → stance_in (with_watch client lost) id ≡ stance_in client id
+stance_still : (client : Kept) (past : Past) (lost : WatchStream) (id : ℕ) {limbo : Limbo} → Watches client.watch past limbo → KeepsUnlessOffline lost.online client.watch.current lost.current → is_offline lost.online ≡ is_offline client.watch.online → stance_in (with_watch client lost) id ≡ stance_in client id
 stance_still client past lost id it keeps same = λ i. record { target = target_of client.listeners id; standing = standing_or (keys (target_of client.listeners id) i); offline = same i }
   where
     keys : (o : Option ℤ) → option_and_then (standing_in lost.current.targets.items) o ≡ option_and_then (standing_in client.watch.current.targets.items) o
@@ -149,7 +152,7 @@ quiet_then : {client : Kept} {s : State} {past : Past} (lost : WatchStream) → 
     → ((id : ℕ) (view : Viewed) → viewed client.listeners id ≡ Some view → (is_newly_offline client.watch.online lost.online ≡ true) ⊎ (is_offline lost.online ≡ is_offline client.watch.online))
     → IsQuietOr (is_newly_offline client.watch.online lost.online) (with_watch client lost)
 quiet_then {client} {s} {past} lost stands keeps tells id view there = ⊎_elim inl
-    (λ same. inr (subst (λ (k : Stance). IsQuiet client.root client.store.state k view) (sym (stance_still client past lost id stands.watch keeps same)) (are_quiet stands id view there)))
+    (λ same. inr (subst (λ (k : Stance). IsQuiet client.root client.store.state k (limbo_in client id) view) (sym (stance_still client past lost id stands.watch keeps same)) (are_quiet stands id view there)))
     (tells id view there)
 
 -- with a wanted target a close leaves the client offline just where it was, or it is newly so
@@ -188,19 +191,22 @@ module _ (old : Kept) (lost : WatchStream) (s : State) (past : Past) (e : Event)
   same_after : after s answer.commit ≡ s
   same_after = ap (after s) such.unmade
 
-  pub follows_watch : Watches lost (answered_next s past e answer) → Follows (with_watch old lost) (after s answer.commit) (answered_next s past e answer)
-  follows_watch watch = record {
+  pub follows_watch : {limbo : Limbo} → limbo_of past ≡ limbo → Watches lost (answered_next s past e answer) limbo → Follows (with_watch old lost) (after s answer.commit) (answered_next s past e answer) limbo
+  follows_watch goes_on watch = record {
     state = stands.state ∙ sym same_after;
     listeners = λ id. stands.listeners id ∙ sym (such.plain id);
     targets = λ id. stands.targets id ∙ sym (no_lines id);
     rows = λ id. subst (λ (x : State). IfSome (listened id (answered_next s past e answer)) (Rattle.sync_engine.specs.Standing.HasTargetRow x.rows)) (sym same_after) (subst (λ (o : Option ℤ). IfSome o (Rattle.sync_engine.specs.Standing.HasTargetRow s.rows)) (sym (no_lines id)) (stands.rows id));
+    unshown = λ id none. stands.unshown id (sym (such.plain id) ∙ none);
+    limbo_is = stands.limbo_is ∙ goes_on;
+    sound = subst IsSound goes_on stands.sound;
     watch = watch;
     writes = subst (StandsOn old.writes) (sym steps_still) stands.writes;
     pending = subst (λ (x : State). outstanding (steps_of (answered_next s past e answer)) ≤ length x.batches) (sym same_after) (subst (λ (h : _). outstanding h ≤ length s.batches) (sym steps_still) stands.pending);
   }
 
   -- it closed the stream
-  pub watches_closed : step_by e answer.refusal ≡ closes → (wanted : Bool) → (IsTrue wanted ↔ ((id : ℕ) × IsSome (target_of old.listeners id))) → IsClosed wanted old.watch lost → Watches lost (answered_next s past e answer)
+  pub watches_closed : step_by e answer.refusal ≡ closes → (wanted : Bool) → (IsTrue wanted ↔ ((id : ℕ) × IsSome (target_of old.listeners id))) → IsClosed wanted old.watch lost → {limbo : Limbo} → Watches lost (answered_next s past e answer) limbo
   watches_closed step wanted any closed = record {
     opening = closed.opening ∙ sym (ap (λ (w : WatchStep). open_by w (is_watched past)) step);
     calls = subst (AggregatorStandsFor lost.aggregator) (sym no_calls) closed.calls;
@@ -219,7 +225,7 @@ module _ (old : Kept) (lost : WatchStream) (s : State) (past : Past) (e : Event)
           ∙ sym (ap (λ (w : WatchStep). online_by w (is_any_wanted past) (online_of past)) step)
 
   -- the timer went off
-  pub watches_rung : step_by e answer.refusal ≡ rings → IsRung old.watch lost → Watches lost (answered_next s past e answer)
+  pub watches_rung : step_by e answer.refusal ≡ rings → IsRung old.watch lost → Watches lost (answered_next s past e answer) (limbo_of past)
   watches_rung step rung = record {
     opening = rung.opening ∙ stands.watch.opening ∙ sym (ap (λ (w : WatchStep). open_by w (is_watched past)) step);
     calls = subst (λ (a : _). AggregatorStandsFor a (calls_of (answered_next s past e answer))) (sym rung.aggregator) (subst (AggregatorStandsFor old.watch.aggregator) (sym same_calls) stands.watch.calls);
@@ -227,8 +233,8 @@ module _ (old : Kept) (lost : WatchStream) (s : State) (past : Past) (e : Event)
     current = current_unless s past e answer old.watch lost stands.watch rung.current online_is wanted_still (λ x. ap (λ (w : WatchStep). told_by x w answer.commit (calls_of past) (current_keys x past)) step) (λ off x. offline_current x past off);
     spelled = subst Rattle.watch_points.specs.SpelledCalls.AreSpelledCalls (sym same_calls) stands.watch.spelled;
     due = λ opened x. ⊎_elim
-        (λ due. inl (subst (λ (d : _). Rattle.sync_engine.specs.Standing.IsDue (answered_next s past e answer) d x) (sym rung.due) (Rattle.sync_engine.proofs.Reading.due_same past (answered_next s past e answer) x old.watch.due (sym (wanted_still x)) due)))
-        (λ asks. inr (ap (Rattle.listen_protocol.specs.Transcript.is_asked_in x) same_calls ∙ asks ∙ sym (wanted_still x)))
+        (λ due. inl (subst (λ (d : _). Rattle.sync_engine.specs.Standing.IsDue (answered_next s past e answer) (limbo_of past) d x) (sym rung.due) (due_still past (answered_next s past e answer) (limbo_of past) x old.watch.due (wanted_still x) due)))
+        (λ asks. inr (ap (Rattle.listen_protocol.specs.Transcript.is_asked_in x) same_calls ∙ asks ∙ sym (sought_still past (answered_next s past e answer) (limbo_of past) x (wanted_still x))))
         (stands.watch.due (sym (ap (λ (w : WatchStep). open_by w (is_watched past)) step) ∙ opened) x);
   }
     where
@@ -244,7 +250,7 @@ module _ (old : Kept) (lost : WatchStream) (s : State) (past : Past) (e : Event)
 pub hands_lost : {old new : Kept} {s : State} {past : Past} (vec : Vec Out Global) (e : Event) (answer : Turn) → StandsFor old s past → IsOfWatch s past e answer → step_by e answer.refusal ≡ closes → is_heard answer.refusal ≡ true → Answers s past e answer → Loses old new [] vec.items → Handed s past e answer vec.items new
 hands_lost {old} {new} {s} {past} vec e answer stands such step heard answers it =
     handed s past e answer (with_watch old it.lost) new [] vec.items answers heard
-    (follows_watch old it.lost s past e answer stands such (watches_closed old it.lost s past e answer stands such step it.wanted it.is_wanted it.closed))
+    (follows_watch old it.lost s past e answer stands such (sym (ap (λ (w : WatchStep). going_on (calls_of past) w (limbo_of past)) step)) (watches_closed old it.lost s past e answer stands such step it.wanted it.is_wanted it.closed))
     it.rest
     (it.raises (quiet_then it.lost stands it.closed.current (λ id view there. closed_tells old.watch.online it.lost.online (it.closed.online ∙ ap (λ w. online_closed w old.watch.online) (it.is_wanted.1 (id, linked id view there))))))
     (λ id. ap (raised_in id) such.silent)
@@ -265,9 +271,9 @@ lost_due it idle = ap (λ (w : WatchStream). w.due) it.rest.watch ∙ it.closed.
 pub hands_rung : {old new : Kept} {s : State} {past : Past} {vec : Vec Out Global} (lost : WatchStream) (before : List Out) → before ≡ [] → StandsFor old s past → IsRung old.watch lost → old.watch.due ≡ Nothing → KeepsRest (with_watch old lost) new
     → (IsQuietOr (is_newly_offline old.watch.online lost.online) (with_watch old lost) → Raises (with_watch old lost) new before vec.items) → HandsSettled s past event.Timer (Done vec) new
 hands_rung {old} {new} {s} {past} {vec} lost before none stands rung idle rest raises =
-    as_done refl (no_reset past event.Timer new (λ t. refl) (ap reset_of (ap (λ (w : WatchStream). w.due) rest.watch ∙ rung.due ∙ idle)))
+    as_done refl (no_reset past event.Timer None new (λ t. refl) (ap resets_of (ap (λ (w : WatchStream). w.due) rest.watch ∙ rung.due ∙ idle)))
     (handed s past event.Timer (answered []) (with_watch old lost) new before vec.items refl refl
-    (follows_watch old lost s past event.Timer (answered []) stands such (watches_rung old lost s past event.Timer (answered []) stands such refl rung))
+    (follows_watch old lost s past event.Timer (answered []) stands such refl (watches_rung old lost s past event.Timer (answered []) stands such refl rung))
     rest (raises (quiet_then lost stands rung.current (λ id view there. rung_tells old.watch.online lost.online rung.online))) (λ id. refl) (subst (λ (os : List Out). AllZip (IsShown new) os []) (sym none) tt))
   where
     such : IsOfWatch s past event.Timer (answered [])
@@ -276,10 +282,10 @@ hands_rung {old} {new} {s} {past} {vec} lost before none stands rung idle rest r
 -- the stream was opened
 pub hands_watched : {old : Kept} {s : State} {past : Past} {vec : Vec Out Global} (lost : WatchStream) → StandsFor old s past → IsOpened old.watch lost → old.watch.is_open ≡ false → vec.items ≡ [] → HandsSettled s past (event.Opened stream.Watch) (Done vec) (with_watch old lost)
 hands_watched {old} {s} {past} {vec} lost stands opened closed none =
-    as_done refl (no_reset past (event.Opened stream.Watch) (with_watch old lost) (λ t. refl) (ap reset_of opened.due))
+    as_done refl (no_reset past (event.Opened stream.Watch) None (with_watch old lost) (λ t. refl) (ap resets_of opened.due))
     (handed s past (event.Opened stream.Watch) (answered []) (with_watch old lost) (with_watch old lost) vec.items vec.items
     (sym (ap (opened_turn stream.Watch) (sym stands.watch.opening ∙ closed))) refl
-    (follows_watch old lost s past (event.Opened stream.Watch) (answered []) stands such watch)
+    (follows_watch old lost s past (event.Opened stream.Watch) (answered []) stands such refl watch)
     keeps_all (raises_none vec.items quiet) (λ id. refl) (subst (λ (os : List Out). AllZip (IsShown (with_watch old lost)) os []) (sym none) tt))
   where
     such : IsOfWatch s past (event.Opened stream.Watch) (answered [])
@@ -291,11 +297,7 @@ hands_watched {old} {s} {past} {vec} lost stands opened closed none =
     wanted : (x : ℤ) → is_wanted x (answered_next s past (event.Opened stream.Watch) (answered [])) ≡ is_wanted x past
     wanted x = refl
 
-    not_asked : (x : ℤ) (b : Bool) → is_wanted x past ≡ b → (b ≡ true) ⊎ (false ≡ b)
-    not_asked x true is = inl refl
-    not_asked x false is = inr refl
-
-    watch : Watches lost (answered_next s past (event.Opened stream.Watch) (answered []))
+    watch : Watches lost (answered_next s past (event.Opened stream.Watch) (answered [])) (limbo_of past)
     watch = record {
       opening = opened.opening;
       calls = opened.calls;
@@ -303,17 +305,17 @@ hands_watched {old} {s} {past} {vec} lost stands opened closed none =
       current = λ x. ap (λ (c : _). standing_in c.targets.items x) opened.current ∙ stands.watch.current x ∙ ap (option_map current_with) (sym (current_held x past));
       spelled = tt;
       due = λ so x. ⊎_elim
-          (λ is. inl (subst (λ (d : _). Rattle.sync_engine.specs.Standing.IsDue (answered_next s past (event.Opened stream.Watch) (answered [])) d x) (sym opened.due) is))
+          (λ is. inl (subst (λ (d : _). Rattle.sync_engine.specs.Standing.IsDue (answered_next s past (event.Opened stream.Watch) (answered [])) (limbo_of past) d x) (sym opened.due) is))
           inr
-          (due_or x (is_wanted x past) refl);
+          (due_or x (is_sought x past (limbo_of past)) refl);
     }
       where
-        due_or : (x : ℤ) (b : Bool) → is_wanted x past ≡ b → (is_wanted x past ≡ true) ⊎ (false ≡ is_wanted x past)
+        due_or : (x : ℤ) (b : Bool) → is_sought x past (limbo_of past) ≡ b → (is_sought x past (limbo_of past) ≡ true) ⊎ (false ≡ is_sought x past (limbo_of past))
         due_or x true is = inl is
         due_or x false is = inr (sym is)
 
     quiet : AreQuiet (with_watch old lost)
-    quiet id view there = subst (λ (k : Stance). IsQuiet old.root old.store.state k view) (sym same) (are_quiet stands id view there)
+    quiet id view there = subst (λ (k : Stance). IsQuiet old.root old.store.state k (limbo_in old id) view) (sym same) (are_quiet stands id view there)
       where
         same : stance_in (with_watch old lost) id ≡ stance_in old id
         same = λ i. stance_by (target_of old.listeners id) (standing_in (opened.current i).targets.items) (opened.online i)

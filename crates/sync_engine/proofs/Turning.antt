@@ -13,6 +13,8 @@ use Rattle.document_keys.specs.Names.{Root}
 use Rattle.client_events.specs.declared.event.Event.{Event}
 use Rattle.client_events.specs.declared.event.Event.TheVariants as event
 use Rattle.record_codec.specs.declared.commit.Commit.{Commit}
+use Rattle.limbo_listens.specs.Listens.{Listens, limbo_at}
+use Rattle.limbo_resolver.specs.Limbo.{Key}
 use Rattle.listeners.proofs.Tabled.{no_target}
 use Rattle.listeners.specs.Table.{Changes, ChangesTarget, IsWanted, Listening as Link, Table, fresh, is_id, target_of, viewed}
 use Rattle.local_store.specs.Documents.{document_of, standing_of}
@@ -35,10 +37,11 @@ use Rattle.sync_engine.specs.Lines.{Line, document, listening, unlistened, wrote
 use Rattle.write_pipeline.specs.Order.{Steps, outstanding}
 use Rattle.sync_engine.specs.Past.{Turn, Past, asked, is_refused_in, listener, raised_in, sent_in, steps_of, told, unless_refused}
 use Rattle.sync_engine.specs.Settling.{Stance, stance_by, stance_of, standing_or}
-use Rattle.sync_engine.specs.Stream.{Ends, reset_of}
+use Rattle.sync_engine.specs.Stream.{Ends, resets_of}
 use Rattle.sync_engine.specs.Turn.{answered_next, is_heard}
 use Rattle.sync_engine.specs.Watching.{is_offline, is_wanted, listened, listened_in, passes, requested_in, step_by}
-use Rattle.sync_engine.specs.Standing.{HasTargetRow, IsQuiet, Kept, StandsFor, StandsOn, Watches, stance_in, standing_in}
+use Rattle.sync_engine.specs.LimboListens.{limbo_of}
+use Rattle.sync_engine.specs.Standing.{HasTargetRow, IsQuiet, Kept, StandsFor, StandsOn, Watches, limbo_in, stance_in, standing_in}
 use Rattle.sync_engine.specs.declared.watch_stream.Due.TheVariants.{Nothing, One}
 use Rattle.sync_engine.specs.declared.watch_stream.WatchStream.{WatchStream}
 use Rattle.sync_engine.specs.declared.write_stream.WriteStream.{WriteStream}
@@ -49,7 +52,7 @@ use Rattle.sync_engine.specs.declared.out.Out.TheVariants.{Document, Listening, 
 use Rattle.sync_engine.specs.declared.out.Outcome.TheVariants.{Done}
 use Rattle.sync_engine.specs.declared.refusal.Refusal.TheVariants.{IdsSpent, ListenerTaken, NoListener}
 use Rattle.sync_engine.proofs.Committed.{moves_by}
-use Rattle.sync_engine.proofs.Following.{AreQuiet, Follows, are_quiet, follows_plain, stance_kept}
+use Rattle.sync_engine.proofs.Following.{AreQuiet, Follows, are_quiet, follows_plain, quiet_as, quiet_kept}
 use Rattle.sync_engine.proofs.Handing.{as_done, handed, keeps_all, no_reset, raises_none, same_id}
 use Rattle.sync_engine.proofs.Passing.{watches_began, watches_ended}
 use Rattle.sync_engine.proofs.Quiet.{quiet_allocated, quiet_enqueued, slice_get_more}
@@ -83,42 +86,40 @@ pub enqueued_not : (s : State) (at : Timestamp) (writes : List Write) → most_c
 enqueued_not s at writes many = ap (λ b. if b then commits (Enqueue (record { id = s.next_batch; at = at; writes = writes })) (wrote s.next_batch (s.number + 1) ∷ []) else refused IdsSpent) (le-ltb s.number most_commits many)
 
 -- the listeners that no write concerns are quiet after the commit of a batch
-quiet_or_written : {old : Kept} (mid : Kept) {past : Past} (at : Timestamp) (writes : List Write) (ids : List ℕ) → StandsFor old old.store.state past → AreConcerned old.listeners writes ids → mid.root ≡ old.root → mid.listeners ≡ old.listeners → mid.watch ≡ old.watch
+quiet_or_written : {old : Kept} (mid : Kept) {past : Past} (at : Timestamp) (writes : List Write) (ids : List ℕ) → StandsFor old old.store.state past → AreConcerned old.listeners writes ids → mid.root ≡ old.root → mid.listeners ≡ old.listeners → mid.limbo ≡ old.limbo → mid.watch ≡ old.watch
     → mid.store.state ≡ committed old.store.state (Enqueue (record { id = old.store.state.next_batch; at = at; writes = writes })) → IsQuietOrAmong ids mid
-quiet_or_written {old} mid at writes ids stands concerned root listeners watch state id view there = ⊎_elim inl (λ never. inr (quiet never)) (among_or_not ids id)
+quiet_or_written {old} mid at writes ids stands concerned root listeners limbo watch state id view there = ⊎_elim inl (λ never. inr (quiet never)) (among_or_not ids id)
   where
     was : viewed old.listeners id ≡ Some view
     was = ap (λ (t : Table). viewed t id) (sym listeners) ∙ there
 
-    quiet : (Contains ids id → ⊥) → IsQuiet mid.root mid.store.state (stance_in mid id) view
+    quiet : (Contains ids id → ⊥) → IsQuiet mid.root mid.store.state (stance_in mid id) (limbo_in mid id) view
     quiet never =
-        subst (λ (r : Root). IsQuiet r mid.store.state (stance_in mid id) view) (sym root)
-        (subst (λ (t : State). IsQuiet old.root t (stance_in mid id) view) (sym state)
-        (subst (λ (k : Stance). IsQuiet old.root (committed old.store.state (Enqueue (record { id = old.store.state.next_batch; at = at; writes = writes }))) k view) (sym (stance_kept old mid listeners watch id))
-        (quiet_enqueued old.root old.store.state (stance_in old id) (record { id = old.store.state.next_batch; at = at; writes = writes }) view
+        quiet_kept old mid (committed old.store.state (Enqueue (record { id = old.store.state.next_batch; at = at; writes = writes }))) id view root state listeners limbo watch
+        (quiet_enqueued old.root old.store.state (stance_in old id) (record { id = old.store.state.next_batch; at = at; writes = writes }) (limbo_in old id) view
         (λ write one concerns. never (concerned.each id (record { write = write; one = one; concerned = record { view = view; there = was; concerns = concerns } })))
-        (are_quiet stands id view was))))
+        (are_quiet stands id view was))
 
 pub hands_written : {old new : Kept} (mid : Kept) {past : Past} {before : List Out} {vec : Vec Out Global} (at : Timestamp) (writes : List Write) (ids : List ℕ) → old.watch.due ≡ Nothing → StandsFor old old.store.state past → AreConcerned old.listeners writes ids
-    → old.store.state.number < most_commits → mid.root ≡ old.root → mid.listeners ≡ old.listeners → mid.watch ≡ old.watch → mid.writes ≡ old.writes → mid.store.state ≡ committed old.store.state (Enqueue (record { id = old.store.state.next_batch; at = at; writes = writes }))
+    → old.store.state.number < most_commits → mid.root ≡ old.root → mid.listeners ≡ old.listeners → mid.limbo ≡ old.limbo → mid.watch ≡ old.watch → mid.writes ≡ old.writes → mid.store.state ≡ committed old.store.state (Enqueue (record { id = old.store.state.next_batch; at = at; writes = writes }))
     → KeepsRest mid new → (IsQuietOrAmong ids mid → Raises mid new before vec.items) → before ≡ Wrote old.store.state.next_batch (old.store.state.number + 1) ∷ []
     → HandsSettled old.store.state past (event.Write at writes) (Done vec) new
-hands_written {old} {new} mid {past} {before} {vec} at writes ids idle stands concerned few root listeners watch kept state rest raises first =
+hands_written {old} {new} mid {past} {before} {vec} at writes ids idle stands concerned few root listeners limbo watch kept state rest raises first =
     let answer = commits (Enqueue (record { id = old.store.state.next_batch; at = at; writes = writes })) (wrote old.store.state.next_batch (old.store.state.number + 1) ∷ []) in
     let answers : Answers old.store.state past (event.Write at writes) answer = sym (enqueued_is old.store.state at writes few) in
-    as_done refl (no_reset past (event.Write at writes) new (λ t. refl) (ap reset_of (ap (λ (w : WatchStream). w.due) (rest.watch ∙ watch) ∙ idle)))
+    as_done refl (no_reset past (event.Write at writes) answer.commit new (λ t. refl) (ap resets_of (ap (λ (w : WatchStream). w.due) (rest.watch ∙ watch) ∙ idle)))
     (handed old.store.state past (event.Write at writes) answer mid new before vec.items answers refl
-    (follows_plain mid (event.Write at writes) answer stands (record { step = refl; plain = λ id. refl; targets = λ id. refl; began = refl; unrequested = λ h. refl; unraised = λ id. refl }) state listeners watch refl (stays_on (sym kept) stands.writes) (few_by old.store.state past (event.Write at writes) answer answers stands.pending))
-    rest (raises (quiet_or_written mid at writes ids stands concerned root listeners watch state)) (λ id. refl)
+    (follows_plain mid (event.Write at writes) answer stands (record { step = refl; plain = λ id. refl; targets = λ id. refl; began = refl; unrequested = λ h. refl; unraised = λ id. refl }) state listeners limbo watch refl (stays_on (sym kept) stands.writes) (few_by old.store.state past (event.Write at writes) answer answers stands.pending))
+    rest (raises (quiet_or_written mid at writes ids stands concerned root listeners limbo watch state)) (λ id. refl)
     (subst (λ (os : List Out). AllZip (IsShown new) os (wrote old.store.state.next_batch (old.store.state.number + 1) ∷ [])) (sym first) (refl, tt)))
 
 -- the document of a key as it stands
 pub hands_got : {client : Kept} {s : State} {past : Past} {vec : Vec Out Global} (key : List (List ℕ)) → client.watch.due ≡ Nothing → StandsFor client s past → vec.items ≡ Document key ∷ [] → HandsSettled s past (event.Get key) (Done vec) client
 hands_got {client} {s} {past} {vec} key idle stands is =
     let line = document key (document_of s key) (standing_of s key) in
-    as_done refl (no_reset past (event.Get key) client (λ t. refl) (ap reset_of idle))
+    as_done refl (no_reset past (event.Get key) None client (λ t. refl) (ap resets_of idle))
     (handed s past (event.Get key) (answered (line ∷ [])) client client vec.items vec.items refl refl
-    (follows_plain client (event.Get key) (answered (line ∷ [])) stands (record { step = refl; plain = λ id. refl; targets = λ id. refl; began = refl; unrequested = λ h. refl; unraised = λ id. refl }) stands.state refl refl refl stands.writes stands.pending)
+    (follows_plain client (event.Get key) (answered (line ∷ [])) stands (record { step = refl; plain = λ id. refl; targets = λ id. refl; began = refl; unrequested = λ h. refl; unraised = λ id. refl }) stands.state refl refl refl refl stands.writes stands.pending)
     keeps_all (raises_none vec.items (are_quiet stands)) (λ id. refl)
     (subst (λ (os : List Out). AllZip (IsShown client) os (line ∷ [])) (sym is) ((λ i. document key (document_of (sym stands.state i) key) (standing_of (sym stands.state i) key)), tt)))
 
@@ -165,12 +166,12 @@ begun s id query None target given = by (are_left s) refl given
     by false left is = absurd (none-some target is)
 
 -- a quiet listener stays so where the target gets its id
-quiet_given : (root : Root) (s : State) (stance : Stance) (query : Target) (found : Option ℤ) (view : Viewed) → IsQuiet root s stance view → IsQuiet root (given_state s query found) stance view
-quiet_given root s stance query (Some at) view quiet = quiet
-quiet_given root s stance query None view quiet = by (are_left s)
+quiet_given : (root : Root) (s : State) (stance : Stance) (query : Target) (found : Option ℤ) (limbo : List Key) (view : Viewed) → IsQuiet root s stance limbo view → IsQuiet root (given_state s query found) stance limbo view
+quiet_given root s stance query (Some at) limbo view quiet = quiet
+quiet_given root s stance query None limbo view quiet = by (are_left s)
   where
-    by : (left : Bool) → IsQuiet root (if left then committed s (Allocate (id_at (length s.rows)) query) else s) stance view
-    by true = quiet_allocated root s stance (id_at (length s.rows)) query view quiet
+    by : (left : Bool) → IsQuiet root (if left then committed s (Allocate (id_at (length s.rows)) query) else s) stance limbo view
+    by true = quiet_allocated root s stance (id_at (length s.rows)) query limbo view quiet
     by false = quiet
 
 -- the rows that were there are there
@@ -204,7 +205,7 @@ given_row s query None t tells is = by (are_left s) refl is
 module _ (old mid new : Kept) (past : Past) (id : ℕ) (query : Target) (given : Option ℤ) (target : ℤ)
     (stands : StandsFor old old.store.state past) (free : viewed old.listeners id ≡ None) (idle : old.watch.due ≡ Nothing)
     (gives : GivesTarget old.store.state query given mid.store.state) (is : given ≡ Some target)
-    (root : mid.root ≡ old.root) (kept : mid.writes ≡ old.writes) (watched : mid.watch ≡ record old.watch { due = One target })
+    (root : mid.root ≡ old.root) (held : mid.limbo ≡ old.limbo) (kept : mid.writes ≡ old.writes) (watched : mid.watch ≡ record old.watch { due = One target })
     (changes : Changes id (Some (fresh query)) old.listeners mid.listeners) (links : ChangesTarget id (Some target) old.listeners mid.listeners) where
   first : Begun old.store.state id query gives.found target
   first = begun old.store.state id query gives.found target (sym gives.id ∙ is)
@@ -273,13 +274,24 @@ module _ (old mid new : Kept) (past : Past) (id : ℕ) (query : Target) (given :
   step : step_by e first.answer.refusal ≡ passes
   step = refl
 
-  follows_begun : Follows mid (after old.store.state first.answer.commit) next
+  -- who is no listener wasn't one
+  none_before : (q : ℕ) → listener q next ≡ None → listener q past ≡ None
+  none_before q none = by (nat_eq id q) (sym (listener_is q) ∙ none)
+    where
+      by : (b : Bool) → (if b then Some (fresh query) else listener q past) ≡ None → listener q past ≡ None
+      by true is = absurd (none-some (fresh query) (sym is))
+      by false is = is
+
+  follows_begun : Follows mid (after old.store.state first.answer.commit) next (limbo_of past)
   follows_begun = record {
     state = gives.state ∙ first.state;
     listeners = listeners;
     targets = targets;
     rows = λ q. subst (λ (x : State). IfSome (listened q next) (HasTargetRow x.rows)) (gives.state ∙ first.state) (rows q);
-    watch = watches_began old.store.state past e first.answer step old.watch mid.watch target unrequested wanted_others wanted_more idle watched stands.watch;
+    unshown = λ q none. ap (λ (l : Listens). limbo_at l q) held ∙ stands.unshown q (none_before q none);
+    limbo_is = ap (λ (l : Listens). l.limbo) held ∙ stands.limbo_is;
+    sound = stands.sound;
+    watch = watches_began old.store.state past e first.answer step old.watch mid.watch (limbo_of past) target unrequested wanted_others wanted_more idle watched stands.watch;
     writes = subst (StandsOn mid.writes) (sym (ap (λ (ls : List Line). sent_in ls (steps_of past)) first.lines)) (stays_on (sym kept) stands.writes);
     pending = subst (λ (h : Steps). outstanding h ≤ length (after old.store.state first.answer.commit).batches) (sym (ap (λ (ls : List Line). sent_in ls (steps_of past)) first.lines)) (few_by old.store.state past e first.answer answers stands.pending);
   }
@@ -294,19 +306,17 @@ module _ (old mid new : Kept) (past : Past) (id : ℕ) (query : Target) (given :
   quiet_or_new : IsQuietOrAmong (id ∷ []) mid
   quiet_or_new q view there = by (nat_eq id q) refl
     where
-      by : (b : Bool) → nat_eq id q ≡ b → Contains (id ∷ []) q ⊎ IsQuiet mid.root mid.store.state (stance_in mid q) view
+      by : (b : Bool) → nat_eq id q ≡ b → Contains (id ∷ []) q ⊎ IsQuiet mid.root mid.store.state (stance_in mid q) (limbo_in mid q) view
       by true same = inl (subst (Contains (id ∷ [])) (eqb-true id q same) (Contains-push [] id))
       by false other =
           let was : viewed old.listeners q ≡ Some view = sym (changes q ∙ ap (λ b. if b then Some (fresh query) else viewed old.listeners q) (same_id id q ∙ other)) ∙ there in
-          inr (subst (λ (r : Root). IsQuiet r mid.store.state (stance_in mid q) view) (sym root)
-          (subst (λ (t : State). IsQuiet old.root t (stance_in mid q) view) (sym gives.state)
-          (subst (λ (k : Stance). IsQuiet old.root (given_state old.store.state query gives.found) k view) (sym (stance_other q other))
-          (quiet_given old.root old.store.state (stance_in old q) query gives.found view (are_quiet stands q view was)))))
+          inr (quiet_as old mid (given_state old.store.state query gives.found) q view root gives.state (stance_other q other) (ap (λ (l : Listens). limbo_at l q) held)
+          (quiet_given old.root old.store.state (stance_in old q) query gives.found (limbo_in old q) view (are_quiet stands q view was)))
 
   pub hands_begun : {before : List Out} {vec : Vec Out Global} → KeepsRest mid new → (IsQuietOrAmong (id ∷ []) mid → Raises mid new before vec.items) → before ≡ Listening id target mid.store.state.number ∷ []
       → HandsSettled old.store.state past e (Done vec) new
   hands_begun {before} {vec} rest raises begins =
-      as_done first.none (no_reset past e new (λ t. refl) (ap reset_of (ap (λ (w : WatchStream). w.due) (rest.watch ∙ watched))))
+      as_done first.none (no_reset past e first.answer.commit new (λ t. refl) (ap resets_of (ap (λ (w : WatchStream). w.due) (rest.watch ∙ watched))))
       (handed old.store.state past e first.answer mid new before vec.items answers (ap is_heard first.none) follows_begun rest (raises quiet_or_new) (λ q. ap (raised_in q) first.lines)
       (subst (λ (os : List Out). AllZip (IsShown new) os first.answer.lines) (sym begins)
       (subst (AllZip (IsShown new) (Listening id target mid.store.state.number ∷ [])) (sym first.lines)
@@ -368,8 +378,13 @@ spent_stands {old} {new} {past} query given stands gives none rest = record {
   listeners = λ id. ap (λ (t : Table). viewed t id) rest.listeners ∙ stands.listeners id;
   targets = λ id. ap (λ (t : Table). target_of t id) rest.listeners ∙ stands.targets id;
   rows = stands.rows;
-  quiet = λ id. subst (λ (r : Root). IfSome (listener id past) (IsQuiet r old.store.state (stance_of past id))) (sym rest.root) (stands.quiet id);
-  watch = subst (λ (w : WatchStream). Watches w past) (sym rest.watch) stands.watch;
+  quiet = λ id.
+      subst (λ (r : Root). IfSome (listener id past) (IsQuiet r old.store.state (stance_of past id) (limbo_in new id))) (sym rest.root)
+      (subst (λ (l : Listens). IfSome (listener id past) (IsQuiet old.root old.store.state (stance_of past id) (limbo_at l id))) (sym rest.limbo) (stands.quiet id));
+  unshown = λ id none. ap (λ (l : Listens). limbo_at l id) rest.limbo ∙ stands.unshown id none;
+  limbo_is = ap (λ (l : Listens). l.limbo) rest.limbo ∙ stands.limbo_is;
+  sound = stands.sound;
+  watch = subst (λ (w : WatchStream). Watches w past (limbo_of past)) (sym rest.watch) stands.watch;
   writes = stays_on (sym rest.writes) stands.writes;
   pending = stands.pending;
 }

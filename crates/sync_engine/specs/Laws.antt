@@ -6,7 +6,8 @@ use Rattle.local_store.specs.State.{State}
 use Rattle.sync_engine.specs.Past.{Turn, Past}
 use Rattle.sync_engine.specs.Turn.{IsTurn}
 
--- an event has one turn: the state before it and what was heard determine its refusal, its commit and its lines
+-- an event has one turn: the state before it and what was heard determine its refusal, its commit, its lines and which documents
+-- are in limbo then
 abbrev pub ATurnIsOne : Type 0
 ATurnIsOne = (root : Root) (s : State) (past : Past) (event : Event) (t other : Turn)
     → IsTurn root s past event t → IsTurn root s past event other → t ≡ other

@@ -2,8 +2,10 @@ pub mod Answers
 pub mod Asking
 pub mod Blanking
 pub mod Concerned
+pub mod Dropping
 pub mod Hearing
 pub mod Laws
+pub mod LimboListens
 pub mod Lines
 pub mod Moving
 pub mod Order

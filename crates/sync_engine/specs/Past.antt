@@ -6,6 +6,7 @@ use Rattle.local_store.specs.State.{State}
 use Rattle.client_events.specs.declared.event.Event.{Event}
 use Rattle.client_events.specs.declared.event.Event.TheVariants as event
 use Rattle.value_model.specs.declared.message.StreamName.TheVariants as stream
+use Rattle.limbo_resolver.specs.Limbo.{Key}
 use Rattle.views.specs.declared.raised.Raised.{Raised}
 use Rattle.views.specs.Viewed.{Viewed}
 use Rattle.mutations.specs.declared.results.WriteRequest.TheVariants.{Batch as a_batch}
@@ -13,11 +14,13 @@ use Rattle.write_pipeline.specs.Order.{Steps, acknowledged, closed, is_ready, ke
 use Rattle.sync_engine.specs.declared.refusal.Refusal.{Refusal}
 use Rattle.sync_engine.specs.Lines.{Line, error, send, snapshot}
 
--- what an event came to: why it was refused, at most one commit, and the lines that answer it
+-- what an event came to: why it was refused, at most one commit, the lines that answer it, and the keys of the documents that
+-- are in limbo then
 pub record Turn : Type 0 where
   pub refusal : Option Refusal
   pub commit : Option Commit
   pub lines : List Line
+  pub limbo : List Key
 
 -- an event that was heard: the state before it, what it is, and its turn
 pub record Entry : Type 0 where

@@ -12,6 +12,7 @@ pub record KeepsButPipeline (old new : Kept) : Type 0 where
   pub root : new.root ≡ old.root
   pub store : new.store ≡ old.store
   pub listeners : new.listeners ≡ old.listeners
+  pub limbo : new.limbo ≡ old.limbo
   pub watch : new.watch ≡ old.watch
   pub opening : new.writes.is_open ≡ old.writes.is_open
   pub spent : new.spent ≡ old.spent

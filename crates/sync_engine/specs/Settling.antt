@@ -1,13 +1,16 @@
 -- The snapshots that an event raises: each listener shows the answer of its query over the documents of the state after it.
 use Rattle.std.specs.Prelude.{◌≡◌, ◌↔◌, ◌⊎◌, ℕ, ℤ, ◌<◌, Bool, true, false, IsTrue, nat_eq, List, [], ◌∷◌, Option, Some, None, option_and_then, option_map, if◌then◌else◌}
-use Rattle.std.specs.List.{AllPairs}
+use Rattle.std.specs.List.{AllPairs, Contains}
 use Rattle.std.specs.Option.{IsSome}
 use Rattle.document_keys.specs.Names.{Root}
 use Rattle.target_cache.specs.Cache.{IsRow}
 use Rattle.target_cache.specs.declared.row.Row.{Row}
+use Rattle.document_keys.specs.KeySet.{IsAscending}
 use Rattle.listen_protocol.specs.Calls.{Key}
 use Rattle.local_store.specs.Documents.{documents_of, touched_keys_of}
 use Rattle.local_store.specs.State.{State}
+use Rattle.queries.specs.Answer.{IsAnswer}
+use Rattle.views.specs.Limbo.{IsInLimbo}
 use Rattle.views.specs.Refresh.{Refreshes}
 use Rattle.views.specs.Viewed.{Viewed}
 use Rattle.views.specs.declared.raised.Raised.{Raised}
@@ -88,3 +91,23 @@ pub record Settles (root : Root) (s : State) (stance : ℕ → Stance) (listenin
     : Type 0 where
   pub ascending : AllPairs IsBelow told
   pub each : (id : ℕ) → ShowsAt root s (stance id) (listening id) (told_to id told)
+
+-- ---- documents in limbo
+
+-- the listener shows the key's document, which is in limbo
+pub record ShowsInLimbo (root : Root) (s : State) (stance : Stance) (key : Key) (view : Viewed) : Type 0 where
+  pub answer : List Key
+  pub is_answer : IsAnswer view.target root (documents_of s) answer
+  pub shown : Contains answer key
+  pub limbo : IsInLimbo stance.standing (touched_keys_of s) key
+
+-- who is no listener shows nothing
+abbrev pub ShowsInLimboAt : Root → State → Stance → Key → Option Viewed → Type 0
+ShowsInLimboAt root s stance key None = ⊥
+ShowsInLimboAt root s stance key (Some view) = ShowsInLimbo root s stance key view
+
+-- ascending, the keys of the documents that are in limbo for some listener
+pub record AreInLimbo (root : Root) (s : State) (stance : ℕ → Stance) (listening : ℕ → Option Viewed) (keys : List Key)
+    : Type 0 where
+  pub ascending : IsAscending keys
+  pub each : (key : Key) → Contains keys key ↔ ((id : ℕ) × ShowsInLimboAt root s (stance id) key (listening id))

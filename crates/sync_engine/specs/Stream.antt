@@ -11,7 +11,7 @@ use Rattle.sync_engine.specs.declared.current.CurrentTargets.{CurrentTargets}
 use Rattle.sync_engine.specs.declared.online.OnlineState.{OnlineState}
 use Rattle.sync_engine.specs.declared.online.OnlineState.TheVariants.{Unknown, Online}
 use Rattle.sync_engine.specs.declared.watch_stream.Due.{Due}
-use Rattle.sync_engine.specs.declared.watch_stream.Due.TheVariants.{Nothing, One, Reset, All}
+use Rattle.sync_engine.specs.declared.watch_stream.Due.TheVariants.{Nothing, One, Resets as due_resets, All}
 use Rattle.sync_engine.specs.declared.watch_stream.WatchStream.{WatchStream}
 use Rattle.sync_engine.specs.Standing.{standing_in}
 use Rattle.sync_engine.specs.Watching.{is_offline, online_closed, online_rung}
@@ -69,10 +69,10 @@ pub record Ends (target : ℤ) (wanted : Bool) (old new : WatchStream) : Type 0 
 abbrev pub is_newly_offline : OnlineState → OnlineState → Bool
 is_newly_offline was now = not (is_offline was) && is_offline now
 
--- the target that is to be removed and added again, if there is one
-abbrev pub reset_of : Due → Option ℤ
-reset_of (Reset id) = Some id
-reset_of _ = None
+-- the targets that are to be removed and added again
+abbrev pub resets_of : Due → List ℤ
+resets_of (due_resets ids) = ids.items
+resets_of _ = []
 
 -- ---- what messages make of it
 
@@ -109,7 +109,7 @@ pub record Resets (target : ℤ) (old new : WatchStream) : Type 0 where
   pub online : new.online ≡ old.online
   pub current : (t : ℤ) → standing_in new.current.targets.items t
       ≡ (if int_eq target t then None else standing_in old.current.targets.items t)
-  pub due : new.due ≡ Reset target
+  pub due : resets_of new.due ≡ target ∷ []
 
 -- the targets ended
 pub record EndsAll (targets : List ℤ) (old new : WatchStream) : Type 0 where

@@ -1,7 +1,9 @@
 -- What a client hands out for an event.
-use Rattle.std.specs.Prelude.{◌≡◌, ◌⊎◌, ◌↔◌, ℕ, ◌<◌, nat_eq, ℤ, Bool, true, if◌then◌else◌, List, [], ◌++◌, map as each, Option, Some, None, is_some, IfSome, IsSome, IsTrue}
+use Rattle.std.specs.Prelude.{◌≡◌, ◌⊎◌, ◌↔◌, ℕ, ◌<◌, nat_eq, ℤ, Bool, true, if◌then◌else◌, List, [], ◌++◌, fold, map as each, Option, Some, None, is_some, IfSome, IsSome, IsTrue}
 use Rattle.std.specs.List.{AllPairs, AllZip, Contains, list_any, slice_get}
 use Rattle.client_events.specs.declared.event.Event.{Event}
+use Rattle.limbo_listens.specs.Listens.{Listens, limbo_at}
+use Rattle.limbo_resolver.specs.Limbo.{Key, without}
 use Rattle.listeners.specs.Table.{KeepsTargets, Table, target_of, viewed}
 use Rattle.local_store.specs.Documents.{document_of, documents_of, standing_of}
 use Rattle.local_store.specs.Files.{Moves}
@@ -16,21 +18,21 @@ use Rattle.mutations.specs.declared.results.WriteRequest.TheVariants.{Handshake}
 use Rattle.write_pipeline.specs.Order.{Steps, latest_token}
 use Rattle.write_pipeline.specs.Standing.{StandsFor as PipelineStandsFor}
 use Rattle.sync_engine.specs.Answers.{Answers}
-use Rattle.sync_engine.specs.Asking.{IsAddLine, resets_by}
+use Rattle.sync_engine.specs.Asking.{IsAddLine, IsListenLine, resets_by}
 use Rattle.sync_engine.specs.Lines.{Line, Told, wrote, listening, unlistened, document, result, rejected, error, snapshot, remove, send}
 use Rattle.sync_engine.specs.Past.{Turn, Past, told as told_of}
 use Rattle.sync_engine.specs.Settling.{Settles, ShowsAt, told_to}
-use Rattle.sync_engine.specs.Standing.{Kept, IsQuiet, StandsFor, stance_in}
-use Rattle.sync_engine.specs.Turn.{IsSettled, IsTurn, heard_then}
+use Rattle.sync_engine.specs.Standing.{Kept, IsQuiet, StandsAfter, StandsFor, limbo_in, stance_in}
+use Rattle.sync_engine.specs.Turn.{IsSettled, IsTurn, heard_then, is_heard}
 use Rattle.sync_engine.specs.Turns.{after}
 use Rattle.sync_engine.specs.Writing.{request_of}
 use Rattle.value_model.specs.declared.message.StreamName.TheVariants as stream
-use Rattle.sync_engine.specs.Stream.{IsClosed, is_newly_offline, reset_of}
+use Rattle.sync_engine.specs.Stream.{IsClosed, is_newly_offline, resets_of}
 use Rattle.sync_engine.specs.declared.refusal.Refusal.TheVariants.{StreamState}
 use Rattle.sync_engine.specs.declared.watch_stream.Due.TheVariants.{Nothing}
 use Rattle.sync_engine.specs.declared.watch_stream.WatchStream.{WatchStream}
 use Rattle.sync_engine.specs.declared.out.Out.{Out}
-use Rattle.sync_engine.specs.declared.out.Out.TheVariants.{Wrote, Listening, Unlistened, Document, Result, Rejected, Error, Raised as RaisedBy, AddTarget, RemoveTarget, SendHandshake, SendBatch}
+use Rattle.sync_engine.specs.declared.out.Out.TheVariants.{Wrote, Listening, Unlistened, Document, Result, Rejected, Error, Raised as RaisedBy, AddLimboTarget, AddTarget, RemoveTarget, SendHandshake, SendBatch}
 use Rattle.sync_engine.specs.declared.out.Outcome.{Outcome}
 use Rattle.sync_engine.specs.declared.out.Outcome.TheVariants.{Done, Refused}
 
@@ -62,6 +64,7 @@ IsShown client (Rejected batch commit status) line = line ≡ rejected batch com
 IsShown client (Error id status) line = line ≡ error id status
 IsShown client (RaisedBy id) line = IsRaised client id line
 IsShown client (AddTarget t) line = IsAddLine client.store.state t line
+IsShown client (AddLimboTarget t) line = IsListenLine client.limbo.limbo t line
 IsShown client (RemoveTarget t) line = line ≡ remove t
 IsShown client SendHandshake line = line ≡ send Handshake
 IsShown client (SendBatch place) line = IsSent client place line
@@ -72,8 +75,9 @@ IsOutcome (Done outs) client t = (t.refusal ≡ None) × AllZip (IsShown client)
 IsOutcome (Refused refusal outs) client t = (t.refusal ≡ Some refusal) × AllZip (IsShown client) outs.items t.lines
 
 -- The target is reset by the event just where the client keeps that it is to be removed and added again.
-abbrev pub ResetsAsDue : Past → Event → Kept → Type 0
-ResetsAsDue past event client = (t : ℤ) → (resets_by event past t ≡ true) ↔ (reset_of client.watch.due ≡ Some t)
+abbrev pub ResetsAsDue : Past → Event → Option Commit → Kept → Type 0
+ResetsAsDue past event commit client =
+    (t : ℤ) → (resets_by event commit past t ≡ true) ↔ Contains (resets_of client.watch.due) t
 
 -- this is so where the event wasn't refused
 abbrev pub IfDone : Outcome → Type 0 → Type 0
@@ -85,17 +89,17 @@ abbrev pub IfRefused : Outcome → Type 0 → Type 0
 IfRefused (Done outs) P = Unit {0}
 IfRefused (Refused refusal outs) P = P
 
--- the event was handled, but for the requests that go out: the client then stands for what it has heard and for the state after
--- it, and hands out the lines so far
+-- the event was handled, but for the listens of documents in limbo and the requests that go out: the client then stands for
+-- what it has heard and for the state after it, and hands out the lines so far
 pub record HandsSettled (s : State) (past : Past) (event : Event) (handed : Outcome) (client : Kept) : Type 0 where
   pub turn : Turn
   pub is_settled : IsSettled client.root s past event turn
   pub stands :
-      StandsFor client (after s turn.commit)
-      (heard_then (record { state = s; event = event; turn = turn }) past)
+      StandsAfter client (after s turn.commit) (record { state = s; event = event; turn = turn }) past
+      (is_heard turn.refusal)
   pub outcome : IsOutcome handed client turn
   pub idle : IfRefused handed (client.watch.due ≡ Nothing)
-  pub resets : IfDone handed (ResetsAsDue past event client)
+  pub resets : IfDone handed (ResetsAsDue past event turn.commit client)
 
 -- the event has a turn: the client then stands for what it has heard and for the state after it, and hands out its lines
 pub record HandsOut (s : State) (past : Past) (event : Event) (handed : Outcome) (client : Kept) : Type 0 where
@@ -116,11 +120,13 @@ pub record MovesBy (s : State) (past : Past) (event : Event) (old new : View) : 
   pub makes : IfSome commit (Makes s past event)
   pub moves : Moves s (after s commit) old new
 
--- the client keeps its database, its store, the listeners' targets, its streams and whether it is spent
+-- the client keeps its database, its store, the listeners' targets, the listens of documents in limbo, its streams and whether
+-- it is spent
 pub record KeepsRest (old new : Kept) : Type 0 where
   pub root : new.root ≡ old.root
   pub store : new.store ≡ old.store
   pub targets : KeepsTargets old.listeners new.listeners
+  pub limbo : new.limbo.limbo ≡ old.limbo.limbo
   pub watch : new.watch ≡ old.watch
   pub writes : new.writes ≡ old.writes
   pub spent : new.spent ≡ old.spent
@@ -131,17 +137,19 @@ pub record Raises (old new : Kept) (before after_them : List Out) : Type 0 where
   pub settles : Settles old.root old.store.state (stance_in old) (viewed old.listeners) told
   pub outs : after_them ≡ before ++ each (λ (t : Told). RaisedBy t.id) told
   pub listeners : (id : ℕ) → viewed new.listeners id ≡ told_of (told_to id told) (viewed old.listeners id)
-  pub quiet : (id : ℕ) → IfSome (viewed new.listeners id) (IsQuiet old.root old.store.state (stance_in old id))
+  pub quiet : (id : ℕ)
+      → IfSome (viewed new.listeners id) (IsQuiet old.root old.store.state (stance_in old id) (limbo_in new id))
+  pub unshown : (id : ℕ) → viewed old.listeners id ≡ None → limbo_in new id ≡ limbo_in old id
 
 -- each listener is quiet, or its id is among these
 abbrev pub IsQuietOrAmong : List ℕ → Kept → Type 0
 IsQuietOrAmong ids client = (id : ℕ) (view : Viewed) → viewed client.listeners id ≡ Some view
-    → Contains ids id ⊎ IsQuiet client.root client.store.state (stance_in client id) view
+    → Contains ids id ⊎ IsQuiet client.root client.store.state (stance_in client id) (limbo_in client id) view
 
 -- each listener is quiet, unless this is so
 abbrev pub IsQuietOr : Bool → Kept → Type 0
 IsQuietOr so client = (id : ℕ) (view : Viewed) → viewed client.listeners id ≡ Some view
-    → (so ≡ true) ⊎ IsQuiet client.root client.store.state (stance_in client id) view
+    → (so ≡ true) ⊎ IsQuiet client.root client.store.state (stance_in client id) (limbo_in client id) view
 
 -- the listener of an id was refreshed, if there is one, and no other changed
 pub record ShowsOne (id : ℕ) (old new : Kept) (is_raised : Bool) : Type 0 where
@@ -150,13 +158,17 @@ pub record ShowsOne (id : ℕ) (old new : Kept) (is_raised : Bool) : Type 0 wher
   pub shows : ShowsAt old.root old.store.state (stance_in old id) (viewed old.listeners id) raised
   pub same : viewed new.listeners id ≡ told_of raised (viewed old.listeners id)
   pub others : (q : ℕ) → (q ≡ id → ⊥) → viewed new.listeners q ≡ viewed old.listeners q
-  pub quiet : IfSome (viewed new.listeners id) (IsQuiet old.root old.store.state (stance_in old id))
+  pub quiet : IfSome (viewed new.listeners id) (IsQuiet old.root old.store.state (stance_in old id) (limbo_in new id))
+  pub unshown : viewed old.listeners id ≡ None → limbo_in new id ≡ limbo_in old id
+  pub same_limbo : (q : ℕ) → (q ≡ id → ⊥) → limbo_in new q ≡ limbo_in old q
 
--- the client keeps its database, its store, the listeners' targets, the stream of writes and whether it is spent
+-- the client keeps its database, its store, the listeners' targets, the listens of documents in limbo, the stream of writes and
+-- whether it is spent
 pub record KeepsButStream (old new : Kept) : Type 0 where
   pub root : new.root ≡ old.root
   pub store : new.store ≡ old.store
   pub targets : KeepsTargets old.listeners new.listeners
+  pub limbo : new.limbo.limbo ≡ old.limbo.limbo
   pub writes : new.writes ≡ old.writes
   pub spent : new.spent ≡ old.spent
 
@@ -166,6 +178,7 @@ with_watch client watch = record {
   root = client.root;
   store = client.store;
   listeners = client.listeners;
+  limbo = client.limbo;
   watch = watch;
   writes = client.writes;
   spent = client.spent;
@@ -187,10 +200,11 @@ abbrev pub RefusesStream : Bool → Outcome → Type 0
 RefusesStream is_open (Refused refusal outs) = (refusal ≡ StreamState stream.Watch is_open) × (outs.items ≡ [])
 RefusesStream is_open (Done outs) = ⊥
 
--- the database, the listeners and the streams stay, and whether it is spent
+-- the database, the listeners with what is in limbo, and the streams stay, and whether it is spent
 pub record KeepsListeners (old new : Kept) : Type 0 where
   pub root : new.root ≡ old.root
   pub listeners : new.listeners ≡ old.listeners
+  pub limbo : new.limbo ≡ old.limbo
   pub watch : new.watch ≡ old.watch
   pub writes : new.writes ≡ old.writes
   pub spent : new.spent ≡ old.spent
@@ -213,6 +227,7 @@ Lends client id lent = LendsOf client (viewed client.listeners id) lent
 pub record KeepsStreams (old new : Kept) : Type 0 where
   pub root : new.root ≡ old.root
   pub store : new.store ≡ old.store
+  pub limbo : new.limbo.limbo ≡ old.limbo.limbo
   pub watch : new.watch ≡ old.watch
   pub writes : new.writes ≡ old.writes
   pub spent : new.spent ≡ old.spent
@@ -221,6 +236,20 @@ pub record KeepsStreams (old new : Kept) : Type 0 where
 pub record RemovesAll (ids : List ℕ) (old new : Table) : Type 0 where
   pub views : (q : ℕ) → viewed new q ≡ (if list_any (nat_eq q) ids then None else viewed old q)
   pub targets : (q : ℕ) → target_of new q ≡ (if list_any (nat_eq q) ids then None else target_of old q)
+
+-- the listeners of these ids have no document in limbo now
+pub record ForgetsAll (ids : List ℕ) (old new : Listens) : Type 0 where
+  pub keys : (q : ℕ) → limbo_at new q ≡ (if list_any (nat_eq q) ids then [] else limbo_at old q)
+  pub limbo : new.limbo ≡ old.limbo
+
+-- running listens without those of these ids
+abbrev pub without_all : List ℤ → List (ℤ × Key) → List (ℤ × Key)
+without_all ids running = fold without running ids
+
+-- the listens of these ids run no longer
+pub record RefusesAll (ids : List ℤ) (old new : Listens) : Type 0 where
+  pub keys : (q : ℕ) → limbo_at new q ≡ limbo_at old q
+  pub limbo : new.limbo ≡ record old.limbo { running = without_all ids old.limbo.running }
 
 -- ascending, the listeners of the targets
 pub record AreListenersIn (table : Table) (targets : List ℤ) (ids : List ℕ) : Type 0 where

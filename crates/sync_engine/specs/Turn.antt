@@ -1,6 +1,7 @@
 -- The turn of an event, from the state before it and what the client has heard.
-use Rattle.std.specs.Prelude.{◌≡◌, Bool, true, false, ◌&&◌, List, [], ◌∷◌, ◌++◌, map as each, Option, Some, None, is_none, if◌then◌else◌}
+use Rattle.std.specs.Prelude.{◌≡◌, Bool, true, false, ◌&&◌, List, [], ◌∷◌, ◌++◌, map as each, Option, Some, None, if◌then◌else◌}
 use Rattle.document_keys.specs.Names.{Root}
+use Rattle.limbo_resolver.specs.Limbo.{Key}
 use Rattle.local_store.specs.State.{State}
 use Rattle.client_events.specs.declared.event.Event.{Event}
 use Rattle.sync_engine.specs.declared.refusal.Refusal.{Refusal}
@@ -9,7 +10,7 @@ use Rattle.sync_engine.specs.Answers.{Answers}
 use Rattle.sync_engine.specs.Lines.{Line, Told, snapshot}
 use Rattle.sync_engine.specs.Asking.{AsksIf, resets_by}
 use Rattle.sync_engine.specs.Past.{Turn, Entry, Past, listener, steps_by, steps_of}
-use Rattle.sync_engine.specs.Settling.{Settles, stance_of}
+use Rattle.sync_engine.specs.Settling.{AreInLimbo, Settles, stance_of}
 use Rattle.sync_engine.specs.Turns.{after}
 use Rattle.sync_engine.specs.Watching.{is_watched}
 use Rattle.sync_engine.specs.Writing.{requests}
@@ -21,7 +22,11 @@ snapshot_line s told = snapshot s.number s.last_read told
 -- the turn of an event that is heard: its answer, and the snapshots behind it
 abbrev pub with_snapshots : State → Turn → List Told → Turn
 with_snapshots s answer told =
-    record { refusal = answer.refusal; commit = answer.commit; lines = answer.lines ++ each (snapshot_line s) told }
+    record answer { lines = answer.lines ++ each (snapshot_line s) told }
+
+-- the turn with the keys that are in limbo then
+abbrev pub with_limbo : Turn → List Key → Turn
+with_limbo t keys = record t { limbo = keys }
 
 -- a bad message is heard, though it is refused: it closes its stream
 abbrev pub is_heard : Option Refusal → Bool
@@ -47,7 +52,14 @@ abbrev pub SettlesAfter : Root → State → Past → Event → Turn → Bool �
 SettlesAfter root s past event answer false t = t ≡ answer
 SettlesAfter root s past event answer true t = Settled root s past event answer t
 
--- the turn of an event, but for the requests that go out
+-- the keys of the documents in limbo behind an event that is heard
+abbrev pub LimboBehind : Root → State → Past → Event → Turn → Bool → List Key → Type 0
+LimboBehind root s past event t true keys =
+    AreInLimbo root (after s t.commit) (stance_of (answered_next s past event t))
+    (λ id. listener id (answered_next s past event t)) keys
+LimboBehind root s past event t false keys = keys ≡ []
+
+-- the turn of an event, but for the documents in limbo and for the requests that go out
 pub record IsSettled (root : Root) (s : State) (past : Past) (event : Event) (t : Turn) : Type 0 where
   pub answer : Turn
   pub answers : Answers s past event answer
@@ -66,21 +78,24 @@ batches_behind s past event t =
 
 -- the turn with lines behind it
 abbrev pub with_lines : Turn → List Line → Turn
-with_lines t lines = record { refusal = t.refusal; commit = t.commit; lines = t.lines ++ lines }
+with_lines t lines = record t { lines = t.lines ++ lines }
 
--- the requests on the stream of listeners behind an event's turn, unless it is refused or the stream is closed
+-- the requests on the stream of listeners behind an event's turn, if it is heard and the stream is open
 abbrev pub AsksBehind : State → Past → Event → Turn → List Line → Type 0
 AsksBehind s past event t lines =
-    AsksIf (is_none t.refusal && is_watched (answered_next s past event t)) (after s t.commit)
-    (answered_next s past event t) (resets_by event past) lines
+    AsksIf (is_heard t.refusal && is_watched (answered_next s past event t)) (after s t.commit)
+    (answered_next s past event t) (resets_by event t.commit past) lines
 
--- The turn of an event: its answer, the snapshots, the requests on the stream of listeners, and the batches that go out.
+-- The turn of an event: its answer, the snapshots, the documents in limbo then, the requests on the stream of listeners, and the
+-- batches that go out.
 pub record IsTurn (root : Root) (s : State) (past : Past) (event : Event) (t : Turn) : Type 0 where
   pub settled : Turn
   pub is_settled : IsSettled root s past event settled
+  pub limbo : List Key
+  pub in_limbo : LimboBehind root s past event settled (is_heard settled.refusal) limbo
   pub asked : List Line
-  pub asks : AsksBehind s past event settled asked
-  pub is : t ≡ with_lines settled (asked ++ batches_behind s past event settled)
+  pub asks : AsksBehind s past event (with_limbo settled limbo) asked
+  pub is : t ≡ with_lines (with_limbo settled limbo) (asked ++ batches_behind s past event settled)
 
 -- what was heard, with this event, if it was
 abbrev pub heard_then : Entry → Past → Past

@@ -8,14 +8,14 @@ use Rattle.sync_engine.specs.Past.{Turn}
 
 -- a refused event does nothing, but that a bad message closes its stream
 abbrev pub refused : Refusal → Turn
-refused refusal = record { refusal = Some refusal; commit = None; lines = [] }
+refused refusal = record { refusal = Some refusal; commit = None; lines = []; limbo = [] }
 
 abbrev pub answered : List Line → Turn
-answered lines = record { refusal = None; commit = None; lines = lines }
+answered lines = record { refusal = None; commit = None; lines = lines; limbo = [] }
 
 -- the event makes this commit
 abbrev pub commits : Commit → List Line → Turn
-commits commit lines = record { refusal = None; commit = Some commit; lines = lines }
+commits commit lines = record { refusal = None; commit = Some commit; lines = lines; limbo = [] }
 
 -- the state after a turn
 abbrev pub after : State → Option Commit → State

@@ -1,6 +1,6 @@
 -- What a client keeps of the stream of listeners (google.firestore.v1 Listen), read off what it has heard: the target of each
 -- listener, whether the stream is open and what was done on it, the online state, and which targets are current.
-use Rattle.std.specs.Prelude.{ℕ, nat_eq, ℤ, Bool, true, false, ◌&&◌, ◌==◌, not, List, [], ◌∷◌, length, Option, Some, None, is_some, if◌then◌else◌}
+use Rattle.std.specs.Prelude.{ℕ, nat_eq, ℤ, pos, Bool, true, false, ◌&&◌, ◌||◌, ◌==◌, not, List, [], ◌∷◌, length, Option, Some, None, is_some, if◌then◌else◌}
 use Rattle.std.specs.List.{fold, list_any}
 use Rattle.std.specs.Ordering.{int_eq}
 use Rattle.client_events.specs.declared.event.Event.{Event}
@@ -11,6 +11,7 @@ use Rattle.listen_protocol.specs.Transcript.{counts, is_current_in}
 use Rattle.queries.specs.declared.target.Target.{Target}
 use Rattle.queries.specs.declared.target.Target.TheVariants as target
 use Rattle.record_codec.specs.declared.commit.Commit.{Commit}
+use Rattle.record_codec.specs.declared.commit.Commit.TheVariants.{Drop}
 use Rattle.target_cache.specs.declared.row.Held.{Held}
 use Rattle.target_cache.specs.declared.row.Row.{Row}
 use Rattle.value_model.specs.declared.message.ListenResponse.{ListenResponse}
@@ -191,11 +192,16 @@ is_mismatch h _ t = false
 abbrev pub keys_at_point : ℤ → Calls → Option (List Key)
 keys_at_point t h = if counts t h && is_current_in t h then Some (told_keys t h) else None
 
+-- the commit drops keys, and makes the row of the target blank
+abbrev pub is_dropped_by : Option Commit → ℤ → Bool
+is_dropped_by (Some (Drop keys ids)) t = list_any (λ n. int_eq (pos n) t) ids
+is_dropped_by _ t = false
+
 -- What a message makes of a target: a point that is applied tells whether it is current, and its keys; a reset takes that away.
 abbrev pub told_after : ℤ → ListenResponse → Option Commit → Calls → Option (List Key) → Option (List Key)
 told_after t response commit h was =
     if is_point response && is_some commit then keys_at_point t (came response ∷ h)
-    else if is_mismatch h response t then None
+    else if is_mismatch h response t || is_dropped_by commit t then None
     else was
 
 abbrev pub told_by : ℤ → WatchStep → Option Commit → Calls → Option (List Key) → Option (List Key)

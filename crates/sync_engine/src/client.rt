@@ -1,8 +1,9 @@
-ghost use Rattle.std.specs.Prelude.{◌≡◌, ◌↔◌, [], IsTrue, IsErr, IfErr, IfOk, IsErrOf, OnOk};
+ghost use Rattle.std.specs.Prelude.{◌≡◌, ◌↔◌, [], IsTrue, IsErr, IfErr, IfOk, IsErrOf, OnOk, option_map};
 ghost use Rattle.disk_journal.specs.Steps.{Opens, SettlesFirst};
 ghost use Rattle.host_api.specs.Counts.{RisesAt};
 ghost use Rattle.host_api.specs.Host.{KeepsOut};
 ghost use Rattle.client_events.specs.Spelled.{IsSpelledEvent};
+ghost use Rattle.limbo_resolver.specs.Limbo.{key_in};
 ghost use Rattle.local_store.specs.Files.{FindsState, Refuses};
 ghost use Rattle.local_store.specs.State.{State};
 ghost use Rattle.local_store.specs.Store.{IsFoundIn, IsStored};
@@ -18,8 +19,9 @@ use crate::watch_stream::{Due, WatchStream};
 use crate::write_stream::WriteStream;
 use client_events::Event;
 use disk_journal::OpenFault;
-use document_keys::Database;
+use document_keys::{Database, DocumentKey};
 use host_api::Host;
+use limbo_listens::LimboListens;
 use listeners::Listeners;
 use local_store::LocalStore;
 use std::alloc::Global;
@@ -34,6 +36,7 @@ pub struct Client {
     pub(crate) root: Database,
     pub(crate) store: LocalStore,
     pub(crate) listeners: Listeners,
+    pub(crate) limbo: LimboListens,
     pub(crate) watch: WatchStream,
     pub(crate) writes: WriteStream,
     spent: bool,
@@ -49,7 +52,7 @@ impl Model for Client {
 
     ghost coded = { kept_code };
 
-    ghost view = { λ c. record { root = c.root; store = c.store; listeners = c.listeners; watch = c.watch; writes = c.writes; spent = c.spent } };
+    ghost view = { λ c. record { root = c.root; store = c.store; listeners = c.listeners; limbo = c.limbo; watch = c.watch; writes = c.writes; spent = c.spent } };
 
     ghost invariant = { λ c. c.spent ≡ false → ¬ (IsStoreSpent c.store) × (c.watch.due ≡ Nothing) };
 }
@@ -83,6 +86,7 @@ impl Client {
             root,
             store,
             listeners: Listeners::new(alloc),
+            limbo: LimboListens::new(alloc),
             watch: WatchStream::new(alloc),
             writes: WriteStream::new(),
             spent: false,
@@ -158,6 +162,14 @@ impl Client {
         ensures { ComesAs self.now.writes (λ h. result.now ≡ latest_token h) }
     {
         self.writes.pipeline.token()
+    }
+
+    /// The key of the document in limbo that is listened to under the id, lent; `None` exactly where no listen of such a document
+    /// runs under it.
+    pub fn limbo_document(&self, id: i32) -> Option<&DocumentKey>
+        ensures { option_map (λ key. key.now) result ≡ key_in self.now.limbo.limbo.running id }
+    {
+        self.limbo.key_of(id)
     }
 
     /// The last snapshot of the listener of the id, lent; `None` exactly where there is no such listener, or it has raised none.

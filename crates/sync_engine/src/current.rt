@@ -29,7 +29,7 @@ impl CurrentTargets {
     }
 
     /// How the target stands, if it is current, lent.
-    fn standing(&self, target: &i32) -> Option<&Standing>
+    pub(crate) fn standing(&self, target: &i32) -> Option<&Standing>
         ensures { option_map (λ standing. standing.now) result ≡ standing_in self.now.targets.items target.now }
     {
         for current in self.targets.iter() {

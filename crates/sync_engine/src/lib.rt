@@ -12,6 +12,7 @@
 mod asking;
 mod client;
 mod current;
+mod dropping;
 mod fault;
 mod hearing;
 mod laws;

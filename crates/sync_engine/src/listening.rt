@@ -134,6 +134,7 @@ impl Client {
         let mut outs = Vec::new(alloc);
         outs.push(Out::Unlistened { id, commit })?;
         self.listeners.remove(id);
+        self.limbo.remove(id);
         let wanted = self.wants(&target);
         self.watch.unlistened(&target, wanted);
         Ok(Outcome::Done(outs))

@@ -44,6 +44,9 @@ pub enum Out {
     Raised(u32),
     /// A request on the stream of listeners that adds the target of this id, as its row stands.
     AddTarget(i32),
+    /// A request on the stream of listeners that adds the listen of a document in limbo, under this id;
+    /// [`crate::Client::limbo_document`] lends the document's key.
+    AddLimboTarget(i32),
     /// A request on the stream of listeners that removes the target of this id.
     RemoveTarget(i32),
     /// The first request on the stream of writes, which names the database.

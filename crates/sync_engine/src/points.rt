@@ -71,7 +71,7 @@ fn put_ids(set: &mut BTreeSet<u32>, ids: &[u32]) -> Result<(), NoMemory>
 
 impl Client {
     /// Puts the listeners of the target into the set.
-    fn put_listeners(
+    pub(crate) fn put_listeners(
         &self,
         alloc: Global,
         target: i32,

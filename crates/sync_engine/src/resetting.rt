@@ -1,6 +1,6 @@
 //! The turns by which targets are reset, or end.
 
-ghost use Rattle.std.specs.Prelude.{◌≡◌, ◌↔◌, ◌⊎◌, ◌<◌, ◌^◌, ℕ, map as each, IsTrue, true, IfOk, OnOk, IsErrOf};
+ghost use Rattle.std.specs.Prelude.{◌≡◌, ◌↔◌, ◌⊎◌, ◌<◌, ◌^◌, ℕ, [], map as each, IsTrue, true, IfOk, OnOk, IsErrOf};
 ghost use Rattle.std.specs.List.{All, Contains};
 ghost use Rattle.durable_state.specs.Rows.{IsHeld};
 ghost use Rattle.listeners.specs.Ids.{has_id};
@@ -14,11 +14,11 @@ ghost use Rattle.local_store.specs.Store.{IsSpent as IsStoreSpent, IsStored};
 ghost use Rattle.watch_aggregator.specs.Effects.{Gives};
 ghost use Rattle.watch_aggregator.specs.declared.effect.Effect.TheVariants as effect;
 ghost use Rattle.sync_engine.specs.Blanking.{IsBlanking, blanked_state};
-ghost use Rattle.sync_engine.specs.Hearing.{HaveRows, IsAnyHeld};
+ghost use Rattle.sync_engine.specs.Hearing.{AreDropped, HaveRows, IsAnyHeld};
 ghost use Rattle.sync_engine.specs.Past.{Past};
 ghost use Rattle.sync_engine.specs.Requesting.{CallsAre};
 ghost use Rattle.sync_engine.specs.Standing.{StandsFor};
-ghost use Rattle.sync_engine.specs.Telling.{AreListenersIn, HandsSettled, KeepsListeners, KeepsStreams, MovesBy, RemovesAll};
+ghost use Rattle.sync_engine.specs.Telling.{AreListenersIn, ForgetsAll, HandsSettled, KeepsListeners, KeepsStreams, MovesBy, RefusesAll, RemovesAll};
 ghost use Rattle.sync_engine.specs.declared.out.Out.TheVariants.{Error};
 ghost use Rattle.sync_engine.specs.declared.watch_stream.Due.TheVariants.{Nothing};
 
@@ -29,6 +29,7 @@ use crate::refusal::Refusal;
 use crate::settling::in_order;
 use document_keys::{NoMemory, Sequence};
 use host_api::Host;
+use limbo_listens::LimboListens;
 use listeners::Listeners;
 use local_store::MOST_COMMITS;
 use record_codec::Commit;
@@ -37,7 +38,7 @@ use std::collections::BTreeSet;
 use value_model::{ListenResponse, RpcStatus};
 
 /// The lines that tell the listeners of these ids that the backend refused their target with this status.
-fn errors(alloc: Global, ids: &[u32], status: &RpcStatus) -> Result<Vec<Out>, NoMemory>
+pub(crate) fn errors(alloc: Global, ids: &[u32], status: &RpcStatus) -> Result<Vec<Out>, NoMemory>
     ensures { IfOk result (λ outs. outs.items ≡ each (λ id. Error id status.now) ids.now) }
 {
     let mut outs = Vec::new(alloc);
@@ -65,6 +66,24 @@ fn remove_all(listeners: &mut Listeners, ids: &[u32])
 {
     for id in ids {
         listeners.remove(*id);
+    }
+}
+
+/// Keeps no document in limbo any more for the listeners of these ids.
+fn forget_all(limbo: &mut LimboListens, ids: &[u32])
+    ensures { ForgetsAll ids.now limbo.old limbo.new }
+{
+    for id in ids {
+        limbo.remove(*id);
+    }
+}
+
+/// The listens of documents in limbo end that the backend ended under these ids.
+pub(crate) fn refuse_all(limbo: &mut LimboListens, ids: &[i32])
+    ensures { RefusesAll ids.now limbo.old limbo.new }
+{
+    for id in ids {
+        limbo.refused(*id);
     }
 }
 
@@ -143,7 +162,7 @@ impl Client {
     }
 
     /// The listeners of the targets, ascending.
-    fn listeners_of(&self, alloc: Global, targets: &[i32]) -> Result<Vec<u32>, NoMemory>
+    pub(crate) fn listeners_of(&self, alloc: Global, targets: &[i32]) -> Result<Vec<u32>, NoMemory>
         ensures { IfOk result (λ ids. AreListenersIn self.now.listeners targets.now ids.items) }
     {
         let mut set = BTreeSet::new(alloc);
@@ -156,12 +175,14 @@ impl Client {
     }
 
     /// The listeners of these ids end.
-    fn remove_listeners(&mut self, ids: &[u32])
+    pub(crate) fn remove_listeners(&mut self, ids: &[u32])
         requires poised { self.old.spent ≡ true }
         ensures rest { KeepsStreams self.old self.new }
         ensures removed { RemovesAll ids.now self.old.listeners self.new.listeners }
+        ensures forgotten { ForgetsAll ids.now self.old.limbo self.new.limbo }
     {
         remove_all(&mut self.listeners, ids);
+        forget_all(&mut self.limbo, ids);
     }
 
     /// A filter came whose count isn't the number of told keys of the target: the target is reset.
@@ -200,13 +221,58 @@ impl Client {
         let ids = self.listeners.of_target(alloc, *id)?;
         self.watch.heard(alloc, response)?;
         self.blank(alloc, host, rows, blanks)?;
-        self.watch.reset(id);
+        self.watch.reset(alloc, id)?;
         let mut outs = Vec::new(alloc);
         self.settle(alloc, ids.as_slice(), &mut outs)?;
         Ok(Outcome::Done(outs))
     }
 
-    /// Targets ended: their listeners are told so, and end.
+    /// Targets ended, no listens of documents in limbo among them: their listeners are told so, and end.
+    fn end_targets<H: Host>(
+        &mut self,
+        alloc: Global,
+        host: &mut H,
+        response: &ListenResponse,
+        ids: &[i32],
+        status: &RpcStatus,
+    ) -> Result<Outcome, ClientFault>
+        requires stored { IsTrue H.tells_files → IsStored self.old.store (H.view host.old) }
+        requires whole { ¬ (IsStoreSpent self.old.store) }
+        requires poised { self.old.spent ≡ true }
+        requires idle { self.old.watch.due ≡ Nothing }
+        requires spelled { IsSpelledMessage response.now }
+        requires opening { self.old.watch.is_open ≡ true }
+        requires gives { CallsAre self.old
+            (λ h. Gives h response.now (effect.Ended ids.now status.now)) }
+        requires none { AreDropped self.old.limbo.limbo ids.now [] }
+        ensures turn { IfOk result (λ outcome. (s : State) (past : Past) → StandsFor self.old s past
+            → HandsSettled s past (event.Watch response.now) outcome self.new) }
+        ensures whole { OnOk result (¬ (IsStoreSpent self.new.store)) }
+        ensures root { (self.new.root ≡ self.old.root) × (self.new.spent ≡ self.old.spent) }
+        ensures stored { IsTrue H.tells_files → IsStored self.new.store (H.view host.new) }
+        ensures files { IsTrue H.tells_files → (s : State) (past : Past) → StandsFor self.old s past
+            → MovesBy s past (event.Watch response.now) (H.view host.old) (H.view host.new) }
+        ensures out { KeepsOut (H.view host.old) (H.view host.new) }
+        ensures unspent { IsErrOf result ClientFault.Spent → ⊥ }
+        ensures counts { RisesAt (IsErrOf result ClientFault.DiskFault)
+            (H.view host.old).disk_faults (H.view host.new).disk_faults }
+    {
+        let rows = self.rows_of(alloc, ids)?;
+        let listeners = self.listeners_of(alloc, ids)?;
+        let blanks = self.is_any_held(rows.as_slice());
+        if blanks && self.store.number() >= MOST_COMMITS {
+            return Ok(Outcome::Refused(Refusal::IdsSpent, Vec::new(alloc)));
+        }
+        let outs = errors(alloc, listeners.as_slice(), status)?;
+        self.watch.heard(alloc, response)?;
+        self.blank(alloc, host, rows, blanks)?;
+        self.remove_listeners(listeners.as_slice());
+        refuse_all(&mut self.limbo, ids);
+        self.watch.ended(ids);
+        Ok(Outcome::Done(outs))
+    }
+
+    /// Targets ended: their listeners are told so, and end; and documents in limbo go whose listens are among them.
     pub(crate) fn end<H: Host>(
         &mut self,
         alloc: Global,
@@ -235,17 +301,10 @@ impl Client {
         ensures counts { RisesAt (IsErrOf result ClientFault.DiskFault)
             (H.view host.old).disk_faults (H.view host.new).disk_faults }
     {
-        let rows = self.rows_of(alloc, ids)?;
-        let listeners = self.listeners_of(alloc, ids)?;
-        let blanks = self.is_any_held(rows.as_slice());
-        if blanks && self.store.number() >= MOST_COMMITS {
-            return Ok(Outcome::Refused(Refusal::IdsSpent, Vec::new(alloc)));
+        let keys = self.dropped_keys(alloc, ids)?;
+        if keys.len() > 0 {
+            return self.drop_documents(alloc, host, response, ids, status, keys);
         }
-        let outs = errors(alloc, listeners.as_slice(), status)?;
-        self.watch.heard(alloc, response)?;
-        self.blank(alloc, host, rows, blanks)?;
-        self.remove_listeners(listeners.as_slice());
-        self.watch.ended(ids);
-        Ok(Outcome::Done(outs))
+        self.end_targets(alloc, host, response, ids, status)
     }
 }

@@ -98,6 +98,7 @@ impl Client {
         let refresh = self
             .listeners
             .refresh(alloc, &self.root, &self.store, id, standing, may_start)?;
+        self.limbo.put(alloc, id, refresh.limbo)?;
         Ok(refresh.raised)
     }
 

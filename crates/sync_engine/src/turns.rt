@@ -1,6 +1,6 @@
 //! The turns of events, one by one.
 
-ghost use Rattle.std.specs.Prelude.{◌≡◌, ◌∷◌, [], IsTrue, true, IfOk, OnOk, IsErrOf};
+ghost use Rattle.std.specs.Prelude.{◌≡◌, ◌∷◌, [], IsTrue, true, Some, IfOk, OnOk, IsErrOf};
 ghost use Rattle.host_api.specs.Counts.{RisesAt};
 ghost use Rattle.host_api.specs.Host.{KeepsOut};
 ghost use Rattle.client_events.specs.Spelled.{IsSpelledEvent};
@@ -13,22 +13,31 @@ ghost use Rattle.listen_protocol.specs.Calls.{Calls};
 ghost use Rattle.watch_aggregator.specs.Standing.{StandsFor as AggregatorStandsFor};
 ghost use Rattle.watch_points.specs.SpelledCalls.{AreSpelledCalls};
 ghost use Rattle.sync_engine.specs.Past.{Past};
+ghost use Rattle.sync_engine.specs.Requesting.{KeepsButRequests, SettlesLimbo};
 ghost use Rattle.sync_engine.specs.Standing.{IsAtRest, IsStanding, StandsFor};
 ghost use Rattle.sync_engine.specs.declared.watch_stream.Due.TheVariants.{Nothing};
 ghost use Rattle.sync_engine.specs.Telling.{HandsOut, HandsSettled, KeepsListeners, MovesBy};
+ghost use Rattle.sync_engine.specs.Turn.{is_heard};
 
 use crate::client::Client;
 use crate::fault::ClientFault;
 use crate::out::{Out, Outcome};
 use crate::refusal::Refusal;
 use client_events::Event;
-use document_keys::{DocumentKey, Text};
+use document_keys::{DocumentKey, NoMemory, Text};
 use host_api::Host;
 use local_store::{MOST_COMMITS, StoreFault};
 use mutations::{Batch, Writes};
 use record_codec::Commit;
 use std::alloc::Global;
 use value_model::{RpcStatus, StreamName, Timestamp};
+
+/// Whether the event is heard that was refused: a bad message closes its stream.
+fn is_heard(refusal: &Refusal) -> bool
+    ensures { result ≡ is_heard (Some refusal.now) }
+{
+    matches!(refusal, Refusal::BadMessage { .. })
+}
 
 impl Client {
     /// Makes the commit, which fits.
@@ -223,6 +232,16 @@ impl Client {
         }
     }
 
+    /// Just the documents in limbo have or await a listen then, and the requests go out that are due on the stream of listeners.
+    fn settle_limbo(&mut self, alloc: Global, outs: &mut Vec<Out>) -> Result<(), NoMemory>
+        ensures rest { KeepsButRequests self.old self.new }
+        ensures settles { OnOk result (SettlesLimbo self.old self.new outs.old.items outs.new.items) }
+    {
+        let changed = self.limbo.settle(alloc)?;
+        self.ask(alloc, changed.as_slice(), outs)?;
+        Ok(())
+    }
+
     /// The turn of an event.
     pub(crate) fn turn<H: Host>(
         &mut self,
@@ -250,10 +269,16 @@ impl Client {
     {
         let outcome = self.answer(alloc, host, event)?;
         match outcome {
-            Outcome::Refused(refusal, outs) => Ok(Outcome::Refused(refusal, outs)),
+            Outcome::Refused(refusal, outs) => {
+                let mut outs = outs;
+                if is_heard(&refusal) {
+                    self.settle_limbo(alloc, &mut outs)?;
+                }
+                Ok(Outcome::Refused(refusal, outs))
+            }
             Outcome::Done(outs) => {
                 let mut outs = outs;
-                self.ask(alloc, &mut outs)?;
+                self.settle_limbo(alloc, &mut outs)?;
                 self.send(alloc, &mut outs)?;
                 Ok(Outcome::Done(outs))
             }

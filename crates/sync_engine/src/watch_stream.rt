@@ -1,4 +1,5 @@
 ghost use Rattle.std.specs.Prelude.{◌≡◌, IfOk, OnOk};
+ghost use Rattle.sync_engine.specs.Dropping.{Drops};
 ghost use Rattle.sync_engine.specs.Stream.{Applies, Ends, EndsAll, Hears, IsClosed, IsNew, IsOpened, IsRung, Resets, Skips};
 ghost use Rattle.sync_engine.specs.declared.watch_stream.Due.TheVariants.{One};
 
@@ -10,14 +11,14 @@ use value_model::ListenResponse;
 use watch_aggregator::{Aggregator, WatchPoint};
 
 /// For which targets a request may be due.
-#[derive(Clone, Copy, Debug, PartialEq, Eq)]
+#[derive(Debug, Drop)]
 pub enum Due {
     /// For none.
     Nothing,
     /// For the target of this id.
     One(i32),
-    /// The target of this id is to be removed and added again.
-    Reset(i32),
+    /// The targets of these ids are to be removed and added again.
+    Resets(Vec<i32>),
     /// For all.
     All,
 }
@@ -47,7 +48,7 @@ impl WatchStream {
         }
     }
 
-    /// It was opened: each wanted target is to be added.
+    /// It was opened: each wanted target is to be added, and each running listen of a document in limbo.
     pub(crate) fn opened(&mut self, alloc: Global)
         ensures { IsOpened self.old self.new }
     {
@@ -132,11 +133,27 @@ impl WatchStream {
     }
 
     /// The target is reset: it isn't current, and is to be removed and added again.
-    pub(crate) fn reset(&mut self, target: &i32)
-        ensures { Resets target.now self.old self.new }
+    ///
+    /// # Errors
+    /// `NoMemory`
+    pub(crate) fn reset(&mut self, alloc: Global, target: &i32) -> Result<(), NoMemory>
+        ensures { OnOk result (Resets target.now self.old self.new) }
     {
+        let mut ids = Vec::new(alloc);
+        ids.push(*target)?;
         self.current.remove(target);
-        self.due = Due::Reset(*target);
+        self.due = Due::Resets(ids);
+        Ok(())
+    }
+
+    /// Targets ended, and the rows of others were made blank: none of them is current any more; and the last ones are to be removed
+    /// and added again.
+    pub(crate) fn dropped(&mut self, ended: &[i32], blanked: &[i32], resets: Vec<i32>)
+        ensures { Drops ended.now blanked.now resets.items self.old self.new }
+    {
+        self.ended(ended);
+        self.ended(blanked);
+        self.due = Due::Resets(resets);
     }
 
     /// The targets ended: they aren't current any more.

@@ -14,3 +14,4 @@ mod shown;
 
 pub use laws::a_point_commits_once;
 pub use point::{PointCommit, point_commit};
+pub use shown::show_keys;

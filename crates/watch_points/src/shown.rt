@@ -36,7 +36,7 @@ fn show_each(keys: &[DocumentKey])
 }
 
 /// Keys of a set ascend, and each has a spelling.
-pub(crate) fn show_keys(keys: &KeySet)
+pub fn show_keys(keys: &KeySet)
     ensures { AreSpelledKeys keys.now }
 {
     let _count = keys.len();

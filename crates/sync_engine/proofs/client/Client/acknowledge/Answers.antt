@@ -61,7 +61,7 @@ returns-clause-turn g c = λ s past stands. by_state (λ (t : State). HandsSettl
     hands_acknowledged _ c.in-Some.first.now c.in-Some-commit_time.time c.args.response c.in_ok-ids.ids.items c.requires.idle st
     (subst (λ (ws : List Write). AreConcerned c.args.self.now.listeners ws c.in_ok-ids.ids.items) c.as_slice.ensures c.in_ok-ids.ensures)
     (omega (arith, c.if-number-ge-MOST_COMMITS.false, (c.number-number.ensures.number ∙ ap (λ (k : Kept). k.store.state.number) c.self.view_is))) (sym c.first_pending.ensures ∙ ap (option_map (λ b. b.now)) c.in-Some.is) c.in-Some-commit_time.is c.requires.opening (c.requires.fits (steps_of past) st.writes.pipeline)
-    (ap (λ (k : Kept). k.root) c.self-2.view_is ∙ c.commit.ensures.rest.root) (ap (λ (k : Kept). k.listeners) c.self-2.view_is ∙ c.commit.ensures.rest.listeners) (ap (λ (k : Kept). k.watch) c.self-2.view_is ∙ c.commit.ensures.rest.watch)
+    (ap (λ (k : Kept). k.root) c.self-2.view_is ∙ c.commit.ensures.rest.root) (ap (λ (k : Kept). k.listeners) c.self-2.view_is ∙ c.commit.ensures.rest.listeners) (ap (λ (k : Kept). k.limbo) c.self-2.view_is ∙ c.commit.ensures.rest.limbo) (ap (λ (k : Kept). k.watch) c.self-2.view_is ∙ c.commit.ensures.rest.watch)
     (subst (λ (w : WriteStream). GoesOn w c.came.new.self (λ h. kept c.args.response.token ∷ acknowledged ∷ h)) (ap (λ (k : Kept). k.writes) c.self-2.view_is ∙ c.commit.ensures.rest.writes) c.came.ensures)
     (ap (λ (k : Kept). k.store.state) c.self-2.view_is ∙ c.in_ok-commit.ensures.state ∙ ap (λ (n : ℕ). committed c.args.self.now.store.state (Acknowledge n c.in-Some-commit_time.time c.args.response.results)) c.id_of-batch.ensures)
     c.settle.ensures.rest c.as_slice-2.ensures.value c.in_ok-settle.ensures.raises

@@ -2,10 +2,9 @@ use Rattle.std.proofs.Common.{◌≡◌, ℤ, List, SFits, w32, pos, get_or, rul
 use Rattle.std.proofs.lemmas.Bool.{false≢true}
 use Rattle.std.proofs.lemmas.Int.{to_z-of_z}
 use Rattle.std.proofs.lemmas.List.Elements.{All-push}
-use Rattle.std.specs.List.{All}
 use Rattle.listeners.specs.Table.{IsWanted}
 use Rattle.listen_protocol.specs.Calls.{Calls}
-use Rattle.sync_engine.specs.Requesting.{IsToAdd, Picked}
+use Rattle.sync_engine.specs.Requesting.{AllWanted, IsToAdd, Picked}
 use Rattle.sync_engine.proofs.Picking.{item_at, picked_less, picked_one}
 use Rattle.sync_engine.proofs.client.Client.added.Goals as goal
 use Rattle.sync_engine.proofs.client.Client.added.Goals.{then-is_to_add+in_ok-push, else-is_to_add}
@@ -25,14 +24,14 @@ loop-target-preserved c =
           let fits : SFits w32 x = search rules in
           let is = ap (λ (v : Vec ℤ Global). v.items) w.ids-is ∙ w.in_ok-push.ensures.items ∙ ap (λ (y : ℤ). ids ++ y ∷ []) (to_z-of_z w32 x fits) in
           record {
-            wanted = subst (All (IsWanted c.args.self.now.listeners)) (sym is) (All-push (IsWanted c.args.self.now.listeners) ids x c.loop-target.invariant.wanted (c.is_to_add.ensures.wanted w.if-is_to_add.true));
+            wanted = subst (AllWanted c.args.self.now) (sym is) (All-push (IsWanted c.args.self.now.listeners) ids x c.loop-target.invariant.wanted (c.is_to_add.ensures.wanted w.if-is_to_add.true));
             picked = λ h stands. subst (are h) (sym is)
                 (picked_one (P h) targets ids n x c.requires.ascending inside at (c.loop-target.invariant.picked h stands) ((c.is_to_add.ensures.calls h stands).0 w.if-is_to_add.true));
           }
       | else-is_to_add w ↦
           let is = ap (λ (v : Vec ℤ Global). v.items) w.ids-is in
           record {
-            wanted = subst (All (IsWanted c.args.self.now.listeners)) (sym is) c.loop-target.invariant.wanted;
+            wanted = subst (AllWanted c.args.self.now) (sym is) c.loop-target.invariant.wanted;
             picked = λ h stands. subst (are h) (sym is)
                 (picked_less (P h) targets ids n x c.requires.ascending inside at (c.loop-target.invariant.picked h stands) (λ so. absurd (false≢true (sym w.if-is_to_add.false ∙ (c.is_to_add.ensures.calls h stands).1 so))));
           }

@@ -14,6 +14,6 @@ returns-then-not-self-clause-turn c = λ s past stands. hands_refused (StreamSta
 pub returns-clause-turn : goal.returns-clause-turn
 returns-clause-turn c = λ s past stands.
     let as_kept = subst (λ (k : Kept). StandsFor k s past) (sym c.self.view_is) stands in
-    hands_closed (event.BadMessage stream.Write c.args.member) (BadMessage stream.Write c.args.member) refl (ap (λ (k : Kept). k.watch.due) c.self.view_is ∙ c.requires.idle) as_kept (record { root = refl; store = refl; listeners = refl; watch = refl })
+    hands_closed (event.BadMessage stream.Write c.args.member) (BadMessage stream.Write c.args.member) refl (ap (λ (k : Kept). k.watch.due) c.self.view_is ∙ c.requires.idle) as_kept (record { root = refl; store = refl; listeners = refl; limbo = refl; watch = refl })
     (record { is_plain = record { step = refl; plain = λ id. refl; targets = λ id. refl; began = refl; unrequested = λ h. refl; unraised = λ id. refl }; unmade = refl }) (c.closed.ensures (steps_of past) as_kept.writes)
     (bad_now as_kept c.args.member c.if-not-self.false) c.new-2.ensures.items

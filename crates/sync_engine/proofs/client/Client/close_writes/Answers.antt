@@ -23,7 +23,7 @@ returns-then-not-self-clause-files g c = λ told s past stands. by_state (λ (t 
 pub returns-in-Kept-clause-turn : goal.returns-in-Kept-clause-turn
 returns-in-Kept-clause-turn g c = λ s past stands.
     let as_kept = subst (λ (k : Kept). StandsFor k s past) (sym c.self.view_is) stands in
-    hands_nothing (event.Closed stream.Write c.args.status) (λ t. refl) (ap (λ (k : Kept). k.watch.due) c.self.view_is ∙ c.requires.idle) as_kept (record { root = refl; store = refl; listeners = refl; watch = refl })
+    hands_nothing (event.Closed stream.Write c.args.status) (λ t. refl) (ap (λ (k : Kept). k.watch.due) c.self.view_is ∙ c.requires.idle) as_kept (record { root = refl; store = refl; listeners = refl; limbo = refl; watch = refl })
     (record { is_plain = record { step = refl; plain = λ id. refl; targets = λ id. refl; began = refl; unrequested = λ h. refl; unraised = λ id. refl }; unmade = refl }) (c.closed.ensures (steps_of past) as_kept.writes)
     (closed_kept as_kept c.args.status c.if-not-self.false (sym (c.closing.ensures (steps_of past) as_kept.writes.pipeline) ∙ c.in-Kept.is)) c.new-in-Kept.ensures.items
 

@@ -53,7 +53,7 @@ pub returns-clause-turn : goal.returns-clause-turn
 returns-clause-turn g c = λ s past stands. by_state (λ (t : State). HandsSettled t past (event.Listen c.args.id c.args.query) (Done c.settle.new.outs) c.settle.new.self) stands (λ st.
     hands_begun c.args.self.now _ c.settle.new.self past c.args.id c.args.query c.in_ok-target.field-0 c.in-Some.target st (sym (ap (λ (k : Kept). viewed k.listeners c.args.id) c.self.view_is) ∙ none_viewed _ c.view.result _ c.is_none.result c.view.ensures c.is_none.ensures c.if-not-is_none.false) c.requires.idle
     (subst (λ (k : Kept). GivesTarget c.args.self.now.store.state c.args.query c.in_ok-target.field-0 k.store.state) (sym c.self-2.view_is) (subst (λ (q : Target). GivesTarget c.args.self.now.store.state q c.in_ok-target.field-0 c.target_for.new.self.store.state) c.as_target.ensures.same c.in_ok-target.ensures.found))
-    c.in-Some.is (ap (λ (k : Kept). k.root) c.self-2.view_is ∙ c.target_for.ensures.rest.root) (ap (λ (k : Kept). k.writes) c.self-2.view_is ∙ c.target_for.ensures.rest.writes)
+    c.in-Some.is (ap (λ (k : Kept). k.root) c.self-2.view_is ∙ c.target_for.ensures.rest.root) (ap (λ (k : Kept). k.limbo) c.self-2.view_is ∙ c.target_for.ensures.rest.limbo) (ap (λ (k : Kept). k.writes) c.self-2.view_is ∙ c.target_for.ensures.rest.writes)
     (c.listened.ensures ∙ ap (λ (z : ℤ). record c.self-2.inside.watch { due = One z }) (given_back c.args.self.now.store.state c.args.query c.in_ok-target.field-0 c.in-Some.target (subst (λ (l : List Row). id_at (length l) ≤ 2147483648) (c.targets.ensures ∙ ap (λ (k : Kept). k.store.state.rows) c.self.view_is) c.next_id-last.ensures.most) (subst (λ (q : Target). GivesTarget c.args.self.now.store.state q c.in_ok-target.field-0 c.target_for.new.self.store.state) c.as_target.ensures.same c.in_ok-target.ensures.found) c.in-Some.is) ∙ ap (λ (w : WatchStream). record w { due = One c.in-Some.target }) (ap (λ (k : Kept). k.watch) c.self-2.view_is ∙ c.target_for.ensures.rest.watch))
     (subst (λ (l : Table). Changes c.args.id (Some (fresh c.args.query)) l c.add.new.self) (ap (λ (k : Kept). k.listeners) c.self-2.view_is ∙ c.target_for.ensures.rest.listeners) c.in_ok-add.ensures.done)
     (subst (λ (z : ℤ). ChangesTarget c.args.id (Some z) c.args.self.now.listeners c.add.new.self) (given_back c.args.self.now.store.state c.args.query c.in_ok-target.field-0 c.in-Some.target (subst (λ (l : List Row). id_at (length l) ≤ 2147483648) (c.targets.ensures ∙ ap (λ (k : Kept). k.store.state.rows) c.self.view_is) c.next_id-last.ensures.most) (subst (λ (q : Target). GivesTarget c.args.self.now.store.state q c.in_ok-target.field-0 c.target_for.new.self.store.state) c.as_target.ensures.same c.in_ok-target.ensures.found) c.in-Some.is)

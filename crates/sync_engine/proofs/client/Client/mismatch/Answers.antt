@@ -72,6 +72,20 @@ returns-in_err-blank-clause-files g c = λ told s past stands.
     ])
     (subst (λ (k : Kept). Moves k.store.state (blanked_state c.is_any_held-blanks.result k.store.state c.in_ok-rows.rows.items) (g.H.Host.view c.args.host.now) (g.H.Host.view c.blank.new.host)) c.self.view_is (c.blank.ensures.files told)))
 
+pub returns-in_err-reset-clause-files : goal.returns-in_err-reset-clause-files
+returns-in_err-reset-clause-files g c = λ told s past stands.
+    let fits : SFits w32 c.args.id.now = search rules in
+    by_state (λ (t : State). MovesBy t past (event.Watch c.args.response.now) (g.H.Host.view c.args.host.now) (g.H.Host.view c.blank.new.host)) stands (λ st.
+    moves_mismatch c.args.response.now c.args.id.now c.requires.gives.0 c.requires.gives.1.0 c.in_ok-rows.rows.items st c.requires.opening (c.requires.gives.1.1 (calls_of past) st.watch.calls)
+    (subst (λ (z : ℤ). HaveRows c.args.self.now.store.state.rows (z ∷ []) c.in_ok-rows.rows.items) (to_z-of_z w32 c.args.id.now fits) c.in_ok-rows.ensures.rows)
+    c.is_any_held-blanks.result
+    (subst (λ (l : List ℕ). IsTrue c.is_any_held-blanks.result ↔ IsAnyHeld c.args.self.now.store.state.rows l) c.as_slice.ensures.value c.is_any_held-blanks.ensures)
+    (λ so. elim c.else-blanks.branch [
+      | else-blanks-via-then-blanks+else-number-ge-MOST_COMMITS w ↦ omega (arith, w.if-number-ge-MOST_COMMITS.false, (w.number.ensures.number ∙ ap (λ (k : Kept). k.store.state.number) c.self.view_is))
+      | else-blanks-via-else-blanks w ↦ absurd (true≢false (sym so ∙ w.if-blanks.false))
+    ])
+    (subst (λ (k : Kept). Moves k.store.state (blanked_state c.is_any_held-blanks.result k.store.state c.in_ok-rows.rows.items) (g.H.Host.view c.args.host.now) (g.H.Host.view c.blank.new.host)) c.self.view_is (c.blank.ensures.files told)))
+
 pub returns-in_err-settle-clause-files : goal.returns-in_err-settle-clause-files
 returns-in_err-settle-clause-files g c = λ told s past stands.
     let fits : SFits w32 c.args.id.now = search rules in
@@ -114,9 +128,10 @@ returns-clause-turn g c = λ s past stands.
     (ap (λ (k : Kept). k.root) c.self-2.view_is ∙ c.blank.ensures.rest.root ∙ ap (λ (k : Kept). k.root) c.self.view_is)
     (ap (λ (k : Kept). k.store.state) c.self-2.view_is ∙ c.in_ok-blank.ensures.state ∙ ap (λ (k : Kept). blanked_state c.is_any_held-blanks.result k.store.state c.in_ok-rows.rows.items) c.self.view_is)
     (ap (λ (k : Kept). k.listeners) c.self-2.view_is ∙ c.blank.ensures.rest.listeners ∙ ap (λ (k : Kept). k.listeners) c.self.view_is)
+    (ap (λ (k : Kept). k.limbo) c.self-2.view_is ∙ c.blank.ensures.rest.limbo ∙ ap (λ (k : Kept). k.limbo) c.self.view_is)
     (ap (λ (k : Kept). k.writes) c.self-2.view_is ∙ c.blank.ensures.rest.writes ∙ ap (λ (k : Kept). k.writes) c.self.view_is)
     (subst (λ (w : WatchStream). Hears c.args.response.now c.args.self.now.watch w) (sym c.blank.ensures.rest.watch) (subst (λ (k : Kept). Hears c.args.response.now k.watch c.heard.new.self) c.self.view_is c.in_ok-heard.ensures))
-    (subst (λ (k : Kept). Resets c.args.id.now k.watch c.reset.new.self) c.self-2.view_is c.reset.ensures)
+    (subst (λ (k : Kept). Resets c.args.id.now k.watch c.reset.new.self) c.self-2.view_is c.in_ok-reset.ensures)
     (subst (λ (k : Kept). (q : ℕ) → Contains c.in_ok-ids.ids.items q ↔ (target_of k.listeners q ≡ Some c.args.id.now)) c.self.view_is
     (subst (λ (z : ℤ). (q : ℕ) → Contains c.in_ok-ids.ids.items q ↔ (target_of c.self.inside.listeners q ≡ Some z)) (to_z-of_z w32 c.args.id.now fits) c.in_ok-ids.ensures.members))
     c.settle.ensures.rest

@@ -15,5 +15,5 @@ returns-then-self-clause-turn c = λ s past stands. hands_refused (StreamState s
 pub returns-clause-turn : goal.returns-clause-turn
 returns-clause-turn c = λ s past stands.
     let as_kept = subst (λ (k : Kept). StandsFor k s past) (sym c.self.view_is) stands in
-    hands_opened (ap (λ (k : Kept). k.watch.due) c.self.view_is ∙ c.requires.idle) as_kept (record { root = refl; store = refl; listeners = refl; watch = refl }) (c.opened.ensures (steps_of past) as_kept.writes) (opened_now as_kept c.if-self.false)
+    hands_opened (ap (λ (k : Kept). k.watch.due) c.self.view_is ∙ c.requires.idle) as_kept (record { root = refl; store = refl; listeners = refl; limbo = refl; watch = refl }) (c.opened.ensures (steps_of past) as_kept.writes) (opened_now as_kept c.if-self.false)
     (c.in_ok-push.ensures.items ∙ ap (λ (o : List Out). o ++ SendHandshake ∷ []) c.new-outs.ensures.items)

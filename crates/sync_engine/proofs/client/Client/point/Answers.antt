@@ -92,6 +92,7 @@ returns-clause-turn g c = λ s past stands. by_state (λ (t : State). HandsSettl
       current = current_as (c.commit.ensures.rest.listeners ∙ ap (λ (k : Kept). k.listeners) c.self.view_is) (c.in_ok-self-inside.ensures (point_ascends c.args.response.now (subst (λ (k : Kept). Hears c.args.response.now k.watch c.heard.new.self) c.self.view_is c.in_ok-heard.ensures) c.in_ok-entries.ensures st.watch.calls));
       root = ap (λ (k : Kept). k.root) c.self-2.view_is ∙ c.commit.ensures.rest.root ∙ ap (λ (k : Kept). k.root) c.self.view_is;
       listeners = ap (λ (k : Kept). k.listeners) c.self-2.view_is ∙ c.commit.ensures.rest.listeners ∙ ap (λ (k : Kept). k.listeners) c.self.view_is;
+      held = ap (λ (k : Kept). k.limbo) c.self-2.view_is ∙ c.commit.ensures.rest.limbo ∙ ap (λ (k : Kept). k.limbo) c.self.view_is;
       writes = ap (λ (k : Kept). k.writes) c.self-2.view_is ∙ c.commit.ensures.rest.writes ∙ ap (λ (k : Kept). k.writes) c.self.view_is;
       opening = ap (λ (k : Kept). k.watch.is_open) c.self-2.view_is ∙ ap (λ (w : WatchStream). w.is_open) c.commit.ensures.rest.watch;
       aggregator = ap (λ (k : Kept). k.watch.aggregator) c.self-2.view_is ∙ ap (λ (w : WatchStream). w.aggregator) c.commit.ensures.rest.watch;

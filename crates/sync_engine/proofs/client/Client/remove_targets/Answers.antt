@@ -14,7 +14,7 @@ loop-target-preserved c =
     let at : x ≡ get_or targets n x = to_z-of_z w32 there fits ∙ item_at targets n (pos 0) x c.loop-target-test.true in
     record {
       rest = due_kept_then c.loop-target.invariant.rest (record {
-        rest = record { root = refl; store = refl; listeners = refl; writes = refl; spent = refl; opening = refl; online = refl; current = refl };
+        rest = record { root = refl; store = refl; listeners = refl; limbo = refl; writes = refl; spent = refl; opening = refl; online = refl; current = refl };
         due = refl;
       });
       removes = removes_more targets n x c.loop-target-test.true at c.loop-target.invariant.removes c.request_remove.ensures c.in_ok-push.ensures.items;

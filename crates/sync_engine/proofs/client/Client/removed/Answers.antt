@@ -15,7 +15,7 @@ loop-target-preserved c =
     let x = get_or targets n (pos 0) in
     let inside = c.loop-target-test.true in
     let at : x ≡ get_or targets n x = item_at targets n (pos 0) x inside in
-    let P = λ (h : Calls). IsToRemove c.args.self.now c.args.reset h in
+    let P = λ (h : Calls). IsToRemove c.args.self.now c.args.resets.now h in
     let are = λ (h : Calls) (l : List ℤ). Picked (P h) (take (n + 1) targets) l in
     elim c.if-is_to_remove.branch [
       | then-is_to_remove+in_ok-push w ↦

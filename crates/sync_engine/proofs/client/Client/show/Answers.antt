@@ -15,4 +15,4 @@ returns-clause-shows c =
     ∙ ap (λ (t : Option ℤ). standing_or (found t)) c.target_of-target.ensures)
     c.in_ok-refresh.ensures.done
     (subst (λ (k : Kept). MayStart k.store.state (stance_in k c.args.id) c.may_start-may_start.result) (sym c.self.view_is) c.may_start-may_start.ensures)
-    c.self.view_is
+    c.in_ok-put.ensures.done c.self.view_is

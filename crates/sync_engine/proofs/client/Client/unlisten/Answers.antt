@@ -19,7 +19,7 @@ returns-clause-turn c = λ s past stands.
     let as_kept = subst (λ (k : Kept). StandsFor k s past) (sym c.self.view_is) stands in
     let fits : SFits w32 c.in-Some.target = search rules in
     let back = to_z-of_z w32 c.in-Some.target fits in
-    hands_ended _ _ s past c.args.id c.in-Some.target c.wants-wanted.result (sym c.target_of.ensures ∙ c.in-Some.is) as_kept (ap (λ (k : Kept). k.watch.due) c.self.view_is ∙ c.requires.idle) refl refl refl c.remove.ensures.done c.remove.ensures.target (subst (λ (z : ℤ). IsTrue c.wants-wanted.result ↔ IsWanted c.remove.new.self z) back c.wants-wanted.ensures)
+    hands_ended _ _ s past c.args.id c.in-Some.target c.wants-wanted.result (sym c.target_of.ensures ∙ c.in-Some.is) as_kept (ap (λ (k : Kept). k.watch.due) c.self.view_is ∙ c.requires.idle) refl refl refl c.remove.ensures.done c.remove.ensures.target c.remove-2.ensures.removed c.remove-2.ensures.limbo (subst (λ (z : ℤ). IsTrue c.wants-wanted.result ↔ IsWanted c.remove.new.self z) back c.wants-wanted.ensures)
     (subst (λ (z : ℤ). Ends z c.wants-wanted.result c.self.inside.watch c.unlistened.new.self) back c.unlistened.ensures)
     (c.in_ok-push.ensures.items ∙ ap (λ (o : List Out). o ++ Unlistened c.args.id c.number-commit.result ∷ []) c.new-outs.ensures.items
     ∙ ap (λ (n : ℕ). Unlistened c.args.id n ∷ []) c.number-commit.ensures.number)

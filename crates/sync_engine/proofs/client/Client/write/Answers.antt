@@ -49,6 +49,6 @@ pub returns-clause-turn : goal.returns-clause-turn
 returns-clause-turn g c = λ s past stands. by_state (λ (t : State). HandsSettled t past (event.Write c.args.at c.args.writes) (Done c.settle.new.outs) c.settle.new.self) stands (λ st.
     hands_written c.commit.new.self c.args.at c.args.writes c.in_ok-ids.ids.items c.requires.idle st
     (subst (λ (ws : List Write). AreConcerned c.args.self.now.listeners ws c.in_ok-ids.ids.items) c.as_slice.ensures c.in_ok-ids.ensures)
-    (omega (arith, c.if-number-ge-MOST_COMMITS.false, (c.number-number.ensures.number ∙ ap (λ (k : Kept). k.store.state.number) c.self.view_is))) c.commit.ensures.rest.root c.commit.ensures.rest.listeners c.commit.ensures.rest.watch c.commit.ensures.rest.writes (c.in_ok-commit.ensures.state ∙ ap (λ (n : ℕ). committed c.args.self.now.store.state (Enqueue (record { id = n; at = c.args.at; writes = c.args.writes }))) (c.next_batch-id.ensures ∙ ap (λ (k : Kept). k.store.state.next_batch) c.self.view_is)) c.settle.ensures.rest (λ others. c.in_ok-settle.ensures.raises (subst (λ (l : List ℕ). IsQuietOrAmong l c.commit.new.self) (sym c.as_slice-2.ensures.value) others))
+    (omega (arith, c.if-number-ge-MOST_COMMITS.false, (c.number-number.ensures.number ∙ ap (λ (k : Kept). k.store.state.number) c.self.view_is))) c.commit.ensures.rest.root c.commit.ensures.rest.listeners c.commit.ensures.rest.limbo c.commit.ensures.rest.watch c.commit.ensures.rest.writes (c.in_ok-commit.ensures.state ∙ ap (λ (n : ℕ). committed c.args.self.now.store.state (Enqueue (record { id = n; at = c.args.at; writes = c.args.writes }))) (c.next_batch-id.ensures ∙ ap (λ (k : Kept). k.store.state.next_batch) c.self.view_is)) c.settle.ensures.rest (λ others. c.in_ok-settle.ensures.raises (subst (λ (l : List ℕ). IsQuietOrAmong l c.commit.new.self) (sym c.as_slice-2.ensures.value) others))
     (c.in_ok-push.ensures.items ∙ ap (λ (o : List Out). o ++ Wrote c.next_batch-id.result (c.number-number.result + 1) ∷ []) c.new-outs.ensures.items
     ∙ ap (λ (n : ℕ). Wrote c.next_batch-id.result (n + 1) ∷ []) (c.number-number.ensures.number ∙ ap (λ (k : Kept). k.store.state.number) c.self.view_is) ∙ ap (λ (n : ℕ). Wrote n (c.args.self.now.store.state.number + 1) ∷ []) (c.next_batch-id.ensures ∙ ap (λ (k : Kept). k.store.state.next_batch) c.self.view_is)))

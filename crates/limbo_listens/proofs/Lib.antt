@@ -1,0 +1,4 @@
+pub mod Laws
+pub mod Rising
+pub mod Settled
+pub mod Shown

@@ -1,0 +1,6 @@
+use Rattle.std.proofs.Common.{◌≡◌, pos, take}
+use Rattle.std.proofs.Common.{map as each}
+use Rattle.sync_engine.proofs.dropping.as_targets.Given as goal
+
+abbrev pub invariant-loop-row : goal.invariant-loop-row
+invariant-loop-row l = record { ids : l.ids.items ≡ each pos (take l.row-index l.rows) }
