@@ -12,7 +12,7 @@ from readers.write_stream import known_value, status_faults, time_faults, token_
 
 TARGET_CHANGES = ["NO_CHANGE", "ADD", "REMOVE", "CURRENT", "RESET"]
 GREATEST_COUNT = 2**31 - 1
-MOST_RUNNING = 0  # listens that documents in limbo may have beside each other; the program makes none of its own yet
+MOST_RUNNING = 100  # listens that documents in limbo may have beside each other
 
 
 # ---- the faults of messages -----------------------------------------------------------------------------------------
