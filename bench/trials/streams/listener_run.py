@@ -5,8 +5,8 @@ streams, a while after it came; where a stream is closed, or the program ends, a
 
 At a quiet moment everything has arrived. Each view that isn't from the cache must then show, of the documents that no write of this
 client touches, just those of the backend's own answer, in its order, field by field, with their update time; where a limit is reached,
-those that come behind what is shown may lack. A view that stays from the cache must show a document in limbo, which the backend's answer
-lacks: one for which the program has no listen, or one that moved up in a limit where a pending write took another one out. At any moment a snapshot that isn't from the cache must show the same of the answer at its
+those that come behind what is shown may lack. A view that stays from the cache must show a document that moved up in a limit, where a
+write of this client took another one out. At any moment a snapshot that isn't from the cache must show the same of the answer at its
 read time, which is worked out from what the backend had behind each write. Behind a kill the journal must have every commit that was
 told, and the batches that are due.
 """
@@ -54,7 +54,6 @@ class ListenerRun(Run):
         self.listeners, self.targets = {}, []
         self.committed, self.read, self.told = {}, -1, 0  # `committed`: by name, the time of the last commit of a batch on it
         self.history = History(link, list(map(self.name, PATHS)))
-        self.settles_limbo = False  # whether the program has asked for a document in limbo
 
     # ---- what the program prints
 
@@ -109,7 +108,6 @@ class ListenerRun(Run):
         stream = "watch" if "listen" in body else "write"
         self.out[stream].append({"send": body})
         if body.get("listen", {}).get("addTarget", {}).get("targetId", 0) % 2:
-            self.settles_limbo = True
             self.counts["listens of documents in limbo"] += 1
 
     # ---- what is on its way
@@ -149,7 +147,10 @@ class ListenerRun(Run):
         self.feed(self.write_line())
 
     def write_elsewhere(self):
-        answer = self.link.commit(random_batch(self.chance, list(map(self.name, PATHS)), lambda _: None))
+        writes = random_batch(self.chance, list(map(self.name, PATHS)), lambda _: None)
+        answer = self.link.commit(writes)
+        if "responses" not in answer:
+            raise Difference("another client writes %s, and is answered %s" % (json.dumps(writes), answer))
         self.history.record(answer["responses"][0]["commitTime"])
         self.counts["writes of another client"] += 1
 
@@ -284,12 +285,9 @@ class ListenerRun(Run):
             return self.disagreement(listener, answer)
         names = {document["name"] for document in answer}
         in_limbo = [name for name in listener.untouched(self.is_touched) if name not in names] if listener.snapshot else []
-        if in_limbo and not self.settles_limbo:
-            self.counts["views from the cache, a document in limbo"] += 1
-        elif in_limbo and listener.is_full() and any(map(self.is_touched, names)):
-            self.counts["views from the cache, a document moved up in a limit"] += 1
-        else:
+        if not in_limbo or not listener.is_full() or not any(map(self.is_touched, names)):
             return "it stays from the cache, with %s in limbo" % in_limbo
+        self.counts["views from the cache, a document moved up in a limit"] += 1
         return None
 
     def disagreement(self, listener, answer):

@@ -110,6 +110,7 @@ class Link(Backend):
         self.coming[stream], self.is_up[stream] = [], False
         if stream == "watch":
             self.added = set()
+            time.sleep(QUIET)  # where the emulator hasn't noticed yet, it breaks off the next write
 
     def pass_on(self, stream, line):
         """Passes on a request and waits for its whole answer, so that nobody writes while a target is added; on a stream that ended it is
