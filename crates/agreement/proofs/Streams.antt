@@ -122,7 +122,7 @@ either_same : {a b c d : Bool} → a ≡ b → c ≡ d → (a || c) ≡ (b || d)
 either_same {a} {b} {c} {d} p q = ap (λ (x : Bool). x || c) p ∙ ap (λ (x : Bool). b || x) q
 
 module _ (opening : Calls → Request) (older : List Event) (id : Id) where
-  open_same : (h : Calls) → open_count id (events opening older h) ≡ stream.open_count id h
+  pub open_same : (h : Calls) → open_count id (events opening older h) ≡ stream.open_count id h
   open_same [] = refl
   open_same (asked i keys document ∷ h) = rw (flip i id, open_same h) (open_asked (int_eq id i) (stream.open_count id h))
   open_same (unasked i ∷ h) = open_same h

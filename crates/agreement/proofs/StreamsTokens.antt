@@ -21,12 +21,12 @@ carried : Id → List Event → Token
 carried id [] = []
 carried id (f ∷ past) = if point_time f == 0 then token id (f ∷ past) else []
 
-token_alone : (own : Token) (b : Bool) → own ≡ stream.or_else own (cond b [] [])
+pub token_alone : (own : Token) (b : Bool) → own ≡ stream.or_else own (cond b [] [])
 token_alone [] true = refl
 token_alone [] false = refl
 token_alone (byte ∷ bytes) b = refl
 
-nested : (a b : Bool) (t : Token) → cond (a && b) t [] ≡ cond a (cond b t []) []
+pub nested : (a b : Bool) (t : Token) → cond (a && b) t [] ≡ cond a (cond b t []) []
 nested true b t = refl
 nested false b t = refl
 
@@ -35,19 +35,19 @@ unfolding carried
 token_step id e [] = token_alone (own_token id e) (is_none (start id e []))
 token_step id e (f ∷ past) = ap (stream.or_else (own_token id e)) (nested (is_none (start id e (f ∷ past))) (point_time f == 0) (token id (f ∷ past)))
 
-own_same : (m : ListenResponse) (id : Id) → own_token id (Heard (message_of m)) ≡ calls.token_for m id
+pub own_same : (m : ListenResponse) (id : Id) → own_token id (Heard (message_of m)) ≡ calls.token_for m id
 own_same (sent.Target change) id = refl
 own_same (sent.Change change) id = refl
 own_same (sent.Delete delete) id = refl
 own_same (sent.Remove remove) id = refl
 own_same (sent.Filter filter) id = refl
 
-last_since : (id : Id) (b : Bool) (m : ListenResponse) (ms : List ListenResponse)
+pub last_since : (id : Id) (b : Bool) (m : ListenResponse) (ms : List ListenResponse)
     → stream.last_token id (if b then m ∷ [] else m ∷ ms) ≡ stream.or_else (calls.token_for m id) (if b then [] else stream.last_token id ms)
 last_since id true m ms = refl
 last_since id false m ms = refl
 
-came_token : (k : ChangeKind) (c : Bool) (before here : Token) → (c ≡ true → before ≡ here) → (c || is_add k) ≡ true
+pub came_token : (k : ChangeKind) (c : Bool) (before here : Token) → (c ≡ true → before ≡ here) → (c || is_add k) ≡ true
     → cond (is_none (started_by k c)) before [] ≡ (if not c || is_reset k then [] else here)
 came_token NoChange true before here same counted = same refl
 came_token NoChange false before here same counted = absurd (false≢true counted)

@@ -1,0 +1,90 @@
+-- the ids of listens of documents in limbo are odd
+use Rattle.std.proofs.Common.{◌≡◌, ℕ, ◌+◌, ◌%◌, ℤ, pos, negsuc, Bool, true, false, not, ◌&&◌, ◌==◌, List, [], ◌∷◌, ◌++◌, length, Some, if◌then◌else◌, refl, ap, subst, arith}
+use Rattle.std.specs.Prelude.{is_some}
+use Rattle.std.specs.List.{filter}
+use Rattle.std.specs.Ordering.{int_eq}
+use Rattle.std.proofs.lemmas.Bool.{false≢true, eqb-true}
+use Rattle.agreement.proofs.Counting.{same_id-true}
+use Rattle.limbo_resolver.specs.Limbo.{Key, Limbo, filled, has_place, is_odd, kept, key_in, queue}
+use Rattle.listen_protocol.specs.Calls.{Calls, is_remove, lists}
+use Rattle.listen_protocol.specs.Transcript.{is_live}
+use Rattle.value_model.specs.declared.message.ListenResponse.{ListenResponse}
+use Rattle.value_model.specs.declared.message.ListenResponse.TheVariants as message
+use Rattle.sync_engine.specs.LimboListens.{going_on, heard_limbo, is_running, limbo_of}
+use Rattle.sync_engine.specs.Past.{Past}
+use Rattle.sync_engine.specs.Watching.{WatchStep, calls_of, closes, hears, opens, passes, rings, step_of}
+use Rattle.client_agreement.specs.Durable.{is_listener}
+
+abbrev pub AllOdd : List (ℤ × Key) → Type 0
+AllOdd [] = Unit {0}
+AllOdd (p ∷ ps) = (is_odd p.0 ≡ true) × AllOdd ps
+
+-- the running ids are odd, and the next one is
+pub record AreOdd (limbo : Limbo) : Type 0 where
+  pub next : limbo.next % 2 ≡ 1
+  pub running : AllOdd limbo.running
+
+odd_filter : (p : ℤ × Key → Bool) (ps : List (ℤ × Key)) → AllOdd ps → AllOdd (filter p ps)
+odd_filter p [] all = tt
+odd_filter p (x ∷ ps) all = by (p x) (odd_filter p ps all.1)
+  where
+    by : (b : Bool) → AllOdd (filter p ps) → AllOdd (if b then x ∷ filter p ps else filter p ps)
+    by true rest = (all.0, rest)
+    by false rest = rest
+
+odd_append : (ps qs : List (ℤ × Key)) → AllOdd ps → AllOdd qs → AllOdd (ps ++ qs)
+odd_append [] qs first second = second
+odd_append (p ∷ ps) qs first second = (first.0, odd_append ps qs first.1 second)
+
+odd_at : (n : ℕ) → n % 2 ≡ 1 → is_odd (pos n) ≡ true
+odd_at n is = ap (λ k. k == 1) is
+
+odd_filled : (running : List (ℤ × Key)) (waiting : List Key) (next : ℕ) → next % 2 ≡ 1 → AllOdd running → AreOdd (filled running waiting next)
+odd_filled running [] next odd all = record { next = odd; running = all }
+odd_filled running (key ∷ waiting) next odd all =
+    by (odd_filled (running ++ (pos next, key) ∷ []) waiting (next + 2) (omega (arith, odd)) (odd_append running ((pos next, key) ∷ []) all (odd_at next odd, tt))) (has_place (length running) next)
+  where
+    by : AreOdd (filled (running ++ (pos next, key) ∷ []) waiting (next + 2)) → (b : Bool) → AreOdd (if b then filled (running ++ (pos next, key) ∷ []) waiting (next + 2) else record { running = running; waiting = key ∷ waiting; next = next })
+    by more true = more
+    by more false = record { next = odd; running = all }
+
+odd_heard : (h : Calls) (m : ListenResponse) (limbo : Limbo) → AreOdd limbo → AreOdd (heard_limbo h m limbo)
+odd_heard h (message.Target change) limbo odd = by (is_remove change.kind)
+  where
+    by : (b : Bool) → AreOdd (if b then record limbo { running = filter (λ p. not (lists change.target_ids p.0 && is_live p.0 h)) limbo.running } else limbo)
+    by true = record { next = odd.next; running = odd_filter (λ p. not (lists change.target_ids p.0 && is_live p.0 h)) limbo.running odd.running }
+    by false = odd
+odd_heard h (message.Change change) limbo odd = odd
+odd_heard h (message.Delete delete) limbo odd = odd
+odd_heard h (message.Remove remove) limbo odd = odd
+odd_heard h (message.Filter filter) limbo odd = odd
+
+odd_going : (h : Calls) (step : WatchStep) (limbo : Limbo) → AreOdd limbo → AreOdd (going_on h step limbo)
+odd_going h opens limbo odd = odd
+odd_going h closes limbo odd = odd
+odd_going h (hears m) limbo odd = odd_heard h m limbo odd
+odd_going h rings limbo odd = odd
+odd_going h passes limbo odd = odd
+
+pub limbo_odd : (past : Past) → AreOdd (limbo_of past)
+limbo_odd [] = record { next = refl; running = tt }
+limbo_odd (e ∷ past) =
+    let odd = odd_going (calls_of past) (step_of e) (limbo_of past) (limbo_odd past) in
+    let limbo = going_on (calls_of past) (step_of e) (limbo_of past) in
+    odd_filled (kept e.turn.limbo limbo.running) (queue e.turn.limbo limbo) limbo.next odd.next (odd_filter _ limbo.running odd.running)
+
+odd_in : (ps : List (ℤ × Key)) (t : ℤ) → AllOdd ps → is_some (key_in ps t) ≡ true → is_odd t ≡ true
+odd_in [] t all here = absurd (false≢true here)
+odd_in (p ∷ ps) t all here = by (odd_in ps t all.1) (int_eq p.0 t) refl here
+  where
+    by : (is_some (key_in ps t) ≡ true → is_odd t ≡ true) → (b : Bool) → int_eq p.0 t ≡ b → is_some (if b then Some p.1 else key_in ps t) ≡ true → is_odd t ≡ true
+    by rest true is here = subst (λ (x : ℤ). is_odd x ≡ true) (same_id-true p.0 t is) all.0
+    by rest false is here = rest here
+
+pub running_odd : (t : ℤ) (past : Past) → is_running t (limbo_of past) ≡ true → is_odd t ≡ true
+running_odd t past here = odd_in (limbo_of past).running t (limbo_odd past).running here
+
+-- an odd id is no listener's
+pub odd_unlistened : (t : ℤ) → is_odd t ≡ true → is_listener t ≡ false
+odd_unlistened (pos n) odd = let one : n % 2 ≡ 1 = eqb-true (n % 2) 1 odd in ap (λ k. k == 0) one
+odd_unlistened (negsuc n) odd = refl

@@ -1,0 +1,31 @@
+//! Laws of clients and backends. Nothing is done when they run.
+
+ghost use Rattle.client_agreement.specs.FirstSync.{SyncedRun};
+ghost use Rattle.client_agreement.specs.Laws.{CommitsStaySound, EventsAreTurns, SnapshotsAgree, StartIsSound, StatesStaySound};
+
+/// Each event that a client hears is a short list of turns that the theorem of agreement allows.
+pub fn events_are_turns()
+    ensures { EventsAreTurns }
+{}
+
+/// With an honest backend each snapshot that isn't from the cache agrees with the backend's documents at the read time of its line.
+pub fn snapshots_agree()
+    ensures { SnapshotsAgree }
+{}
+
+/// And what is kept on the disk at any moment is sound for the next run: behind each event, and behind the commit of an event from
+/// which nothing has gone out yet.
+pub fn states_stay_sound()
+    ensures behind { StatesStaySound }
+    ensures between { CommitsStaySound }
+{}
+
+/// An empty store is sound for each backend.
+pub fn start_is_sound()
+    ensures { StartIsSound }
+{}
+
+/// The premises of these laws can be met: a first sync is honest, and raises a snapshot of a document that isn't from the cache.
+pub fn first_sync_is_honest()
+    ensures { SyncedRun }
+{}
