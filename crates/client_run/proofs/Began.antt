@@ -49,7 +49,7 @@ settled_crashes view only_now how call left {old} {new} out finds leaves settled
     inl (synced_from how call [] (only_now settled.host) out settled.out settled.stays (settled_finds view finds settled) (settled_spans view call out finds settled) (λ c left. leaves c (same_finds finds (settled.crash c left))))
 
 nothing_ran : {call : Call} → IsRun call []
-nothing_ran = record { turns = tt; read = tt }
+nothing_ran = record { turns = tt; read = tt; spelled = tt }
 
 -- the disk failed before the first line
 pub disk_first : {H : Type 0} (view : H → View) → ((h : H) → OnlyNow (view h)) → (root : Root) (left : List ℕ) (s : State) (budget : ℕ) (tells_out : Bool) (old new : View) → 1 ≤ budget → new.out ≡ old.out → FindsState old.bytes s → Stays old new ⊎ Settled view old new

@@ -1,3 +1,4 @@
+pub mod Agreeing
 pub mod Began
 pub mod Handling
 pub mod Histories

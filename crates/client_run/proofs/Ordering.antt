@@ -51,7 +51,7 @@ line_comes : (root : Root) (first s : State) (past : Past) (reading : Reading) (
 line_comes root first s past (Refused refusal) t it is = subst (λ (x : LineTurn). Comes root first (after s x.commit) past) (sym is) it
 line_comes root first s past (an_event e) t it is = subst (λ (x : LineTurn). Comes root first (after s x.commit) (and_heard s (an_event e) x past)) (sym is.is) (event_comes root first s past e is.turn it is.is_turn)
 
-history_comes : (root : Root) (first : State) (history : History) → AreTurns root first history → Comes root first (now first history) (heard history)
+pub history_comes : (root : Root) (first : State) (history : History) → AreTurns root first history → Comes root first (now first history) (heard history)
 history_comes root first [] turns = record { heard = tt; now = refl }
 history_comes root first (line ∷ history) turns =
     line_comes root first line.state (heard history) line.reading line.turn

@@ -65,7 +65,7 @@ pub served_none : (call : Call) (client : Kept) (v : View) → client.root ≡ c
 served_none call client v root same whole is stands = record {
   history = [];
   count = refl;
-  run = record { turns = tt; read = tt };
+  run = record { turns = tt; read = tt; spelled = tt };
   within = omega arith;
   left_over = refl;
   root = root;
@@ -168,7 +168,7 @@ OnlyNow v = (o : List ℕ) (c : Files) → v.left_since v.moment o c → (o ≡ 
 
 -- at a moment with nothing handled
 pub survives_first : (call : Call) (o : List ℕ) (c : Files) → o ≡ call.out → FindsState c call.first → Survives call o c
-survives_first call o c same finds = survives_at call o c [] (record { turns = tt; read = tt }) (fine_none call.root call.first) (same ∙ sym (append-nil call.out)) (inl finds)
+survives_first call o c same finds = survives_at call o c [] (record { turns = tt; read = tt; spelled = tt }) (fine_none call.root call.first) (same ∙ sym (append-nil call.out)) (inl finds)
 
 -- from the moment on at which a crash found the state, with the output as it stood at the start
 pub synced_from : (how : Status) (call : Call) (history : History) {old mid new : View} → OnlyNow mid → call.out ≡ old.out → mid.out ≡ old.out → Stays old mid → ((c : Files) → mid.may_leave c → FindsState c call.first)
@@ -233,7 +233,7 @@ module _ {call : Call} {done : ℕ} {rest more : List Item} {client : Kept} {old
 
   -- what one item more makes of the run
   run_more : (t : LineTurn) → IsNext call.root call.first history (line_of call history reading t) → IsRun call (line_of call history reading t ∷ history)
-  run_more t next = record { turns = (it.run.turns, next); read = nexts.read }
+  run_more t next = record { turns = (it.run.turns, next); read = nexts.read; spelled = (handles.spelled, it.run.spelled) }
 
   fine_next : (t : LineTurn) → IsNext call.root call.first history (line_of call history reading t) → IsFine call.root call.first (line_of call history reading t ∷ history)
   fine_next t next =
@@ -246,6 +246,7 @@ module _ {call : Call} {done : ℕ} {rest more : List Item} {client : Kept} {old
   found_next c found = record {
     reading = reading;
     read = nexts.read;
+    spelled = handles.spelled;
     commit = found.commit;
     commits = subst (λ (s : State). CommitsNext s (heard history) reading found.commit) it.fine.state found.commits;
     finds = subst (λ (s : State). FindsState c (after s found.commit)) it.fine.state found.finds;

@@ -40,7 +40,7 @@ after_counts : (s : State) (c : Option Commit) → (after s c).number ≡ s.numb
 after_counts s None = omega arith
 after_counts s (Some c) = refl
 
-after_made : (s : State) (c : Option Commit) → after s c ≡ after_all s (made c)
+pub after_made : (s : State) (c : Option Commit) → after s c ≡ after_all s (made c)
 after_made s None = refl
 after_made s (Some c) = refl
 

@@ -6,6 +6,7 @@ use Rattle.local_store.specs.Files.{FindsState}
 use Rattle.local_store.specs.State.{State}
 use Rattle.line_printer.specs.Reported.{ReportedWithin}
 use Rattle.line_reader.specs.Reading.{AreRead}
+use Rattle.line_reader.specs.Spelled.{IsSpelledReading}
 use Rattle.line_reader.specs.declared.reading.Reading.{Reading}
 use Rattle.sync_engine.specs.Turns.{after}
 use Rattle.client_run.specs.History.{History, after_all, commits_of, heard, readings_of}
@@ -36,6 +37,7 @@ FindsHandled call history files = FindsState files (state_after call history)
 pub record FindsNext (call : Call) (history : History) (files : Files) : Type 0 where
   pub reading : Reading
   pub read : AreRead call.root call.items (readings_of history ++ reading ∷ [])
+  pub spelled : IsSpelledReading reading
   pub commit : Option Commit
   pub commits : CommitsNext (state_after call history) (heard history) reading commit
   pub finds : FindsState files (after (state_after call history) commit)

@@ -1,3 +1,4 @@
+pub mod Agreement
 pub mod Causes
 pub mod Crash
 pub mod History

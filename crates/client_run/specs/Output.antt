@@ -5,6 +5,7 @@ use Rattle.host_api.specs.Host.{IsPart}
 use Rattle.host_api.specs.Items.{Item, split, IsSuffix}
 use Rattle.document_keys.specs.Names.{Root}
 use Rattle.line_reader.specs.Reading.{AreRead}
+use Rattle.line_reader.specs.Spelled.{IsSpelledReading}
 use Rattle.local_store.specs.State.{State}
 use Rattle.client_run.specs.History.{Handled, History, AreTurns, IsNext, output_of, readings_of}
 use Rattle.client_run.specs.Printed.{printed}
@@ -32,10 +33,16 @@ called root bytes first budget tells_out out = record {
   out = out;
 }
 
+-- what each of these lines commits has a spelling
+abbrev pub AreSpelledLines : History → Type 0
+AreSpelledLines [] = Unit {0}
+AreSpelledLines (line ∷ history) = IsSpelledReading line.reading × AreSpelledLines history
+
 -- these are the handled lines: the first items of the source, one after another
 pub record IsRun (call : Call) (history : History) : Type 0 where
   pub turns : AreTurns call.root call.first history
   pub read : AreRead call.root call.items (readings_of history)
+  pub spelled : AreSpelledLines history
 
 -- ---- which items were taken, where these bytes are left
 

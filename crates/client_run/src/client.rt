@@ -2,6 +2,7 @@ ghost use Rattle.std.specs.Prelude.{◌≡◌, ◌≢◌, ◌⊎◌, map, IsTrue
 ghost use Rattle.std.specs.String.{string_bytes};
 ghost use Rattle.document_keys.specs.Names.{Root};
 ghost use Rattle.host_api.specs.Items.{split};
+ghost use Rattle.client_run.specs.Agreement.{AgreesWithAll};
 ghost use Rattle.client_run.specs.Words.{AsksNothing, AsksRun};
 ghost use Rattle.client_run.specs.Crash.{Keeps};
 ghost use Rattle.local_store.specs.Files.{FindsState};
@@ -48,6 +49,12 @@ pub fn run_client<S: Source, H: Host>(
         → (s : State) → FindsState (H.view host.old).bytes s
         → Kept result (called root (S.left source.old) s 4294967296 H.tells_out (H.view host.old).out)
         (H.view host.new).bytes }
+    ensures agreement { IsTrue S.tells → IsTrue H.tells_files → (root : Root)
+        → AsksRun (map string_bytes words.now) root
+        → (s : State) → FindsState (H.view host.old).bytes s
+        → AgreesWithAll
+        (called root (S.left source.old) s 4294967296 H.tells_out (H.view host.old).out)
+        (H.view host.old) (H.view host.new) }
     ensures not_a_store { result ≡ Status.NotAStore
         → IsForeign H.tells_files (H.view host.old) (H.view host.new) }
     ensures no_store { IsTrue H.tells_files → (root : Root) → AsksRun (map string_bytes words.now) root

@@ -1,5 +1,6 @@
 //! Laws of runs. These functions do nothing: their contracts are the laws.
 
+ghost use Rattle.client_run.specs.Agreement.{RunsChain};
 ghost use Rattle.client_run.specs.Laws.{AHistoryIsOne, ATurnReportsWithin, RunsWriteInOrder};
 
 /// Lines have one history: the readings and the state before them determine every turn.
@@ -15,4 +16,9 @@ pub fn a_turn_reports_within()
 /// In every run the pending batches go out in order on the stream of writes, none skipped, and leave in order.
 pub fn runs_write_in_order()
     ensures { RunsWriteInOrder }
+{}
+
+/// What is sound behind a run is sound at the start of the next one, and so is what blank files find.
+pub fn runs_chain()
+    ensures { RunsChain }
 {}

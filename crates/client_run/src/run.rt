@@ -1,5 +1,6 @@
 ghost use Rattle.std.specs.Prelude.{◌≡◌, ◌≢◌, ◌≤◌, [], IsTrue};
 ghost use Rattle.host_api.specs.Items.{split};
+ghost use Rattle.client_run.specs.Agreement.{AgreesWithAll};
 ghost use Rattle.client_run.specs.Causes.{Causes, Completes, IsForeign, LeavesForeign, IsServed};
 ghost use Rattle.client_run.specs.Crash.{Keeps};
 ghost use Rattle.client_run.specs.Output.{called};
@@ -87,6 +88,10 @@ pub fn run_within<S: Source, H: Host>(
         → FindsState (H.view host.old).bytes s
         → Kept result (called root (S.left source.old) s budget H.tells_out (H.view host.old).out)
         (H.view host.new).bytes }
+    ensures agreement { IsTrue S.tells → IsTrue H.tells_files → (s : State)
+        → FindsState (H.view host.old).bytes s
+        → AgreesWithAll (called root (S.left source.old) s budget H.tells_out (H.view host.old).out)
+        (H.view host.old) (H.view host.new) }
     ensures not_a_store { result ≡ Status.NotAStore
         → IsForeign H.tells_files (H.view host.old) (H.view host.new) }
     ensures no_store { IsTrue H.tells_files → IsNoStore (H.view host.old).bytes

@@ -4,6 +4,7 @@ use Rattle.client_run.specs.Output.{called}
 use Rattle.client_run.specs.Run.{Ran, Kept}
 use Rattle.client_run.proofs.Began.{disk_first, memory_first, ran_from, opened_stands, opens_keeps, kept_is_store, causes_from, completed}
 use Rattle.local_store.proofs.Opened.{refused_is_none, no_store_stays}
+use Rattle.client_run.proofs.Agreeing.{agrees}
 use Rattle.client_run.proofs.run.run_within.Goals as goal
 
 pub returns-in-Err-DiskFault-clause-run : goal.returns-in-Err-DiskFault-clause-run
@@ -34,6 +35,18 @@ returns-clause-run g c = λ tells told s finds.
     let ran = c.serve.ensures.run tells told s (opened_stands c.in-Ok.ensures.stands (c.in-Ok.ensures.found told) finds) in
     ran_from g.H.Host.view (λ h o x left. g.met.H.Host.only_now h o x told left) _ _ _ refl c.in-Ok.ensures.out.out finds (c.in-Ok.ensures.settled told)
     (subst (λ (o : List ℕ). Ran (called c.args.root (g.S.Source.left c.args.source.now) s c.args.budget g.H.Host.tells_out o) c.serve.result (g.S.Source.left c.serve.new.source) (g.H.Host.view c.open.new.host) (g.H.Host.view c.serve.new.host)) c.in-Ok.ensures.out.out (subst (λ (r : Root). Ran (called r (g.S.Source.left c.args.source.now) s c.args.budget g.H.Host.tells_out (g.H.Host.view c.open.new.host).out) c.serve.result (g.S.Source.left c.serve.new.source) (g.H.Host.view c.open.new.host) (g.H.Host.view c.serve.new.host)) c.in-Ok.ensures.root ran))
+
+pub returns-in-Err-DiskFault-clause-agreement : goal.returns-in-Err-DiskFault-clause-agreement
+returns-in-Err-DiskFault-clause-agreement g c = λ tells told s finds. agrees _ _ _ _ _ finds (returns-in-Err-DiskFault-clause-run g c tells told s finds)
+
+pub returns-in-Err-NoMemory-clause-agreement : goal.returns-in-Err-NoMemory-clause-agreement
+returns-in-Err-NoMemory-clause-agreement g c = λ tells told s finds. agrees _ _ _ _ _ finds (returns-in-Err-NoMemory-clause-run g c tells told s finds)
+
+pub returns-in-Err-NotAStore-clause-agreement : goal.returns-in-Err-NotAStore-clause-agreement
+returns-in-Err-NotAStore-clause-agreement g c = λ tells told s finds. agrees _ _ _ _ _ finds (returns-in-Err-NotAStore-clause-run g c tells told s finds)
+
+pub returns-clause-agreement : goal.returns-clause-agreement
+returns-clause-agreement g c = λ tells told s finds. agrees _ _ _ _ _ finds (returns-clause-run g c tells told s finds)
 
 pub returns-clause-kept : goal.returns-clause-kept
 returns-clause-kept g c = λ tells told s finds.
