@@ -10,12 +10,11 @@ use Rattle.std.proofs.lemmas.Option.{same_Some}
 use Rattle.acknowledgements.specs.Acked.{IsGreatest, IsVersion, acked, answered, greatest, is_below, is_earlier, key_of_write, latest, left_after, left_by, versions}
 use Rattle.acknowledgements.proofs.Acks.{greatest_laws}
 use Rattle.acknowledgements.proofs.Times.{contains_cases, contains_here, contains_none, contains_there, earlier_so, not_earlier}
-use Rattle.agreement.specs.Backend.{Key, Keys, Setting, tick, tick_of}
+use Rattle.agreement.specs.Backend.{Key, Keys, Setting, tick}
 use Rattle.agreement.specs.Client.{cleared}
 use Rattle.agreement.specs.Entries as agreed
 use Rattle.agreement.specs.MessageTurns.{has}
 use Rattle.agreement.specs.Sound.{IsSound}
-use Rattle.agreement.proofs.Ticks.{ticks_ordered}
 use Rattle.document_keys.specs.KeySet.{is_key}
 use Rattle.document_keys.specs.Order.{PathBefore}
 use Rattle.document_keys.proofs.Exact.{key_is, key_same}
@@ -23,13 +22,12 @@ use Rattle.document_keys.proofs.Lawful.{ordered}
 use Rattle.durable_state.specs.Cached.{Changed, acknowledged_keys, answered_by, cached, dropped, first_writes, seen_at, with_all, with_changed}
 use Rattle.durable_state.specs.Documents.{sealed_entry_of}
 use Rattle.durable_state.specs.Rising.{Replaces}
-use Rattle.durable_state.specs.State.{IsNotBelow, State, committed}
+use Rattle.durable_state.specs.State.{State, committed}
 use Rattle.durable_state.proofs.Changed.{get_changed}
 use Rattle.listen_protocol.specs.Buffer.{buffered}
 use Rattle.listen_protocol.specs.Calls.{Calls}
 use Rattle.mutations.specs.Acknowledged.{acknowledged, document_in}
 use Rattle.mutations.specs.Local.{holds}
-use Rattle.mutations.specs.declared.batch.Batch.{Batch}
 use Rattle.mutations.specs.declared.results.WriteResult.{WriteResult}
 use Rattle.mutations.specs.declared.write.Write.{Write}
 use Rattle.mutations.specs.declared.write.Write.TheVariants.{Update, Delete}
@@ -37,13 +35,10 @@ use Rattle.mutation_queue.specs.Queue.{keys_of, written_key}
 use Rattle.outcome_codec.specs.Spelling.{IsSpelledResult}
 use Rattle.outcome_codec.specs.declared.parts.KeyedEntry.{KeyedEntry}
 use Rattle.outcome_codec.specs.declared.parts.PointRow.{PointRow}
-use Rattle.queries.specs.declared.target.Target.{Target}
-use Rattle.record_codec.specs.declared.commit.Commit.TheVariants.{Enqueue, Acknowledge, Reject, Allocate, Point, Reset, Drop}
+use Rattle.record_codec.specs.declared.commit.Commit.TheVariants.{Acknowledge, Point, Drop}
 use Rattle.record_parts.specs.Spelling.{AreSpelled}
 use Rattle.remote_documents.specs.Table.{EntryMap}
 use Rattle.remote_documents.proofs.Maps.{turned}
-use Rattle.sync_engine.specs.Hearing.{IsOld}
-use Rattle.value_model.specs.Order.{Earlier}
 use Rattle.value_model.specs.Time.{IsMoment}
 use Rattle.value_model.specs.Versions.{version_of}
 use Rattle.value_model.specs.declared.document.Entry.{Entry}
@@ -51,7 +46,6 @@ use Rattle.value_model.specs.declared.document.Entry.TheVariants.{Missing}
 use Rattle.value_model.specs.declared.document.Seal.{Seal}
 use Rattle.value_model.specs.declared.document.Seal.TheVariants.{Seen, Committed}
 use Rattle.value_model.specs.declared.timestamp.Timestamp.{Timestamp}
-use Rattle.value_model.proofs.Instants.{times_ordered}
 use Rattle.watch_points.specs.PointCommit.{IsPointCommit, LacksDocument, Misses, Puts, entry_among, known_now}
 use Rattle.watch_points.proofs.Listed.{KeysAscend, has_among}
 use Rattle.watch_points.proofs.Lists.{first_below, rest_ascends}
@@ -80,20 +74,6 @@ mapped_none f false found = refl
 
 pub drop_entry : (s : State) (keys : List Key) (ids : List ℕ) (key : Key) → entry_at (committed s (Drop keys ids)) key ≡ cleared (has keys) (entry_at s) key
 drop_entry s keys ids key = ap (option_map entry_of) (dropped_entry keys s.entries key) ∙ mapped_none entry_of (has keys key) (finite.get s.entries key)
-
--- ---- commits that leave all entries
-
-pub enqueue_entry : (s : State) (batch : Batch) (key : Key) → entry_at (committed s (Enqueue batch)) key ≡ entry_at s key
-enqueue_entry s batch key = refl
-
-pub reject_entry : (s : State) (id : ℕ) (key : Key) → entry_at (committed s (Reject id)) key ≡ entry_at s key
-reject_entry s id key = refl
-
-pub allocate_entry : (s : State) (id : ℕ) (target : Target) (key : Key) → entry_at (committed s (Allocate id target)) key ≡ entry_at s key
-allocate_entry s id target key = refl
-
-pub reset_entry : (s : State) (ids : List ℕ) (key : Key) → entry_at (committed s (Reset ids)) key ≡ entry_at s key
-reset_entry s ids key = refl
 
 -- ---- what replaces what
 

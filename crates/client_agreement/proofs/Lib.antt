@@ -32,3 +32,4 @@ pub mod FirstSyncHeard
 pub mod FirstSyncPoint
 pub mod FirstSyncHonest
 pub mod FirstSync
+pub mod LimboSound

@@ -56,7 +56,7 @@ use Rattle.sync_engine.specs.Hearing.{AreListenersOf, Blanks, HeardTurn, IsHeard
 use Rattle.sync_engine.specs.Hearing as hearing
 use Rattle.sync_engine.specs.LimboListens.{limbo_of}
 use Rattle.sync_engine.specs.Lines.{Line, Told, add, document, error, listening, rejected, remove, result, send, snapshot, unlistened, wrote}
-use Rattle.sync_engine.specs.Order.{AreHeard, IsHeardNext, now}
+use Rattle.sync_engine.specs.Order.{AreHeard, now}
 use Rattle.sync_engine.specs.Past.{Entry, Past, Turn, asked, is_refused_in, listener, raised_in, steps_by, steps_of, told, unless_refused}
 use Rattle.sync_engine.specs.Settling.{Settles, stance_of}
 use Rattle.sync_engine.specs.Standing.{HasTargetRow}
@@ -760,14 +760,3 @@ ends_listeners s past e t answers heard response is ids status gives =
     let it = ended_change (calls_of past) response ids status gives in
     ends_turn s past it.0 t heard ids status (subst (λ (r : ListenResponse). Gives (calls_of past) r (effect.Ended ids status)) it.1 gives) (is_watched past)
     (subst (λ (x : Event). Answers s past x t) (is ∙ ap event.Watch it.1) answers)
-
--- Where the backend ended targets, none of them is wanted then.
-pub ended_next : (root : Root) (first : State) (past : Past) (e : Entry) → IsHeardNext root first past e → (response : ListenResponse) → e.event ≡ event.Watch response → (ids : List ℤ) (status : RpcStatus) → Gives (calls_of past) response (effect.Ended ids status)
-    → (t : ℤ) → Contains ids t → is_wanted t (e ∷ past) ≡ false
-ended_next root first past e next response is ids status gives t there = ended_unwanted root past e a it.others it.status it.listeners it.are it.lines t (it.among t there)
-  where
-    a : IsAnswered root e.state past e.event e.turn
-    a = answered_turn root e.state past e.event e.turn next.turn
-
-    it : EndsListeners past ids a.answer
-    it = ends_listeners e.state past e.event a.answer a.answers (sym (ap is_heard (answer_refusal a)) ∙ next.heard) response is ids status gives

@@ -68,9 +68,6 @@ pub record OnlyAsks (c d : Client) (all : List Event) : Type 0 where
   pub target : (id : Id) → is_listener id ≡ true → d.target id ≡ c.target id
   pub past : d.past ≡ all
 
-with_past : Client → List Event → Client
-with_past c past = record c { past = past }
-
 -- an id that no listener has, and that nothing uses
 pub record IsFree (c : Client) (id : Id) : Type 0 where
   pub own : is_listener id ≡ false

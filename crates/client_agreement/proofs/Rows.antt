@@ -193,24 +193,6 @@ allocated_from (r ∷ rows) first target id = by (int_eq id (pos first)) refl (a
 pub allocated_row : (rows : List Row) (target : Target) (id : Id) → row_of (rows ++ blank target ∷ []) id ≡ cond (int_eq id (pos (id_at (length rows)))) (Some (blank target)) (row_of rows id)
 allocated_row rows target id = allocated_from rows 2 target id
 
--- so what the rows hold stays
-pub allocated_tuple : (rows : List Row) (target : Target) (id : Id) → tuple_at (rows ++ blank target ∷ []) id ≡ tuple_at rows id
-allocated_tuple rows target id = ap (option_and_then tuple_in) (allocated_row rows target id) ∙ by (int_eq id (pos (id_at (length rows)))) refl
-  where
-    by : (b : Bool) → int_eq id (pos (id_at (length rows))) ≡ b → option_and_then tuple_in (cond b (Some (blank target)) (row_of rows id)) ≡ tuple_at rows id
-    by true same = none (row_of rows id) refl
-      where
-        none : (found : Option Row) → row_of rows id ≡ found → None ≡ option_and_then tuple_in (row_of rows id)
-        none None is = sym (ap (option_and_then tuple_in) is)
-        none (Some row) is = absurd (past row is (found_row 2 rows id row is))
-          where
-            past : (row : Row) → row_of rows id ≡ Some row → (place : ℕ) × (slice_get rows place ≡ Some row) × (id ≡ pos (2 * place + 2)) → ⊥
-            past row is found =
-                let within = slice_get_within rows found.0 row found.1 in
-                let e = same_pos (2 * found.0 + 2) (id_at (length rows)) (sym found.2 ∙ (Decides-int_eq id (pos (id_at (length rows)))).0 same) in
-                omega (arith, within, e)
-    by false other = refl
-
 -- ---- rows keep their targets
 
 -- the target of the id, if it has a row

@@ -30,7 +30,7 @@ use Rattle.client_agreement.proofs.Synced.{raised_listens, raised_synced, snapsh
 use Rattle.client_agreement.proofs.Turns.{event_goes, goes_then}
 use Rattle.client_agreement.specs.Durable.{client_of, entry_at, is_listener, query_at, row_of, setting_of, tuple_in}
 use Rattle.client_agreement.specs.Honest.{AreAcknowledgedTruly}
-use Rattle.client_agreement.specs.Laws.{Goes, IsHonestRun, SnapshotsAgree, StatesStaySound}
+use Rattle.client_agreement.specs.Laws.{Goes, IsHonestRun, SnapshotsAgree, SoundnessIsKept, StatesStaySound}
 use Rattle.client_agreement.specs.Standing.{AreSpelled, IsWellMade, StandsAs}
 use Rattle.client_agreement.specs.Transcript.{transcript}
 
@@ -185,3 +185,14 @@ states_stay_sound writes known root first version later past it = sound_moves (n
     sound = subst (λ x. Sound (next_run s x) (started c)) heard_all
         (sound_between s (stand writes known root first version) version (client_of first) one.turns two.turns (allowed_append s two.turns one.turns (client_of first) two.allowed one.allowed)
         (subst (Follows s version) (sym heard_all) it.honest.follows) (subst (AreUnique s) (sym heard_all) it.honest.unique) (starts_both writes known root first version it.sound))
+
+-- ---- event by event
+
+pub soundness_kept : SoundnessIsKept
+soundness_kept writes known root first version e past it was =
+    let s = setting_of writes root known in
+    let goes = event_goes s root first e past was.client refl it.well_made it.spelled it.heard it.honest.acknowledged.0 was.stands in
+    let both = run_kept s (stand writes known root first version) version was.client goes.turns goes.allowed
+    (subst (Follows s version) (sym goes.stands.past) it.honest.follows) (subst (AreUnique s) (sym goes.stands.past) it.honest.unique)
+    (record { sound = was.sound; live = was.live }) in
+    record { client = run s goes.turns was.client; stands = goes.stands; sound = both.sound; live = both.live }

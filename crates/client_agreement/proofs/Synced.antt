@@ -72,19 +72,6 @@ plain_other (add t row) is = tt
 plain_other (remove t) is = tt
 plain_other (send r) is = tt
 
-request_other : (line : Line) → IsRequest line → IsOther line
-request_other (wrote b c) is = tt
-request_other (listening i t c) is = tt
-request_other (unlistened i c) is = tt
-request_other (document k d w) is = tt
-request_other (result b c t) is = tt
-request_other (rejected b c t) is = tt
-request_other (error i t) is = tt
-request_other (snapshot c r t) is = is
-request_other (add t row) is = tt
-request_other (remove t) is = tt
-request_other (send r) is = tt
-
 errors_other : (status : RpcStatus) (listeners : List ℕ) → Every IsOther (each (λ l. error l status) listeners)
 errors_other status [] = tt
 errors_other status (l ∷ listeners) = (tt, errors_other status listeners)
@@ -353,6 +340,7 @@ pub snapshot_agrees : (s : Setting) (version : List transcript.Event → ℕ) (s
     → IsSyncedRaised s state c query read_time raised → SnapshotAgrees s state query raised
 snapshot_agrees s version state past c query read_time raised documents_stand sound live stands it = record {
   answer = it.answer;
+  is_answer = subst (λ (q : Target). IsAnswer q s.root (documents_of state) it.answer) it.same it.synced.answer;
   rows = it.rows;
   agrees = agrees_moves s (is_named state) c (client_of state) (documents_of state) query it.answer (λ i key. stands.entry key i) stands.read
       (subst (λ (q : Target). Agrees s (is_named state) c (documents_of state) q it.answer) it.same

@@ -9,14 +9,17 @@ use Rattle.agreement.specs.Client as agreed
 use Rattle.agreement.specs.History.{Write}
 use Rattle.agreement.specs.NextRun.{next_run}
 use Rattle.agreement.specs.Backend.{Tuple}
-use Rattle.agreement.specs.Sound.{Sound}
+use Rattle.agreement.specs.Sound.{Live, Sound}
 use Rattle.agreement.specs.Transcript.{Event}
 use Rattle.client_events.specs.Spelled.{IsSpelledEvent}
 use Rattle.client_events.specs.declared.event.Event as event
 use Rattle.document_keys.specs.Names.{Root}
 use Rattle.durable_state.specs.Documents.{is_named}
+use Rattle.host_api.specs.Host.{Files}
+use Rattle.local_store.specs.Files.{FindsState}
 use Rattle.local_store.specs.Documents.{documents_of}
 use Rattle.local_store.specs.State.{State, start}
+use Rattle.queries.specs.Answer.{IsAnswer}
 use Rattle.queries.specs.declared.target.Target.{Target}
 use Rattle.sync_engine.specs.Answers.{Answers}
 use Rattle.sync_engine.specs.Lines.{Told, snapshot}
@@ -45,6 +48,10 @@ EventsAreTurns = (s : Setting) (root : Root) (first : State) (e : Entry) (past :
     → AcknowledgesTruly s e.state e.turn.commit
     → StandsAs c (now first past) past → Goes s c (now first (e ∷ past)) (e ∷ past)
 
+-- The state that files find is well made.
+abbrev pub FoundStatesAreWellMade : Type 0
+FoundStatesAreWellMade = (files : Files) (s : State) → FindsState files s → IsWellMade s
+
 -- what is given of a run: its first state is sound, and what is heard is honest
 pub record IsHonestRun (s : Setting) (root : Root) (first : State) (version : List Event → ℕ) (past : Past)
     : Type 0 where
@@ -54,10 +61,26 @@ pub record IsHonestRun (s : Setting) (root : Root) (first : State) (version : Li
   pub heard : AreHeard root first past
   pub honest : IsHonest s version past
 
+-- a client that stands for this is sound, and what it keeps beside the disk is right
+pub record Keeps (s : Setting) (version : List Event → ℕ) (state : State) (past : Past) : Type 0 where
+  pub client : Client
+  pub stands : StandsAs client state past
+  pub sound : Sound s client
+  pub live : Live s version client
+
+-- Each event that is heard keeps both.
+abbrev pub SoundnessIsKept : Type 0
+SoundnessIsKept = (writes : List Write) (known : List Tuple) (root : Root) (first : State)
+    (version : List Event → ℕ) (e : Entry) (past : Past)
+    → IsHonestRun (setting_of writes root known) root first version (e ∷ past)
+    → Keeps (setting_of writes root known) version (now first past) past
+    → Keeps (setting_of writes root known) version (now first (e ∷ past)) (e ∷ past)
+
 -- A snapshot agrees with the backend's documents at the last read time, but for what unfinished writes touch: it
--- has the rows of an answer of its query over the local documents, and this agrees.
+-- has the rows of the answer of its query over the local documents, and this agrees.
 pub record SnapshotAgrees (s : Setting) (state : State) (query : Target) (raised : Raised) : Type 0 where
   pub answer : List Key
+  pub is_answer : IsAnswer query s.root (documents_of state) answer
   pub rows : Prints (documents_of state) answer raised.rows
   pub agrees : Agrees s (is_named state) (client_of state) (documents_of state) query answer
 

@@ -4,3 +4,4 @@ pub mod Honest
 pub mod Standing
 pub mod Laws
 pub mod FirstSync
+pub mod LimboListens

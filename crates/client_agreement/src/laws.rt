@@ -1,11 +1,17 @@
 //! Laws of clients and backends. Nothing is done when they run.
 
 ghost use Rattle.client_agreement.specs.FirstSync.{SyncedRun};
-ghost use Rattle.client_agreement.specs.Laws.{CommitsStaySound, EventsAreTurns, SnapshotsAgree, StartIsSound, StatesStaySound};
+ghost use Rattle.client_agreement.specs.LimboListens.{LimboListensStaySound};
+ghost use Rattle.client_agreement.specs.Laws.{CommitsStaySound, EventsAreTurns, FoundStatesAreWellMade, SnapshotsAgree, SoundnessIsKept, StartIsSound, StatesStaySound};
 
 /// Each event that a client hears is a short list of turns that the theorem of agreement allows.
 pub fn events_are_turns()
     ensures { EventsAreTurns }
+{}
+
+/// With an honest backend each event keeps what stands on the disk sound, and what is kept beside it right.
+pub fn soundness_is_kept()
+    ensures { SoundnessIsKept }
 {}
 
 /// With an honest backend each snapshot that isn't from the cache agrees with the backend's documents at the read time of its line.
@@ -18,6 +24,16 @@ pub fn snapshots_agree()
 pub fn states_stay_sound()
     ensures behind { StatesStaySound }
     ensures between { CommitsStaySound }
+{}
+
+/// The state that files find is well made, as the laws ask of the first one.
+pub fn found_states_are_well_made()
+    ensures { FoundStatesAreWellMade }
+{}
+
+/// Whatever is heard, the listens of documents in limbo stay sound: at most 100 run, and none of their ids is given twice.
+pub fn limbo_listens_stay_sound()
+    ensures { LimboListensStaySound }
 {}
 
 /// An empty store is sound for each backend.
