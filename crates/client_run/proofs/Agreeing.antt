@@ -1,5 +1,5 @@
 -- clause Agreement of a run
-use Rattle.std.proofs.Common.{◌≡◌, ◌⊎◌, ⊎_elim, inl, inr, ℕ, Bool, true, false, List, [], ◌∷◌, ◌++◌, Option, if◌then◌else◌, refl, sym, ap, subst, ◌∙◌, arith}
+use Rattle.std.proofs.Common.{◌≡◌, ◌⊎◌, ⊎_elim, inl, inr, ℕ, ◌+◌, Bool, true, false, List, [], ◌∷◌, ◌++◌, length, Option, if◌then◌else◌, refl, sym, ap, subst, ◌∙◌, arith}
 use Rattle.std.specs.List.{Contains}
 use Rattle.std.proofs.lemmas.List.Sums.{fold-append}
 use Rattle.client_agreement.proofs.Ascending.{well_made_found}
@@ -33,7 +33,7 @@ use Rattle.value_model.specs.declared.timestamp.Timestamp.{Timestamp}
 use Rattle.client_run.proofs.Handling.{refusal_back}
 use Rattle.client_run.proofs.Ordering.{history_comes}
 use Rattle.client_run.proofs.Surviving.{after_made}
-use Rattle.client_run.specs.Agreement.{AgreesWithAll, Backend, FindsSound, IsHonestPast, IsSoundBehind, IsSoundState, LineAgrees, RunsChain, StartsSound, at_first, backend_behind, behind, between, setting}
+use Rattle.client_run.specs.Agreement.{AgreesWithAll, Backend, FindsSound, IsHonestPast, IsSoundBehind, IsSoundState, LineAgrees, RunsChain, StartsSound, at_first, behind, between, setting}
 use Rattle.client_run.specs.Crash.{Crashes, FindsAtEnd, FindsHandled, FindsNext, Survives, state_after}
 use Rattle.client_run.specs.History.{AreTurns, Handled, History, after_all, commits_of, heard, made, now, readings_of}
 use Rattle.client_run.specs.Output.{AreSpelledLines, Call, IsRun}
@@ -141,8 +141,8 @@ module _ (backend : Backend) (call : Call) where
     either_sound : (history : History) (c : Files) → IsRun call history → FindsHandled call history c ⊎ FindsNext call history c → FindsSound backend call c
     either_sound history c run = ⊎_elim (handled_sound history c run) (next_sound history c run)
 
-    survives_sound : (o : List ℕ) (c : Files) → Survives call o c → FindsSound backend call c
-    survives_sound o c it = either_sound it.history c it.run it.finds
+    survives_sound : (most : ℕ) (o : List ℕ) (c : Files) → Survives most call o c → FindsSound backend call c
+    survives_sound most o c it = ⊎_elim (λ here. handled_sound it.history c it.run here.1) (λ next. next_sound it.history c it.run next.1) it.finds
 
     end_sound : (how : Status) (history : History) (c : Files) → IsRun call history → FindsAtEnd how call history c → FindsSound backend call c
     end_sound ended.Done history c run found = handled_sound history c run found
@@ -159,7 +159,7 @@ module _ (backend : Backend) (call : Call) where
       first_sound c left = at_first (starts.leaves c left)
 
       moments_by : (how : Status) (history : History) (left : List ℕ) → Crashes how call history left old new → Spans old new (λ o c. FindsSound backend call c)
-      moments_by how history left (inl synced) = spans_weaker (λ o c. FindsSound backend call c) synced.before (λ o c. ⊎_elim (λ early. first_sound c early.1) (λ later. survives_sound o c (synced.later o c later)))
+      moments_by how history left (inl synced) = spans_weaker (λ o c. FindsSound backend call c) synced.before (λ o c. ⊎_elim (λ early. first_sound c early.1) (λ later. survives_sound (length history + 1) o c (synced.later o c later)))
       moments_by how history left (inr unsynced) = spans_weaker (λ o c. FindsSound backend call c) unsynced.before.time (λ o c early. first_sound c early.1)
 
       end_by : (how : Status) (history : History) (left : List ℕ) → IsRun call history → Crashes how call history left old new → (c : Files) → new.may_leave c → FindsSound backend call c
@@ -170,6 +170,8 @@ module _ (backend : Backend) (call : Call) where
 pub agrees : (call : Call) (status : Status) (left : List ℕ) (old new : View) → FindsState old.bytes call.first → Ran call status left old new → AgreesWithAll call old new
 agrees call status left old new finds ran backend starts = record {
   snapshots = snapshots backend call old.bytes finds starts.reads;
+  handled = sound_behind backend call old.bytes finds starts.reads;
+  next = λ history e answer run spelled answers. sound_between backend call old.bytes finds starts.reads history e answer run spelled answers;
   moments = λ tells. moments_by backend call old.bytes finds starts.reads old new starts status ran.history left (ran.crash tells);
   at_end = λ tells. end_by backend call old.bytes finds starts.reads old new starts status ran.history left ran.run (ran.crash tells);
 }
@@ -186,5 +188,9 @@ pub runs_chain : RunsChain
 runs_chain = record {
   next = λ backend root x files s found sound. record { state = s; finds = found; sound = sound };
   one = λ backend root files s it found. subst (IsSoundState backend root) (find_once files it.state s it.finds found) it.sound;
+  more = λ backend root x more s known sound. record {
+    entries = sound.entries;
+    rows = λ id row h. let r = sound.rows id row h in (r.0, known row r.1, r.2, r.3);
+  };
   blank = λ backend root files are. record { state = start; finds = blank_finds are; sound = start_sound (setting backend root) };
 }

@@ -1,5 +1,5 @@
 -- A run whose store was opened, or wasn't.
-use Rattle.std.proofs.Common.{◌≡◌, ◌⊎◌, inl, inr, ⊎_elim, ℕ, ◌≤◌, ◌<◌, Bool, List, [], length, append-nil, refl, sym, ap, subst, ◌∙◌, arith}
+use Rattle.std.proofs.Common.{◌≡◌, ◌⊎◌, inl, inr, ⊎_elim, ℕ, ◌+◌, ◌≤◌, ◌<◌, Bool, List, [], length, append-nil, refl, sym, ap, subst, ◌∙◌, arith}
 use Rattle.host_api.specs.Host.{Files, View, Stays, Spans}
 use Rattle.host_api.proofs.Spans.{spans_then, spans_weaker}
 use Rattle.disk_journal.specs.Steps.{GiveSame, IsOrGivesSame, Opens, Settled}
@@ -41,12 +41,12 @@ same_finds {old} {c} {s} finds same = ⊎_elim
 settled_finds : {H : Type 0} (view : H → View) {s : State} {old new : View} → FindsState old.bytes s → (settled : Settled view old new) → (c : Files) → (view settled.host).may_leave c → FindsState c s
 settled_finds view finds settled c left = same_finds finds (inl (λ file. settled.on_disk file c left ∙ ap (λ (f : Files). f file) settled.stays.bytes))
 
-settled_spans : {H : Type 0} (view : H → View) (call : Call) {old new : View} → call.out ≡ old.out → FindsState old.bytes call.first → (settled : Settled view old new) → Spans (view settled.host) new (Survives call)
-settled_spans view call out finds settled = spans_weaker (Survives call) settled.time (λ o c h. survives_first call o c (h.0 ∙ sym out) (same_finds finds h.1))
+settled_spans : {H : Type 0} (view : H → View) (most : ℕ) (call : Call) {old new : View} → 0 < most → call.out ≡ old.out → FindsState old.bytes call.first → (settled : Settled view old new) → Spans (view settled.host) new (Survives most call)
+settled_spans view most call some out finds settled = spans_weaker (Survives most call) settled.time (λ o c h. survives_first most call o c some (h.0 ∙ sym out) (same_finds finds h.1))
 
 settled_crashes : {H : Type 0} (view : H → View) → ((h : H) → OnlyNow (view h)) → (how : Status) (call : Call) (left : List ℕ) {old new : View} → call.out ≡ old.out → FindsState old.bytes call.first → ((c : Files) → FindsState c call.first → FindsAtEnd how call [] c) → Settled view old new → Crashes how call [] left old new
 settled_crashes view only_now how call left {old} {new} out finds leaves settled =
-    inl (synced_from how call [] (only_now settled.host) out settled.out settled.stays (settled_finds view finds settled) (settled_spans view call out finds settled) (λ c left. leaves c (same_finds finds (settled.crash c left))))
+    inl (synced_from how call [] (only_now settled.host) out settled.out settled.stays (settled_finds view finds settled) (settled_spans view 1 call (omega arith) out finds settled) (λ c left. leaves c (same_finds finds (settled.crash c left))))
 
 nothing_ran : {call : Call} → IsRun call []
 nothing_ran = record { turns = tt; read = tt; spelled = tt }
@@ -90,15 +90,15 @@ none_leaves how call history c stopped none finds =
 
 crashes_from : {H : Type 0} (view : H → View) → ((h : H) → OnlyNow (view h)) → (how : Status) (call : Call) (history : History) (left : List ℕ) {old mid new : View} → call.out ≡ old.out → mid.out ≡ old.out → FindsState old.bytes call.first → Settled view old mid → Crashes how call history left mid new → Crashes how call history left old new
 crashes_from view only_now how call history left {old} {mid} {new} out same finds settled crashes =
-    inl (synced_from how call history (only_now settled.host) out settled.out settled.stays (settled_finds view finds settled) (spans_then (Survives call) (settled_spans view call out finds settled) after_it (λ o c h. h) (λ o c h. h)) (at_end crashes))
+    inl (synced_from how call history (only_now settled.host) out settled.out settled.stays (settled_finds view finds settled) (spans_then (Survives (length history + 1) call) (settled_spans view (length history + 1) call (omega arith) out finds settled) after_it (λ o c h. h) (λ o c h. h)) (at_end crashes))
   where
-    still : (o : List ℕ) (c : Files) → (o ≡ mid.out) × mid.may_leave c → Survives call o c
-    still o c h = survives_first call o c (h.0 ∙ same ∙ sym out) (same_finds finds (settled.crash c h.1))
+    still : (o : List ℕ) (c : Files) → (o ≡ mid.out) × mid.may_leave c → Survives (length history + 1) call o c
+    still o c h = survives_first (length history + 1) call o c (omega arith) (h.0 ∙ same ∙ sym out) (same_finds finds (settled.crash c h.1))
 
-    after_it : Spans mid new (Survives call)
+    after_it : Spans mid new (Survives (length history + 1) call)
     after_it = ⊎_elim
-        (λ synced. spans_weaker (Survives call) synced.before (λ o c h. ⊎_elim (λ early. still o c early) (λ late. synced.later o c late) h))
-        (λ unsynced. spans_weaker (Survives call) unsynced.before.time still)
+        (λ synced. spans_weaker (Survives (length history + 1) call) synced.before (λ o c h. ⊎_elim (λ early. still o c early) (λ late. synced.later o c late) h))
+        (λ unsynced. spans_weaker (Survives (length history + 1) call) unsynced.before.time still)
         crashes
 
     at_end : Crashes how call history left mid new → (c : Files) → new.may_leave c → FindsAtEnd how call history c

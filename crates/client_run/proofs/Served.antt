@@ -8,7 +8,7 @@ use Rattle.host_api.specs.Items.{Item, Next, item_of, split}
 use Rattle.host_api.specs.declared.source.Line.{Line}
 use Rattle.host_api.specs.declared.source.Line.TheVariants.{Text, TooLong, End}
 use Rattle.host_api.specs.Host.{Files, View, IsPart, Stays, Spans}
-use Rattle.host_api.proofs.Spans.{spans_none, spans_then, spans_since}
+use Rattle.host_api.proofs.Spans.{spans_none, spans_then, spans_since, spans_weaker}
 use Rattle.document_keys.specs.Names.{Root}
 use Rattle.line_reader.specs.Reading.{Reads, AreRead}
 use Rattle.line_reader.specs.Spelled.{IsSpelledReading}
@@ -34,7 +34,7 @@ use Rattle.client_run.specs.declared.status.Status.{Status}
 use Rattle.client_run.specs.declared.status.Status.TheVariants.{DiskFault, SinkFault, NoMemory}
 use Rattle.sync_engine.proofs.Committed.{stored_finds}
 use Rattle.client_run.proofs.Honest.{turn_within, more_small}
-use Rattle.client_run.proofs.Surviving.{IsFine, fine_none, fine_more, survives_at, survives_part}
+use Rattle.client_run.proofs.Surviving.{IsFine, fine_none, fine_more, survives_at, survives_more, survives_part}
 
 readings_length : (history : History) → length (readings_of history) ≡ length history
 readings_length [] = refl
@@ -58,7 +58,7 @@ pub record Serving (call : Call) (done : ℕ) (rest : List Item) (client : Kept)
   pub wrote : IsTrue call.tells_out → v.out ≡ out_after call history
   pub fine : IsFine call.root call.first history
   pub starts : Starts call.first old
-  pub time : IsTrue call.tells_out → Spans old v (Survives call)
+  pub time : IsTrue call.tells_out → Spans old v (Survives done call)
 
 -- nothing was handled yet
 pub served_none : (call : Call) (client : Kept) (v : View) → client.root ≡ call.root → call.out ≡ v.out → ¬ (IsStoreSpent client.store) → IsStored client.store v → StandsFor client call.first [] → Serving call 0 call.items client v v
@@ -73,7 +73,7 @@ served_none call client v root same whole is stands = record {
   wrote = λ told. sym same ∙ sym (append-nil call.out);
   fine = fine_none call.root call.first;
   starts = stored_starts whole is stands;
-  time = λ out. spans_none v (Survives call);
+  time = λ out. spans_none v (Survives 0 call);
 }
 
 -- the next item is read as this
@@ -167,19 +167,19 @@ abbrev pub OnlyNow : View → Type 0
 OnlyNow v = (o : List ℕ) (c : Files) → v.left_since v.moment o c → (o ≡ v.out) × v.may_leave c
 
 -- at a moment with nothing handled
-pub survives_first : (call : Call) (o : List ℕ) (c : Files) → o ≡ call.out → FindsState c call.first → Survives call o c
-survives_first call o c same finds = survives_at call o c [] (record { turns = tt; read = tt; spelled = tt }) (fine_none call.root call.first) (same ∙ sym (append-nil call.out)) (inl finds)
+pub survives_first : (most : ℕ) (call : Call) (o : List ℕ) (c : Files) → 0 < most → o ≡ call.out → FindsState c call.first → Survives most call o c
+survives_first most call o c some same finds = survives_at most call o c [] some (record { turns = tt; read = tt; spelled = tt }) (fine_none call.root call.first) (same ∙ sym (append-nil call.out)) (inl finds)
 
 -- from the moment on at which a crash found the state, with the output as it stood at the start
 pub synced_from : (how : Status) (call : Call) (history : History) {old mid new : View} → OnlyNow mid → call.out ≡ old.out → mid.out ≡ old.out → Stays old mid → ((c : Files) → mid.may_leave c → FindsState c call.first)
-    → Spans mid new (Survives call) → ((c : Files) → new.may_leave c → FindsAtEnd how call history c) → Synced how call history old new
+    → Spans mid new (Survives (length history + 1) call) → ((c : Files) → new.may_leave c → FindsAtEnd how call history c) → Synced how call history old new
 synced_from how call history {old} {mid} {new} only_now out same stays finds spans at_end = record {
   time = mid.moment;
   from = stays.time.later;
   to = spans.later;
   before = spans_then (λ o c. IsAsBefore old o c ⊎ new.left_since mid.moment o c) stays.time (spans_since mid.moment (omega arith) spans) (λ o c h. inl h) (λ o c h. inr h);
   later = λ o c left. ⊎_elim
-      (λ was. let now_left = only_now o c was in survives_first call o c (now_left.0 ∙ same ∙ sym out) (finds c now_left.1))
+      (λ was. let now_left = only_now o c was in survives_first (length history + 1) call o c (omega arith) (now_left.0 ∙ same ∙ sym out) (finds c now_left.1))
       (λ h. h.0)
       (spans.only mid.moment mid.moment o c (omega arith) (omega arith) left);
   at_end = at_end;
@@ -188,12 +188,13 @@ synced_from how call history {old} {mid} {new} only_now out same stays finds spa
 -- a run that stops between two items
 pub stops : {call : Call} {done : ℕ} {rest : List Item} {client : Kept} {old new : View} (how : Status) (left : List ℕ) (it : Serving call done rest client old new) → OnlyNow old → call.out ≡ old.out → ¬ (IsStoreSpent client.store) → IsStored client.store new
     → EndsAs how call it.history left new.out → ((c : Files) → FindsHandled call it.history c → FindsAtEnd how call it.history c) → Ran call how left old new
-stops {call} {old = old} how left it only_now same whole is ends leaves = record {
+stops {call} {done = done} {old = old} how left it only_now same whole is ends leaves = record {
   history = it.history;
   run = it.run;
   within = omega (arith, it.within, it.count);
   ends = ends;
-  crash = λ out. inl (synced_from how call it.history only_now same refl (stays_none old) it.starts.finds (it.time out)
+  crash = λ out. inl (synced_from how call it.history only_now same refl (stays_none old) it.starts.finds
+      (spans_weaker (Survives (length it.history + 1) call) (it.time out) (λ o c. survives_more done (length it.history + 1) call o c (omega (arith, it.count))))
       (λ c left. leaves c (finds_handled it c (subst (FindsState c) it.stands.state (stored_finds whole is c left)))));
 }
 
@@ -253,13 +254,13 @@ module _ {call : Call} {done : ℕ} {rest more : List Item} {client : Kept} {old
   }
 
   -- a crash at any moment until the item was handled, or met a fault
-  turn_spans : IsTrue call.tells_out → Spans old new (Survives call)
+  turn_spans : IsTrue call.tells_out → Spans old new (Survives (done + 1) call)
   turn_spans out =
-      spans_then (Survives call) (it.time out) turned.time (λ o c h. h) (λ o c h. ⊎_elim
-      (λ early. survives_at call o c history it.run it.fine (early.0 ∙ it.wrote out) (⊎_elim inl (λ found. inr (found_next c found)) early.1))
+      spans_then (Survives (done + 1) call) (it.time out) turned.time (λ o c. survives_more done (done + 1) call o c (omega arith)) (λ o c h. ⊎_elim
+      (λ early. survives_at (done + 1) call o c history (omega (arith, it.count)) it.run it.fine (early.0 ∙ it.wrote out) (⊎_elim inl (λ found. inr (found_next c found)) early.1))
       (λ late.
       let next : IsNext call.root call.first history (line_of call history reading late.turn) = record { state = refl; turn = late.is_turn } in
-      survives_part call o c (line_of call history reading late.turn ∷ history) (output_of call.root history) (printed call.root (length history + 1) late.turn)
+      survives_part (done + 1) call o c (line_of call history reading late.turn ∷ history) (output_of call.root history) (printed call.root (length history + 1) late.turn) (omega (arith, it.count))
       (run_more late.turn next) (fine_next late.turn next) refl
       (subst (λ (n : ℕ). IsPart (printed call.root n late.turn) (call.out ++ output_of call.root history) o) long (subst (λ (l : List ℕ). IsPart (printed call.root (done + 1) late.turn) l o) (it.wrote out) late.part))
       late.finds)
@@ -290,7 +291,8 @@ module _ {call : Call} {done : ℕ} {rest more : List Item} {client : Kept} {old
       → ((c : Files) → FindsHandled call history c ⊎ FindsNext call history c → FindsAtEnd how call history c)
       → IsTrue call.tells_out → Crashes how call history left old new
   crashes_within how left only_now same leaves out =
-      inl (synced_from how call history only_now same refl (stays_none old) it.starts.finds (turn_spans out)
+      inl (synced_from how call history only_now same refl (stays_none old) it.starts.finds
+      (spans_weaker (Survives (length history + 1) call) (turn_spans out) (λ o c. survives_more (done + 1) (length history + 1) call o c (omega (arith, it.count))))
       (λ c now_left. leaves c (⊎_elim
       (λ early. inl (finds_handled it c early))
       (λ late. inr (found_next c late))
@@ -341,6 +343,7 @@ stops_within {call} {done = done} {new = new} fault.SinkFault left reading it on
           line = line_of call it.history reading stopped_part.turn;
           next = record { state = refl; turn = stopped_part.is_turn };
           read = nexts.read;
+          spelled = handles.spelled;
           some = subst (λ (n : ℕ). printed call.root n stopped_part.turn ≢ []) long stopped_part.some;
           part = subst (λ (n : ℕ). IsPart (printed call.root n stopped_part.turn) (out_after call it.history) new.out) long
               (subst (λ (o : List ℕ). IsPart (printed call.root (done + 1) stopped_part.turn) o new.out) (it.wrote told) stopped_part.part);

@@ -1,5 +1,5 @@
 -- What a crash finds of a run, as its lines are handled.
-use Rattle.std.proofs.Common.{◌≡◌, ◌⊎◌, inl, inr, ⊎_elim, ℕ, ◌+◌, ◌≤◌, List, [], ◌∷◌, ◌++◌, length, take, drop, Option, Some, None, refl, sym, ap, subst, ◌∙◌, arith, append_assoc, length-append}
+use Rattle.std.proofs.Common.{◌≡◌, ◌⊎◌, inl, inr, ⊎_elim, ℕ, ◌+◌, ◌≤◌, ◌<◌, List, [], ◌∷◌, ◌++◌, length, take, drop, Option, Some, None, refl, sym, ap, subst, ◌∙◌, arith, append_assoc, length-append}
 use Rattle.std.specs.List.{All}
 use Rattle.std.proofs.lemmas.Option.{none-some}
 use Rattle.std.proofs.lemmas.List.{take-append-drop}
@@ -76,11 +76,11 @@ fine_more root s history line at within small fine =
 -- ---- at one moment
 
 -- between two items
-pub survives_at : (call : Call) (out : List ℕ) (files : Files) (history : History) → IsRun call history → IsFine call.root call.first history → out ≡ out_after call history → FindsState files (now call.first history) ⊎ FindsNext call history files → Survives call out files
-survives_at call out files history run fine wrote finds = record {
+pub survives_at : (most : ℕ) (call : Call) (out : List ℕ) (files : Files) (history : History) → length history < most → IsRun call history → IsFine call.root call.first history → out ≡ out_after call history → FindsState files (now call.first history) ⊎ FindsNext call history files → Survives most call out files
+survives_at most call out files history within run fine wrote finds = record {
   history = history;
   run = run;
-  finds = ⊎_elim (λ here. inl (subst (FindsState files) fine.state here)) inr finds;
+  finds = ⊎_elim (λ here. inl (omega (arith, within), subst (FindsState files) fine.state here)) (λ next. inr (within, next)) finds;
   number = sym (ap (λ (t : State). t.number) fine.state) ∙ fine.number;
   since = output_of call.root history;
   output = wrote;
@@ -88,14 +88,26 @@ survives_at call out files history run fine wrote finds = record {
 }
 
 -- within the turn of an item, after its commit: a part of its lines went out
-pub survives_part : (call : Call) (out : List ℕ) (files : Files) (history : History) (text piece : List ℕ) → IsRun call history → IsFine call.root call.first history → output_of call.root history ≡ text ++ piece → IsPart piece (call.out ++ text) out → FindsState files (now call.first history) → Survives call out files
-survives_part call out files history text piece run fine wrote part finds = record {
+pub survives_part : (most : ℕ) (call : Call) (out : List ℕ) (files : Files) (history : History) (text piece : List ℕ) → length history ≤ most → IsRun call history → IsFine call.root call.first history → output_of call.root history ≡ text ++ piece → IsPart piece (call.out ++ text) out → FindsState files (now call.first history) → Survives most call out files
+survives_part most call out files history text piece within run fine wrote part finds = record {
   history = history;
   run = run;
-  finds = inl (subst (FindsState files) fine.state finds);
+  finds = inl (within, subst (FindsState files) fine.state finds);
   number = sym (ap (λ (t : State). t.number) fine.state) ∙ fine.number;
   since = text ++ take part.0 piece;
   output = part.1 ∙ append_assoc call.out text (take part.0 piece);
   reported = subst (λ (n : ℕ). ReportedWithin n (text ++ take part.0 piece)) fine.number
       (reported_part (now call.first history).number text piece part.0 (subst (ReportedWithin (now call.first history).number) wrote fine.within));
+}
+
+-- with more items at the most
+pub survives_more : (most more : ℕ) (call : Call) (out : List ℕ) (files : Files) → most ≤ more → Survives most call out files → Survives more call out files
+survives_more most more call out files less it = record {
+  history = it.history;
+  run = it.run;
+  finds = ⊎_elim (λ here. inl (omega (arith, here.0, less), here.1)) (λ next. inr (omega (arith, next.0, less), next.1)) it.finds;
+  number = it.number;
+  since = it.since;
+  output = it.output;
+  reported = it.reported;
 }

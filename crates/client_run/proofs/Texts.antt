@@ -1,5 +1,5 @@
 -- what is printed of the lines that were handed out
-use Rattle.std.proofs.Common.{◌≡◌, ℕ, ℤ, ◌+◌, ◌<◌, ◌^◌, suc, zero, List, [], ◌∷◌, ◌++◌, length, take, get_or, Option, Some, None, IfSome, option_map, append-nil, refl, sym, ap, subst, ◌∙◌, arith}
+use Rattle.std.proofs.Common.{◌≡◌, ℕ, ℤ, ◌+◌, ◌<◌, ◌^◌, suc, zero, List, [], ◌∷◌, ◌++◌, length, take, get_or, Option, Some, None, IfSome, append-nil, refl, sym, ap, subst, ◌∙◌, arith}
 use Rattle.std.specs.List.{AllZip, slice_get}
 use Rattle.std.proofs.Math.Seq.{take-length}
 use Rattle.std.proofs.lemmas.Grind.{flat_map-append}
@@ -18,17 +18,12 @@ use Rattle.sync_engine.specs.Writing.{first_batch}
 use Rattle.local_store.specs.Documents.{document_of, standing_of}
 use Rattle.local_store.specs.Store.{Store}
 use Rattle.sync_engine.specs.declared.out.Out.TheVariants.{Document}
-use Rattle.line_reader.specs.declared.refusal.Refusal.{Refusal as Unread}
 use Rattle.sync_engine.specs.Lines.{Line}
 use Rattle.sync_engine.specs.Standing.{ComesAs, Kept}
 use Rattle.sync_engine.specs.Telling.{IsSent, IsShown}
 use Rattle.sync_engine.specs.declared.out.Out.{Out}
-use Rattle.sync_engine.specs.declared.out.Outcome.TheVariants.{Done, Refused}
-use Rattle.sync_engine.specs.declared.refusal.Refusal.{Refusal}
-use Rattle.std.proofs.Common.{Vec, Global}
-use Rattle.client_run.specs.Printed.{printed, refusal_text, text_of, tree_of, unheard_tree, unread_tree}
-use Rattle.client_run.specs.Taken.{AreShown, IsHeard}
-use Rattle.client_run.specs.Turn.{LineTurn, unheard, unread_turn}
+use Rattle.client_run.specs.Printed.{text_of, tree_of}
+use Rattle.client_run.specs.Taken.{AreShown}
 
 -- ---- one line after another
 
@@ -55,9 +50,6 @@ splits R (a ∷ xs) x [] all = absurd all
 splits R (a ∷ xs) x (l ∷ lines) all =
     let rest = splits R xs x lines all.1 in
     record { front = l ∷ rest.front; last = rest.last; whole = ap (λ (ls : List _). l ∷ ls) rest.whole; first = (all.0, rest.first); one = rest.one }
-
-line_text : Root → Line → List ℕ
-line_text root line = line_of (tree_of root line)
 
 pub no_text : (client : Kept) (text : List ℕ) (lines : List Line) → text ≡ [] → AreShown client [] lines → text ≡ text_of client.root lines
 no_text client text [] none all = none
@@ -91,17 +83,6 @@ pub row_found : (rows held : List Row) (id asked : ℤ) (row : Row) → rows ≡
 row_found rows held id asked row same back is none = none row (subst (λ (z : ℤ). IsRow rows z row) (sym back) (subst (λ (rs : List Row). IsRow rs id row) (sym same) is))
 
 -- ---- turns
-
-pub done_printed : {client : Kept} {vec : Vec Out Global} {t : LineTurn} (root : Root) (number : ℕ) (text : List ℕ) → (is : IsHeard (Done vec) client t) → text ≡ text_of root is.turn.lines → text ≡ printed root number t
-done_printed root number text is same =
-    same ∙ ap (λ (r : Option Refusal). refusal_text number (option_map unheard r) ++ text_of root is.turn.lines) (sym is.outcome.0) ∙ ap (printed root number) (sym is.is)
-
-pub refused_printed : {client : Kept} {refusal : Refusal} {vec : Vec Out Global} {t : LineTurn} (root : Root) (number : ℕ) (text : List ℕ) → (is : IsHeard (Refused refusal vec) client t) → text ≡ line_of (unheard_tree number refusal) ++ text_of root is.turn.lines → text ≡ printed root number t
-refused_printed root number text is same =
-    same ∙ ap (λ (r : Option Refusal). refusal_text number (option_map unheard r) ++ text_of root is.turn.lines) (sym is.outcome.0) ∙ ap (printed root number) (sym is.is)
-
-pub unread_printed : {refusal : Unread} {t : LineTurn} (root : Root) (number : ℕ) (text : List ℕ) → t ≡ unread_turn refusal → text ≡ line_of (unread_tree number refusal) → text ≡ printed root number t
-unread_printed {refusal} root number text is same = same ∙ sym (append-nil (line_of (unread_tree number refusal))) ∙ ap (printed root number) (sym is)
 
 -- ---- pending batches
 

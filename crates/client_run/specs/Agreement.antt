@@ -3,7 +3,7 @@
 use Rattle.std.specs.Prelude.{◌≡◌, ℕ, IsTrue, List, [], ◌∷◌, ◌++◌, false, Option}
 use Rattle.std.specs.List.{Contains}
 use Rattle.agreement.specs.Backend.{Setting, Tuple}
-use Rattle.agreement.specs.Follows.{tuples}
+use Rattle.agreement.specs.Follows.{Known, tuples}
 use Rattle.agreement.specs.History.{Write}
 use Rattle.agreement.specs.NextRun.{next_run}
 use Rattle.agreement.specs.Sound.{Sound}
@@ -12,6 +12,7 @@ use Rattle.client_agreement.specs.Durable.{client_of, setting_of}
 use Rattle.client_agreement.specs.Honest.{AcknowledgesTruly, IsHonest, IsHonestWith}
 use Rattle.client_agreement.specs.Laws.{ListenerAgrees}
 use Rattle.client_agreement.specs.Transcript.{transcript, transcript_with}
+use Rattle.client_events.specs.Spelled.{IsSpelledEvent}
 use Rattle.client_events.specs.declared.event.Event.{Event}
 use Rattle.disk_journal.specs.File.{AreBlank}
 use Rattle.document_keys.specs.Names.{Root}
@@ -88,11 +89,22 @@ pub data FindsSound (backend : Backend) (call : Call) (files : Files) : Type 0 w
       → IsSoundBehind backend call.root (transcript_with (heard history) e answer) (after (state_after call history) answer.commit))
       → FindsSound backend call files
 
--- Where the run starts sound: the snapshots of each line agree, where what was heard up to it is honest; and at each moment, and
--- at the end, what a crash leaves is sound.
+-- Where the run starts sound: the snapshots of each line agree, where what was heard up to it is honest; the state behind any
+-- first items is sound, and so is that behind the commit of the next one, where what these heard is honest; and at each moment,
+-- and at the end, what a crash leaves is one of these. Which items those are, `Crash.antt` says: the handled ones, and at most
+-- one more.
 pub record Agrees (backend : Backend) (call : Call) (old new : View) : Type 0 where
   pub snapshots : (line : Handled) (history : History) → IsRun call (line ∷ history)
       → IsHonestPast backend call.root (heard (line ∷ history)) → LineAgrees backend call.root line history
+  pub handled : (history : History) → IsRun call history → IsHonestPast backend call.root (heard history)
+      → IsSoundBehind backend call.root (transcript (heard history)) (state_after call history)
+  pub next : (history : History) (e : Event) (answer : Turn) → IsRun call history → IsSpelledEvent e
+      → Answers (state_after call history) (heard history) e answer
+      → IsHonestPast backend call.root (heard history)
+      → AcknowledgesTruly (setting backend call.root) (state_after call history) answer.commit
+      → IsHonestWith (setting backend call.root) backend.version (heard history) e answer
+      → IsSoundBehind backend call.root (transcript_with (heard history) e answer)
+      (after (state_after call history) answer.commit)
   pub moments : IsTrue call.tells_out → Spans old new (λ o files. FindsSound backend call files)
   pub at_end : IsTrue call.tells_out → (files : Files) → new.may_leave files → FindsSound backend call files
 
@@ -104,12 +116,15 @@ AgreesWithAll call old new = (backend : Backend) → StartsSound backend call.ro
 abbrev pub backend_behind : Backend → Root → List agreed.Event → Backend
 backend_behind backend root x = record backend { known = tuples (setting backend root) x }
 
--- What files find that is sound behind a run is so at the start of the next one, whichever state they are said to find; and
--- what blank files find is sound for each backend.
+-- What files find that is sound behind a run is so at the start of the next one, whichever state they are said to find; what is
+-- sound with some tuples is sound with more; and what blank files find is sound for each backend.
 pub record RunsChain : Type 0 where
   pub next : (backend : Backend) (root : Root) (x : List agreed.Event) (files : Files) (s : State)
       → FindsState files s → IsSoundBehind backend root x s
       → FindsSoundState (backend_behind backend root x) root files
   pub one : (backend : Backend) (root : Root) (files : Files) (s : State)
       → FindsSoundState backend root files → FindsState files s → IsSoundState backend root s
+  pub more : (backend : Backend) (root : Root) (x more : List agreed.Event) (s : State)
+      → ((tuple : Tuple) → Known (setting backend root) x tuple → Known (setting backend root) more tuple)
+      → IsSoundBehind backend root x s → IsSoundBehind backend root more s
   pub blank : (backend : Backend) (root : Root) (files : Files) → AreBlank files → FindsSoundState backend root files

@@ -1,5 +1,5 @@
 -- Clause *Crash* of a run over the files of a store: what a crash leaves at each moment.
-use Rattle.std.specs.Prelude.{◌≡◌, ◌⊎◌, ℕ, ◌+◌, ◌≤◌, List, [], ◌∷◌, ◌++◌, length, Option}
+use Rattle.std.specs.Prelude.{◌≡◌, ◌⊎◌, ℕ, ◌+◌, ◌<◌, ◌≤◌, List, [], ◌∷◌, ◌++◌, length, Option}
 use Rattle.host_api.specs.Host.{Files, View, Spans, Stays}
 use Rattle.record_codec.specs.declared.commit.Commit.{Commit}
 use Rattle.local_store.specs.Files.{FindsState}
@@ -42,14 +42,20 @@ pub record FindsNext (call : Call) (history : History) (files : Files) : Type 0 
   pub commits : CommitsNext (state_after call history) (heard history) reading commit
   pub finds : FindsState files (after (state_after call history) commit)
 
+-- one or the other, and no more than so many items were taken for it
+abbrev pub FindsWithin : ℕ → Call → History → Files → Type 0
+FindsWithin most call history files =
+    ((length history ≤ most) × FindsHandled call history files)
+    ⊎ ((length history < most) × FindsNext call history files)
+
 -- What a crash leaves at one moment, with this output standing then: the files find the state after
 -- the commits of the first items, and at most the commit of the next one besides. The number of that
 -- state is at least as many more than at the start as the first items made commits, and no whole line
 -- that was written since the run began reports a number above that.
-pub record Survives (call : Call) (out : List ℕ) (files : Files) : Type 0 where
+pub record Survives (most : ℕ) (call : Call) (out : List ℕ) (files : Files) : Type 0 where
   pub history : History
   pub run : IsRun call history
-  pub finds : FindsHandled call history files ⊎ FindsNext call history files
+  pub finds : FindsWithin most call history files
   pub number : (state_after call history).number ≡ call.first.number + commits_in call history
   pub since : List ℕ
   pub output : out ≡ call.out ++ since
@@ -68,13 +74,14 @@ abbrev pub IsAsBefore : View → List ℕ → Files → Type 0
 IsAsBefore old out files = (out ≡ old.out) × old.may_leave files
 
 -- The two opening syncs were done at this time, from the start to the end. Up to it a crash left a
--- pair that it could leave at the start; at each moment from it on it leaves what `Survives` says.
+-- pair that it could leave at the start; at each moment from it on it leaves what `Survives` says, of
+-- the handled items and at most one more.
 pub record Synced (how : Status) (call : Call) (history : History) (old new : View) : Type 0 where
   pub time : ℕ
   pub from : old.moment ≤ time
   pub to : time ≤ new.moment
   pub before : Spans old new (λ o c. IsAsBefore old o c ⊎ new.left_since time o c)
-  pub later : (o : List ℕ) (c : Files) → new.left_since time o c → Survives call o c
+  pub later : (o : List ℕ) (c : Files) → new.left_since time o c → Survives (length history + 1) call o c
   pub at_end : (c : Files) → new.may_leave c → FindsAtEnd how call history c
 
 -- An opening sync failed, or there was no memory before it: nothing was handled or taken, and a

@@ -88,6 +88,7 @@ pub record HasPart (call : Call) (history : History) (out : List ℕ) : Type 0 w
   pub line : Handled
   pub next : IsNext call.root call.first history line
   pub read : AreRead call.root call.items (readings_of (line ∷ history))
+  pub spelled : IsSpelledReading line.reading
   pub some : next_text call history line ≢ []
   pub part : IsPart (next_text call history line) (out_after call history) out
 

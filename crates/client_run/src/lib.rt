@@ -3,7 +3,7 @@
 //! `run_client` takes the words of a call, and `run_within` is the run itself: it opens the `Client`, and then each line is read
 //! as a `Reading` (an event, or why it is none), the client takes its turn, in which its commit is made, and the lines that answer
 //! it are printed and go out together (`handled.rt`). A `Status` says how a run ends. What one line does, `specs/Turn.antt` says;
-//! what is promised of all of them, `Output`, `Crash` and `Causes`, one file for each clause.
+//! what is promised of all of them, `Output`, `Crash`, `Causes` and `Agreement`, one file for each clause.
 #![tactic(auto)]
 
 mod client;

@@ -41,3 +41,6 @@ pub returns-clause-kept : goal.returns-clause-kept
 returns-clause-kept g c = λ tells told root asks s finds.
     let same = asked_once _ c.in-Some.root root (rw c.in-Some.is at c.in-Ok.ensures) asks in
     subst (λ (r : Root). Kept c.run_within.result (called r (g.S.Source.left c.args.source.now) s 4294967296 g.H.Host.tells_out (g.H.Host.view c.args.host.now).out) (g.H.Host.view c.run_within.new.host).bytes) same (c.run_within.ensures.kept tells told s finds)
+
+pub returns-clause-no_store : goal.returns-clause-no_store
+returns-clause-no_store g c = λ told root asks none. c.run_within.ensures.no_store told none
