@@ -1,4 +1,5 @@
 """What the scripts of this folder share: the program, its lines, and runs of it."""
+import json
 import os
 import subprocess
 import sys
@@ -34,6 +35,16 @@ def write_line(path, number, second=1):
 
 def get_line(path):
     return ('{"get":{"name":"%s%s"}}\n' % (NAME_FRONT, path)).encode()
+
+
+def nested_line(size):
+    """A write line of about so many bytes, and the fields that it sets."""
+    inner = {"arrayValue": {"values": [{"integerValue": "12345"}, {"stringValue": "some text"}]}}
+    item = {"mapValue": {"fields": {"a": inner, "t": {"timestampValue": "2024-05-01T00:00:01Z"}}}}
+    fields = {"v": {"arrayValue": {"values": [item] * (size // len(json.dumps(item, separators=(",", ":"))))}}}
+    update = {"name": NAME_FRONT + "rooms/a", "fields": fields}
+    line = {"write": {"at": "2024-05-01T00:00:01Z", "writes": [{"update": update}]}}
+    return (json.dumps(line, separators=(",", ":")) + "\n").encode(), fields
 
 
 def run_lines(program, folder, lines, seconds=60):
