@@ -33,3 +33,4 @@ pub mod FirstSyncPoint
 pub mod FirstSyncHonest
 pub mod FirstSync
 pub mod LimboSound
+pub mod Tokens

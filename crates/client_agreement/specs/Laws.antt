@@ -6,6 +6,7 @@ use Rattle.agreement.specs.Allowed.{AreAllowed}
 use Rattle.agreement.specs.Backend.{Key, Setting}
 use Rattle.agreement.specs.Client.{Client, run}
 use Rattle.agreement.specs.Client as agreed
+use Rattle.agreement.specs.Follows.{Known}
 use Rattle.agreement.specs.History.{Write}
 use Rattle.agreement.specs.NextRun.{next_run}
 use Rattle.agreement.specs.Backend.{Tuple}
@@ -120,6 +121,13 @@ CommitsStaySound = (writes : List Write) (known : List Tuple) (root : Root) (fir
     → IsHonestWith (setting_of writes root known) version past e answer
     → Sound (next_run (setting_of writes root known) (transcript_with past e answer))
     (client_of (after (now first past) answer.commit))
+
+-- What is known of tokens stays known, whatever is sent and heard then: behind more events, and behind the commit of one more.
+pub record TokensStayKnown : Type 0 where
+  pub behind : (s : Setting) (tuple : Tuple) (later past : Past) → Known s (transcript past) tuple
+      → Known s (transcript (later ++ past)) tuple
+  pub between : (s : Setting) (tuple : Tuple) (past : Past) (e : event.Event) (answer : Turn)
+      → Known s (transcript past) tuple → Known s (transcript_with past e answer) tuple
 
 -- an empty store is sound for each backend
 abbrev pub StartIsSound : Type 0

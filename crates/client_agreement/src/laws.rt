@@ -2,7 +2,7 @@
 
 ghost use Rattle.client_agreement.specs.FirstSync.{SyncedRun};
 ghost use Rattle.client_agreement.specs.LimboListens.{LimboListensStaySound};
-ghost use Rattle.client_agreement.specs.Laws.{CommitsStaySound, EventsAreTurns, FoundStatesAreWellMade, SnapshotsAgree, SoundnessIsKept, StartIsSound, StatesStaySound};
+ghost use Rattle.client_agreement.specs.Laws.{CommitsStaySound, EventsAreTurns, FoundStatesAreWellMade, SnapshotsAgree, SoundnessIsKept, StartIsSound, StatesStaySound, TokensStayKnown};
 
 /// Each event that a client hears is a short list of turns that the theorem of agreement allows.
 pub fn events_are_turns()
@@ -24,6 +24,11 @@ pub fn snapshots_agree()
 pub fn states_stay_sound()
     ensures behind { StatesStaySound }
     ensures between { CommitsStaySound }
+{}
+
+/// What the tokens stand for that a client got stays known, so that what is sound behind a first part of a run is behind all of it.
+pub fn tokens_stay_known()
+    ensures { TokensStayKnown }
 {}
 
 /// The state that files find is well made, as the laws ask of the first one.

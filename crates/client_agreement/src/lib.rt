@@ -11,5 +11,5 @@ mod laws;
 
 pub use laws::{
     events_are_turns, first_sync_is_honest, found_states_are_well_made, limbo_listens_stay_sound,
-    snapshots_agree, soundness_is_kept, start_is_sound, states_stay_sound,
+    snapshots_agree, soundness_is_kept, start_is_sound, states_stay_sound, tokens_stay_known,
 };
