@@ -21,8 +21,8 @@ use Rattle.client_agreement.specs.Laws.{IsHonestRun}
 abbrev pub IsUntouched : State → Key → Type 0
 IsUntouched s key = IsTouched (is_named s) (client_of s) key → ⊥
 
--- An honest run of a client with an empty store, at a backend of which no tokens are known. Its last event raises a snapshot that
--- isn't from the cache, and shows a document that no unfinished write touches.
+-- An honest run of a client with an empty store, at a backend of which no tokens are known. Its last event
+-- raises a snapshot that isn't from the cache, and shows a document that no unfinished write touches.
 pub record SyncedRun : Type 0 where
   -- the backend: its writes, its database, and the time that each filter spoke of
   pub writes : List Write

@@ -122,7 +122,8 @@ CommitsStaySound = (writes : List Write) (known : List Tuple) (root : Root) (fir
     → Sound (next_run (setting_of writes root known) (transcript_with past e answer))
     (client_of (after (now first past) answer.commit))
 
--- What is known of tokens stays known, whatever is sent and heard then: behind more events, and behind the commit of one more.
+-- What is known of tokens stays known, whatever is sent and heard then: behind more events, and behind the
+-- commit of one more.
 pub record TokensStayKnown : Type 0 where
   pub behind : (s : Setting) (tuple : Tuple) (later past : Past) → Known s (transcript past) tuple
       → Known s (transcript (later ++ past)) tuple

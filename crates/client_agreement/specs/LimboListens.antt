@@ -13,9 +13,9 @@ use Rattle.sync_engine.specs.Watching.{calls_of, step_of}
 abbrev pub limbo_at : Entry → Past → Limbo
 limbo_at e past = going_on (calls_of past) (step_of e) (limbo_of past)
 
--- Whatever was heard, at most 100 listens run, under odd ids that ascend, up to 2,147,483,647 and below the next one, and no document
--- is listened to or waits twice; and those that an event starts get ids from the next one before it up to the next one behind it, so
--- that none is given twice.
+-- Whatever was heard, at most 100 listens run, under odd ids that ascend, up to 2,147,483,647 and below the
+-- next one, and no document is listened to or waits twice; and those that an event starts get ids from the
+-- next one before it up to the next one behind it, so that none is given twice.
 pub record LimboListensStaySound : Type 0 where
   pub sound : (root : Root) (first : State) (past : Past) → AreHeard root first past → IsSound (limbo_of past)
   pub fresh : (root : Root) (first : State) (e : Entry) (past : Past) → AreHeard root first (e ∷ past)
