@@ -12,6 +12,7 @@ pub mod Asked
 pub mod Touched
 pub mod Synced
 pub mod Reaching
+pub mod GoingOn
 pub mod Odd
 pub mod GoingOut
 pub mod PlainEvents

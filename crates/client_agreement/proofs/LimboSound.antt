@@ -11,18 +11,17 @@ use Rattle.limbo_listens.proofs.Laws.{first_sound, update_sound}
 use Rattle.limbo_resolver.proofs.Sound.{stay_sound}
 use Rattle.limbo_resolver.specs.Laws.{IsSound, Rises}
 use Rattle.limbo_resolver.specs.Limbo.{Key, Limbo, started}
-use Rattle.listen_protocol.specs.Calls.{Calls, is_remove, lists}
+use Rattle.listen_protocol.specs.Calls.{Calls, lists}
 use Rattle.listen_protocol.specs.Transcript as stream
 use Rattle.local_store.specs.State.{State}
 use Rattle.sync_engine.proofs.Refused.{without_ids, without_sound}
-use Rattle.sync_engine.specs.LimboListens.{going_on, heard_limbo, limbo_of}
+use Rattle.sync_engine.specs.LimboListens.{going_on, limbo_of}
 use Rattle.sync_engine.specs.Order.{AreHeard}
 use Rattle.sync_engine.specs.Past.{Entry, Past, Turn}
 use Rattle.sync_engine.specs.Telling.{without_all}
 use Rattle.sync_engine.specs.Turn.{IsTurn, LimboBehind, is_heard}
-use Rattle.sync_engine.specs.Watching.{WatchStep, calls_of, closes, hears, opens, passes, rings, step_of}
-use Rattle.value_model.specs.declared.message.ListenResponse.{ListenResponse}
-use Rattle.value_model.specs.declared.message.ListenResponse.TheVariants as message
+use Rattle.sync_engine.specs.Watching.{WatchStep, calls_of, step_of}
+use Rattle.client_agreement.proofs.GoingOn.{but_ended, going_keeps}
 use Rattle.client_agreement.specs.LimboListens.{LimboListensStaySound, limbo_at}
 
 lists_filtered : (f : ℤ → Bool) (ids : List ℤ) (t : ℤ) → lists (filter f ids) t ≡ (lists ids t && f t)
@@ -39,29 +38,14 @@ lists_filtered f (x ∷ ids) t = by (f x) refl (int_eq x t) refl (lists_filtered
     by false is true same rest = let off : f t ≡ false = ap f (sym ((Decides-int_eq x t).0 same)) ∙ is in rest ∙ ap (λ d. lists ids t && d) off ∙ none (lists ids t) ∙ sym off
     by false is false other rest = rest
 
-ended_sound : (h : Calls) (ids : List ℤ) (limbo : Limbo) → IsSound limbo → IsSound (record limbo { running = filter (λ p. not (lists ids p.0 && stream.is_live p.0 h)) limbo.running })
+ended_sound : (h : Calls) (ids : List ℤ) (limbo : Limbo) → IsSound limbo → IsSound (but_ended h ids limbo)
 ended_sound h ids limbo sound = subst (λ (ps : List (ℤ × Key)). IsSound (record limbo { running = ps })) same (without_sound (filter (λ t. stream.is_live t h) ids) limbo sound)
   where
     same : without_all (filter (λ t. stream.is_live t h) ids) limbo.running ≡ filter (λ p. not (lists ids p.0 && stream.is_live p.0 h)) limbo.running
     same = without_ids (filter (λ t. stream.is_live t h) ids) limbo sound ∙ (λ i. filter (λ p. not (lists_filtered (λ t. stream.is_live t h) ids p.0 i)) limbo.running)
 
-heard_sound : (h : Calls) (m : ListenResponse) (limbo : Limbo) → IsSound limbo → IsSound (heard_limbo h m limbo)
-heard_sound h (message.Target change) limbo sound = by (is_remove change.kind)
-  where
-    by : (b : Bool) → IsSound (if b then record limbo { running = filter (λ p. not (lists change.target_ids p.0 && stream.is_live p.0 h)) limbo.running } else limbo)
-    by true = ended_sound h change.target_ids limbo sound
-    by false = sound
-heard_sound h (message.Change change) limbo sound = sound
-heard_sound h (message.Delete delete) limbo sound = sound
-heard_sound h (message.Remove removed) limbo sound = sound
-heard_sound h (message.Filter count) limbo sound = sound
-
 going_sound : (h : Calls) (step : WatchStep) (limbo : Limbo) → IsSound limbo → IsSound (going_on h step limbo)
-going_sound h opens limbo sound = sound
-going_sound h closes limbo sound = sound
-going_sound h (hears m) limbo sound = heard_sound h m limbo sound
-going_sound h rings limbo sound = sound
-going_sound h passes limbo sound = sound
+going_sound h step limbo = going_keeps IsSound h limbo (λ ids. ended_sound h ids limbo) step
 
 limbo_ascends : (root : Root) (s : State) (past : Past) (e : Happening) (t : Turn) (heard : Bool) (keys : List Key) → LimboBehind root s past e t heard keys → IsAscending keys
 limbo_ascends root s past e t true keys it = it.ascending
@@ -80,23 +64,8 @@ limbo_sound root first (e ∷ past) heard =
 
 -- ---- the next id stays where nothing starts
 
-heard_next : (h : Calls) (m : ListenResponse) (limbo : Limbo) → (heard_limbo h m limbo).next ≡ limbo.next
-heard_next h (message.Target change) limbo = by (is_remove change.kind)
-  where
-    by : (b : Bool) → (if b then record limbo { running = filter (λ p. not (lists change.target_ids p.0 && stream.is_live p.0 h)) limbo.running } else limbo).next ≡ limbo.next
-    by true = refl
-    by false = refl
-heard_next h (message.Change change) limbo = refl
-heard_next h (message.Delete delete) limbo = refl
-heard_next h (message.Remove removed) limbo = refl
-heard_next h (message.Filter count) limbo = refl
-
 going_next : (h : Calls) (step : WatchStep) (limbo : Limbo) → (going_on h step limbo).next ≡ limbo.next
-going_next h opens limbo = refl
-going_next h closes limbo = refl
-going_next h (hears m) limbo = heard_next h m limbo
-going_next h rings limbo = refl
-going_next h passes limbo = refl
+going_next h step limbo = going_keeps (λ l. l.next ≡ limbo.next) h limbo (λ ids same. same) step refl
 
 fresh_ids : (root : Root) (first : State) (e : Entry) (past : Past) → AreHeard root first (e ∷ past) → Rises (limbo_of past).next (started e.turn.limbo (limbo_at e past)) (limbo_of (e ∷ past)).next
 fresh_ids root first e past heard =

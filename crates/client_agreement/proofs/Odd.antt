@@ -1,18 +1,16 @@
 -- the ids of listens of documents in limbo are odd
-use Rattle.std.proofs.Common.{◌≡◌, ℕ, ◌+◌, ◌%◌, ℤ, pos, negsuc, Bool, true, false, not, ◌&&◌, ◌==◌, List, [], ◌∷◌, ◌++◌, length, Some, if◌then◌else◌, refl, ap, subst, arith}
+use Rattle.std.proofs.Common.{◌≡◌, ℕ, ◌+◌, ◌%◌, ℤ, pos, negsuc, Bool, true, false, ◌==◌, List, [], ◌∷◌, ◌++◌, length, Some, if◌then◌else◌, refl, ap, subst, arith}
 use Rattle.std.specs.Prelude.{is_some}
 use Rattle.std.specs.List.{filter}
 use Rattle.std.specs.Ordering.{int_eq}
 use Rattle.std.proofs.lemmas.Bool.{false≢true, eqb-true}
 use Rattle.agreement.proofs.Counting.{same_id-true}
 use Rattle.limbo_resolver.specs.Limbo.{Key, Limbo, filled, has_place, is_odd, kept, key_in, queue}
-use Rattle.listen_protocol.specs.Calls.{Calls, is_remove, lists}
-use Rattle.listen_protocol.specs.Transcript.{is_live}
-use Rattle.value_model.specs.declared.message.ListenResponse.{ListenResponse}
-use Rattle.value_model.specs.declared.message.ListenResponse.TheVariants as message
-use Rattle.sync_engine.specs.LimboListens.{going_on, heard_limbo, is_running, limbo_of}
+use Rattle.listen_protocol.specs.Calls.{Calls}
+use Rattle.sync_engine.specs.LimboListens.{going_on, is_running, limbo_of}
 use Rattle.sync_engine.specs.Past.{Past}
-use Rattle.sync_engine.specs.Watching.{WatchStep, calls_of, closes, hears, opens, passes, rings, step_of}
+use Rattle.sync_engine.specs.Watching.{WatchStep, calls_of, step_of}
+use Rattle.client_agreement.proofs.GoingOn.{going_keeps}
 use Rattle.client_agreement.specs.Durable.{is_listener}
 
 abbrev pub AllOdd : List (ℤ × Key) → Type 0
@@ -48,23 +46,8 @@ odd_filled running (key ∷ waiting) next odd all =
     by more true = more
     by more false = record { next = odd; running = all }
 
-odd_heard : (h : Calls) (m : ListenResponse) (limbo : Limbo) → AreOdd limbo → AreOdd (heard_limbo h m limbo)
-odd_heard h (message.Target change) limbo odd = by (is_remove change.kind)
-  where
-    by : (b : Bool) → AreOdd (if b then record limbo { running = filter (λ p. not (lists change.target_ids p.0 && is_live p.0 h)) limbo.running } else limbo)
-    by true = record { next = odd.next; running = odd_filter (λ p. not (lists change.target_ids p.0 && is_live p.0 h)) limbo.running odd.running }
-    by false = odd
-odd_heard h (message.Change change) limbo odd = odd
-odd_heard h (message.Delete delete) limbo odd = odd
-odd_heard h (message.Remove remove) limbo odd = odd
-odd_heard h (message.Filter filter) limbo odd = odd
-
 odd_going : (h : Calls) (step : WatchStep) (limbo : Limbo) → AreOdd limbo → AreOdd (going_on h step limbo)
-odd_going h opens limbo odd = odd
-odd_going h closes limbo odd = odd
-odd_going h (hears m) limbo odd = odd_heard h m limbo odd
-odd_going h rings limbo odd = odd
-odd_going h passes limbo odd = odd
+odd_going h step limbo = going_keeps AreOdd h limbo (λ ids odd. record { next = odd.next; running = odd_filter _ limbo.running odd.running }) step
 
 pub limbo_odd : (past : Past) → AreOdd (limbo_of past)
 limbo_odd [] = record { next = refl; running = tt }
