@@ -5,7 +5,7 @@ ghost use Rattle.record_parts.specs.Reading.{Reads};
 use crate::fault::ReadError;
 use crate::fields::{DEPTH, fields_of};
 use crate::names::key_of;
-use crate::numbers::{byte_of, flag_of, u64_of};
+use crate::numbers::{byte_of, flag_of, room_for, u64_of};
 use crate::paths::{mask_of, put_mask};
 use crate::times::time_of;
 use crate::transforms::{put_transforms, transforms_of};
@@ -29,6 +29,9 @@ const UPDATE: u8 = 1;
 
 /// The byte that begins a delete.
 const DELETE: u8 = 2;
+
+/// How many bytes a write spells at least, with the two segments of its key.
+const WRITE: usize = 28;
 
 /// A precondition, and what follows it.
 fn precondition_of(bytes: &[u8]) -> Result<(Precondition, &[u8]), ReadError>
@@ -102,7 +105,7 @@ pub fn writes_of(alloc: Global, bytes: &[u8]) -> Result<(Writes, &[u8]), ReadErr
     ensures { Reads (many write) (AreSpelled IsSpelledWrite) bytes.now (λ x. (x.0, x.1.now)) result }
 {
     let (count, start) = u64_of(bytes)?;
-    let mut writes = Vec::new(alloc);
+    let mut writes = Vec::with_capacity(alloc, room_for(count, start, WRITE))?;
     let mut rest = start;
     for _ in 0..count {
         let (write, next) = write_of(alloc, rest)?;
