@@ -158,7 +158,7 @@ pub fn clean_writes(
     ensures storable { IfOk result (λ writes. All IsStorableWrite writes.items) }
 {
     let items = clean_list(setting, Series::Writes, json);
-    let mut writes = Vec::new(alloc);
+    let mut writes = Vec::with_capacity(alloc, items.len())?;
     for item in items {
         writes.push(clean_write(alloc, setting, item)?)?;
     }
