@@ -1,10 +1,10 @@
-//! Values, names and documents as JSON trees.
+//! Values, names and documents as JSON.
 
 use crate::fixtures::root;
 use document_keys::{Database, DocumentKey};
-use json_model::{
-    JsonFault, Side, print_document, print_fields, read_fields, read_name, read_whole,
-};
+use json::Writer;
+use json_model::{JsonFault, Side, print_fields, read_fields, read_name, read_whole};
+use json_text::put_document;
 use serde_json::Value as Json;
 use std::alloc::Global;
 use std::process::Abort;
@@ -85,9 +85,10 @@ fn check_document(
         update_time: Timestamp::read("2024-05-01T00:00:01.500Z"),
         state: DocState::Synced,
     };
-    let json = print_document(rt.alloc(), root, document)?;
-    let text = json.to_string(rt.alloc())?;
-    assert!(rt; text.as_str() == DOCUMENT);
+    let mut out = Writer::new(Vec::new(rt.alloc()));
+    put_document(rt.alloc(), &mut out, root, document)?;
+    let text = out.into_inner();
+    assert!(rt; text.as_slice() == DOCUMENT.as_bytes());
     Ok(())
 }
 

@@ -2,12 +2,9 @@
 use Rattle.std.proofs.Common.{◌≡◌, ℕ, List, [], ◌∷◌, Bool, false, ◌||◌, Option, Some, None, option_map, refl}
 use Rattle.serde_json.specs.Data as json
 use Rattle.serde_json.specs.Written.{has_float, items_have_float, members_have_float}
-use Rattle.document_keys.specs.Names.{Root, name_text}
-use Rattle.value_model.specs.declared.document.DocState.{DocState}
-use Rattle.value_model.specs.declared.timestamp.Timestamp.{Timestamp}
 use Rattle.value_model.specs.Data.{Data, null, boolean, integer, time, pending, text, bytes, reference, array, map, Items, no_items, item, Members, no_members, member, Entries, members_of}
 use Rattle.json_model.specs.Forms.{before, present, unless_empty, printed_each}
-use Rattle.json_model.specs.Printed.{printed_value, printed_items, printed_members, printed_fields, printed_document, document_tree, state_text, values_tree, fields_tree, with_time}
+use Rattle.json_model.specs.Printed.{printed_value, printed_items, printed_members, printed_fields, values_tree, fields_tree}
 
 pub neither : (a b : Bool) → a ≡ false → b ≡ false → (a || b) ≡ false
 neither a b first second = rw (first, second)
@@ -76,14 +73,3 @@ mutual
 
 pub printed_fields_digits : (fields : Entries) → has_float (printed_fields fields) ≡ false
 printed_fields_digits fields = members_digits (members_of fields)
-
-time_digits : (at : Option Timestamp) → members_have_float (with_time at) ≡ false
-time_digits None = refl
-time_digits (Some t) = refl
-
-pub tree_digits : (name : List ℕ) (fields : Entries) (at : Option Timestamp) (state : List ℕ) → has_float (document_tree name fields at state) ≡ false
-tree_digits name [] at state = time_digits at
-tree_digits name (field ∷ fields) at state = neither _ _ (printed_fields_digits (field ∷ fields)) (time_digits at)
-
-pub document_digits : (root : Root) (key : List (List ℕ)) (fields : Entries) (at : Option Timestamp) (state : DocState) → has_float (printed_document root key fields at state) ≡ false
-document_digits root key fields at state = tree_digits (name_text root key) fields at (state_text state)

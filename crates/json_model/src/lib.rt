@@ -1,5 +1,5 @@
 //! JSON trees of messages and lines: what is to stand where, the faults of a tree, what one without faults spells, and how
-//! values and documents are printed.
+//! values are printed. `specs/Printed.antt` has the tree of a document too.
 //!
 //! A `Place` says what is to stand at a place of a tree: an `Object` or a `Series` that is looked into, or a `Leaf`. The tables
 //! say which members an object has (`table.rt`). `find_fault` walks a tree by them and answers its first fault of the least kind,
@@ -36,7 +36,7 @@ pub use clean_leaves::{
     clean_limit, clean_listener_id, clean_name, clean_parent, clean_path, clean_query_path,
     clean_reference, clean_target_id, clean_text, clean_time,
 };
-pub use document::{print_document, state_text};
+pub use document::state_text;
 pub use fault::{BadName, JsonFault, NamingFault, better};
 pub use laws::{
     a_tree_spells_once, faults_are_one, fits_without_faults, no_fault_spells,
@@ -46,7 +46,7 @@ pub use members::{given, only_choice, refined};
 pub use numbers::{read_integer, read_whole};
 pub use objects::{put_given, put_member, text_tree, unless_empty};
 pub use place::{Constants, Leaf, Object, Place, Series};
-pub use printing::{print_fields, print_value};
+pub use printing::{print_fields, print_value, reference_text};
 pub use reading::{MAX_NESTING, clean_fields, clean_value, clean_values, read_fields, read_name};
 pub use setting::Setting;
 pub use side::Side;

@@ -1,4 +1,5 @@
 ghost use Rattle.std.specs.Prelude.{◌≡◌, IfOk, codes, false, map};
+ghost use Rattle.std.specs.String.{string_bytes};
 ghost use Rattle.std.specs.Fmt.{signed_decimal};
 ghost use Rattle.serde_json.specs.View.{view, items_view, members_view};
 ghost use Rattle.serde_json.specs.Data.{boolean as boolean_tree};
@@ -101,14 +102,17 @@ fn map_json(alloc: Global, fields: Map<String, Json>) -> Result<Json, AllocError
     full_map_json(alloc, Json::Object(fields))
 }
 
-fn print_reference(alloc: Global, name: &RefName) -> Result<Json, NoMemory>
-    ensures { IfOk result (λ json. view json ≡ printed_text (codes "referenceValue") (name_text (root_of name.now) name.now.key)) }
+/// The text of a reference: the name of its document under its database.
+///
+/// # Errors
+/// `NoMemory`
+pub fn reference_text(alloc: Global, name: &RefName) -> Result<String, NoMemory>
+    ensures { IfOk result (λ text. string_bytes text ≡ name_text (root_of name.now) name.now.key) }
 {
     let project = name.project.copy(alloc)?;
     let database = name.database.copy(alloc)?;
     let root = Database::from_segments(alloc, project, database)?;
-    let text = name.key.print(alloc, &root)?;
-    Ok(reference_json(alloc, text.as_str())?)
+    name.key.print(alloc, &root)
 }
 
 /// The tree of a value: the one printed form of it. A time that isn't known yet prints as null.
@@ -136,7 +140,10 @@ pub fn print_value(alloc: Global, value: &Value) -> Result<Json, NoMemory>
             let text = print_bytes(alloc, bytes.as_slice())?;
             Ok(bytes_json(alloc, text.as_str())?)
         }
-        Kind::Reference(name) => print_reference(alloc, name),
+        Kind::Reference(name) => {
+            let text = reference_text(alloc, name)?;
+            Ok(reference_json(alloc, text.as_str())?)
+        }
         Kind::Array(values) => {
             let values = print_values(alloc, values)?;
             Ok(array_json(alloc, values)?)
