@@ -7,7 +7,7 @@ use std::process::Abort;
 use std::test::Fail;
 use value_model::{
     Bytes, ChangeKind, Document, DocumentChange, DocumentDelete, DocumentRemove, Entry, Fields,
-    ListenResponse, RpcStatus, TargetChange, TargetIds,
+    ListenResponse, RpcStatus, SharedFields, TargetChange, TargetIds,
 };
 
 fn ids(alloc: Global, ids: &[i32]) -> Result<TargetIds, Fail> {
@@ -17,10 +17,10 @@ fn ids(alloc: Global, ids: &[i32]) -> Result<TargetIds, Fail> {
 #[test]
 fn copied_document(rt: HostRuntime) -> Result<(), Fail> {
     let document = Document {
-        fields: Fields::new(rt.alloc()),
+        fields: SharedFields::new(rt.alloc(), Fields::new(rt.alloc()))?,
         update_time: Some(time(5)),
     };
-    let copy = document.copy(rt.alloc())?;
+    let copy = document.copy()?;
     assert!(rt; copy.update_time == Some(time(5)));
     Ok(())
 }

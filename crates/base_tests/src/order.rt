@@ -102,7 +102,7 @@ fn made(alloc: Global, told: Told) -> Result<Value, Fail> {
         Told::Text(content) => value(Kind::Text(Text::from_str(alloc, content)?)),
         Told::NoBytes => value(Kind::Bytes(Bytes::from_vec(Vec::new(alloc)))),
         Told::Name(project, database, id) => {
-            value(Kind::Reference(name(alloc, project, database, id)?))
+            value(Kind::Reference(Box::new(alloc, name(alloc, project, database, id)?)?))
         }
         Told::Numbers(items) => numbers(alloc, items)?,
         Told::Map(name, item) => map(alloc, name, item)?,

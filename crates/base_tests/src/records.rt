@@ -446,7 +446,7 @@ fn check_update(rt: &impl Abort, writes: &[Write]) {
         assert!(rt; false, "one update");
         return;
     };
-    assert!(rt; fields.name_at(0) == Some("n"));
+    assert!(rt; fields.as_fields().name_at(0) == Some("n"));
     check_mask(rt, mask);
     let Some((numbers, arrays)) = transforms.as_slice().split_at_checked(4) else {
         assert!(rt; false, "transforms");

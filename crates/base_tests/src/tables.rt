@@ -8,7 +8,7 @@ use overlays::{Overlays, are_of_fields, is_of_fields};
 use std::alloc::Global;
 use std::process::Abort;
 use std::test::Fail;
-use value_model::{Entry, Fields, Kind};
+use value_model::{Entry, Fields, Kind, SharedFields};
 
 fn room(alloc: Global, id: &str) -> Result<DocumentKey, Fail> {
     key(alloc, &["rooms", id])
@@ -23,7 +23,7 @@ fn increment(alloc: Global, id: &str, by: i64) -> Result<Write, Fail> {
     })?;
     Ok(Write::Update {
         key: room(alloc, id)?,
-        fields: Fields::new(alloc),
+        fields: SharedFields::new(alloc, Fields::new(alloc))?,
         mask: Some(Mask::from_vec(Vec::new(alloc))),
         transforms: Transforms::from_vec(transforms),
         condition: Precondition::Free,

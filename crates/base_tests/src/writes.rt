@@ -4,7 +4,7 @@ use crate::fixtures::{key, number, put};
 use mutations::{Mask, Precondition, Transforms, Write};
 use std::alloc::Global;
 use std::test::Fail;
-use value_model::Fields;
+use value_model::{Fields, SharedFields};
 
 fn fields(alloc: Global) -> Result<Fields, Fail> {
     let mut fields = Fields::new(alloc);
@@ -15,7 +15,7 @@ fn fields(alloc: Global) -> Result<Fields, Fail> {
 fn write(alloc: Global) -> Result<Write, Fail> {
     Ok(Write::Update {
         key: key(alloc, &["rooms", "a"])?,
-        fields: fields(alloc)?,
+        fields: SharedFields::new(alloc, fields(alloc)?)?,
         mask: Some(Mask::from_vec(Vec::new(alloc))),
         transforms: Transforms::from_vec(Vec::new(alloc)),
         condition: Precondition::Exists(false),
@@ -34,8 +34,8 @@ fn is_copied(copy: &Write) -> bool {
         return false;
     };
     key.len() == 2
-        && fields.name_at(0) == Some("n")
-        && fields.len() == 1
+        && fields.as_fields().name_at(0) == Some("n")
+        && fields.as_fields().len() == 1
         && mask.is_some()
         && transforms.as_slice().is_empty()
         && matches!(condition, Precondition::Exists(false))

@@ -18,6 +18,7 @@ use document_keys::Database;
 use host_api::{Host, Line, Source, SourceFault};
 use line_reader::read_item;
 use std::alloc::Global;
+use std::mem;
 use sync_engine::Client;
 
 /// Reads and handles the lines of the source, one after another, at most as many as the budget.
@@ -25,24 +26,23 @@ fn serve<S: Source, H: Host>(
     alloc: Global,
     source: &mut S,
     host: &mut H,
-    client: Client,
+    client: &mut Client,
     budget: u64,
 ) -> Status
-    requires stored { IsTrue H.tells_files → IsStored client.store (H.view host.old) }
-    requires live { IsLive client }
-    requires standing { IsStanding client }
-    ensures run { IsTrue S.tells → IsTrue H.tells_files → (s : State) → StandsFor client s []
-        → Ran (called client.root (S.left source.old) s budget H.tells_out (H.view host.old).out)
+    requires stored { IsTrue H.tells_files → IsStored client.old.store (H.view host.old) }
+    requires live { IsLive client.old }
+    requires standing { IsStanding client.old }
+    ensures run { IsTrue S.tells → IsTrue H.tells_files → (s : State) → StandsFor client.old s []
+        → Ran (called client.old.root (S.left source.old) s budget H.tells_out (H.view host.old).out)
         result (S.left source.new) (H.view host.old) (H.view host.new) }
-    ensures kept { IsTrue S.tells → IsTrue H.tells_files → (s : State) → StandsFor client s []
-        → Kept result (called client.root (S.left source.old) s budget H.tells_out (H.view host.old).out)
+    ensures kept { IsTrue S.tells → IsTrue H.tells_files → (s : State) → StandsFor client.old s []
+        → Kept result (called client.old.root (S.left source.old) s budget H.tells_out (H.view host.old).out)
         (H.view host.new).bytes }
     ensures keeps { IsTrue H.tells_files → Keeps (H.view host.new) }
     ensures serving { IsServed result }
     ensures cause { Causes result (S.faults source.old) (S.faults source.new)
         (H.view host.old) (H.view host.new) }
 {
-    let mut client = client;
     let mut text = Vec::new(alloc);
     for handled in 0..budget {
         let line = match source.line(alloc, &mut text) {
@@ -56,7 +56,7 @@ fn serve<S: Source, H: Host>(
         let Ok(reading) = read_item(alloc, client.root(), line, text.as_slice()) else {
             return Status::NoMemory;
         };
-        match handle(alloc, host, &mut client, handled + 1, reading) {
+        match handle(alloc, host, client, handled + 1, reading) {
             Ok(()) => {}
             Err(fault) => return fault.status(),
         }
@@ -106,11 +106,14 @@ pub fn run_within<S: Source, H: Host>(
     ensures cause { Causes result (S.faults source.old) (S.faults source.new)
         (H.view host.old) (H.view host.new) }
 {
-    let client = match Client::open(alloc, host, root) {
+    let mut client = match Client::open(alloc, host, root) {
         Ok(client) => client,
         Err(OpenFault::DiskFault) => return Status::DiskFault,
         Err(OpenFault::NotAStore(_)) => return Status::NotAStore,
         Err(OpenFault::NoMemory) => return Status::NoMemory,
     };
-    serve(alloc, source, host, client, budget)
+    let status = serve(alloc, source, host, &mut client, budget);
+    // the process ends next: what the client holds isn't given back piece by piece
+    mem::forget(client);
+    status
 }

@@ -107,7 +107,7 @@ impl FieldPath {
     pub fn document_name(alloc: Global) -> Result<FieldPath, NoMemory>
         ensures { IfOk result (λ path. path ≡ codes "__name__" ∷ []) }
     {
-        let mut names = Vec::new(alloc);
+        let mut names = Vec::with_capacity(alloc, 1)?;
         names.push(Text::from_str(alloc, "__name__")?)?;
         Ok(FieldPath { names })
     }
@@ -191,7 +191,7 @@ impl FieldPath {
     pub fn copy(&self, alloc: Global) -> Result<FieldPath, NoMemory>
         ensures { IfOk result (λ path. path ≡ self.now) }
     {
-        let mut names = Vec::new(alloc);
+        let mut names = Vec::with_capacity(alloc, self.names.len())?;
         for name in &self.names {
             names.push(name.copy(alloc)?)?;
         }

@@ -32,7 +32,8 @@ pub(crate) fn read_segments(alloc: Global, path: &str) -> Result<Vec<Segment>, N
     ensures segments { IfOk result (λ segments. All IsSegment segments.items) }
     ensures fault { IfErr result (λ fault. fault ≢ NameFault.NoMemory → (fault ≡ NameFault.BadSegment) × ¬ (All IsSegment (slice_split (λ byte. byte == 47) path.now))) }
 {
-    let mut segments = Vec::new(alloc);
+    // most keys have two segments
+    let mut segments = Vec::with_capacity(alloc, 2)?;
     let mut rest = path;
     while let Some((part, others)) = rest.split_once('/') {
         segments.push(Segment::read(alloc, part)?)?;
@@ -55,7 +56,7 @@ pub(crate) fn show_segments(segments: &[Segment])
 pub(crate) fn copy_segments(alloc: Global, segments: &[Segment]) -> Result<Vec<Segment>, NoMemory>
     ensures { IfOk result (λ copies. copies.items ≡ segments.now) }
 {
-    let mut copies = Vec::new(alloc);
+    let mut copies = Vec::with_capacity(alloc, segments.len())?;
     for segment in segments {
         copies.push(segment.copy(alloc)?)?;
     }

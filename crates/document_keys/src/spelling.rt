@@ -82,7 +82,8 @@ pub(crate) fn read_names(alloc: Global, text: &str) -> Result<Vec<Text>, FieldFa
     ensures names { IfOk result (λ names. SpellsPath text.now names.items) }
     ensures fault { IfErr result (λ fault. fault ≢ FieldFault.NoMemory → (fault ≡ FieldFault.BadPath) × ((names : List (List ℕ)) → ¬ (SpellsPath text.now names))) }
 {
-    let mut names = Vec::new(alloc);
+    // most paths have one name
+    let mut names = Vec::with_capacity(alloc, 1)?;
     let mut name = String::new(alloc);
     let mut place = Place::Start;
     for c in text.chars() {

@@ -14,9 +14,10 @@ use Rattle.value_model.specs.declared.document.Seal.{Seal}
 use Rattle.mutation_queue.specs.Queue.{named_keys}
 use Rattle.mutation_queue.proofs.Tables.{one_key}
 use Rattle.overlays.specs.LocalDocument.{base_of}
-use Rattle.overlays.specs.Table.{Table, shown}
+use Rattle.overlays.specs.Table.{Table, overlay_of, shown}
 use Rattle.remote_documents.proofs.Maps.{order, turned}
 use Rattle.durable_state.specs.Documents.{document_of, documents_of, entry_of, is_among, is_named, is_uncovered, sealed_entry_of, standing_by, standing_of, stored, touched_keys_of}
+use Rattle.durable_state.specs.Lending.{known_by, standing}
 use Rattle.durable_state.specs.State.{State}
 use Rattle.durable_state.specs.Tables.{AreLaid}
 use Rattle.durable_state.proofs.Laid.{among-append, among_in, in_among, not_so}
@@ -55,8 +56,29 @@ shows s table q laid = by (is_named s q) refl
         at true e = refl
         at false e = sym (unnamed_document s q e)
 
-pub lends : (s : State) (table : Table) (q : List (List ℕ)) (found : Option Document) → AreLaid s table → found ≡ shown table q (base_of (entry_of s q)) → finite.get (documents_of s) q ≡ option_map (stored s q) found
-lends s table q found laid same = documents_local s q ∙ ap (option_map (stored s q)) (sym (same ∙ shows s table q laid))
+some_is : {X : Type 0} (x y : X) → Some x ≡ Some y → x ≡ y
+some_is x y same = cc
+
+-- what an overlay has is lent as pending
+pub laid_lends : (s : State) (table : Table) (q : List (List ℕ)) (found : Option Document) → AreLaid s table → overlay_of table q ≡ Some found
+    → option_map (standing stands.Pending) found ≡ finite.get (documents_of s) q
+laid_lends s table q found laid is = by (is_named s q) refl
+  where
+    by : (b : Bool) → is_named s q ≡ b → option_map (standing stands.Pending) found ≡ finite.get (documents_of s) q
+    by true e =
+        let same = some_is found (document_of s q) (sym is ∙ laid q ∙ ap (λ c. cond c (Some (document_of s q)) None) e) in
+        ap (option_map (standing stands.Pending)) same ∙ ap (λ st. option_map (standing st) (document_of s q)) (pending_stands s q e) ∙ sym (documents_local s q)
+    by false e = absurd (let never = sym is ∙ laid q ∙ ap (λ c. cond c (Some (document_of s q)) None) e in cc)
+
+-- a key without an overlay is lent as its entry has it
+pub bare_lends : (s : State) (table : Table) (q : List (List ℕ)) → AreLaid s table → overlay_of table q ≡ None
+    → known_by (sealed_entry_of s q) ≡ finite.get (documents_of s) q
+bare_lends s table q laid is = by (is_named s q) refl
+  where
+    by : (b : Bool) → is_named s q ≡ b → known_by (sealed_entry_of s q) ≡ finite.get (documents_of s) q
+    by true e = absurd (let never = sym is ∙ laid q ∙ ap (λ c. cond c (Some (document_of s q)) None) e in cc)
+    by false e =
+        ap (λ st. option_map (standing st) (base_of (entry_of s q))) (plain_stands s q e) ∙ ap (option_map (stored s q)) (sym (unnamed_document s q e)) ∙ sym (documents_local s q)
 
 -- there is a document exactly where an overlay has one, or no pending write names the key and its entry has one
 pub has_document : (s : State) (table : Table) (q : List (List ℕ)) → AreLaid s table

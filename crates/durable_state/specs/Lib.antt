@@ -1,5 +1,6 @@
 pub mod Cached
 pub mod Documents
+pub mod Lending
 pub mod Ready
 pub mod Rising
 pub mod Rows

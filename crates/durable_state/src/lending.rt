@@ -1,13 +1,15 @@
 //! What a state lends: its local documents.
 
-ghost use Rattle.std.specs.Prelude.{◌≡◌, ◌↔◌, ◌&&◌, ℕ, List, false, not, is_some, IsTrue, IfOk, option_map, unwrap_or};
+ghost use Rattle.std.specs.Prelude.{◌≡◌, ◌↔◌, ◌&&◌, ℕ, List, false, not, is_some, IsTrue, IfOk, IfSome, option_map, unwrap_or};
 ghost use Rattle.std.specs.List.{Contains};
 ghost use Rattle.std.specs.Option.{IsSome};
 ghost use Rattle.document_keys.specs.KeySet.{IsAscending};
 ghost use Rattle.value_model.specs.Documents.{IsIn};
 ghost use Rattle.value_model.specs.Order.{Earlier};
+ghost use Rattle.value_model.specs.declared.document.DocState.TheVariants.{Pending};
 ghost use Rattle.overlays.specs.LocalDocument.{base_of};
 ghost use Rattle.durable_state.specs.Documents.{entry_of, is_named, is_uncovered, sealed_entry_of, standing_by, standing_of};
+ghost use Rattle.durable_state.specs.Lending.{known_by, lent, standing};
 ghost use Rattle.durable_state.specs.Rising.{Replaces};
 ghost use Rattle.durable_state.specs.Tables.{state_in};
 
@@ -16,7 +18,7 @@ use crate::merging::merged;
 use crate::readying::known;
 use document_keys::{CollectionPath, DocumentKey, NoMemory};
 use std::alloc::Global;
-use value_model::{DocRef, DocState, Documents, Entry, Seal, Timestamp};
+use value_model::{DocRef, DocState, Document, Documents, Entry, Seal, Timestamp};
 
 /// How an entry that no pending write is laid on stands to the backend.
 fn standing_by(sealed: Option<(&Entry, &Seal)>) -> DocState
@@ -55,6 +57,40 @@ fn is_found(entry: Option<&Entry>) -> bool
     ensures { result ≡ is_some (base_of (option_map (λ e. e.now) entry.entry)) }
 {
     matches!(entry, Some(Entry::Found(_, _)))
+}
+
+/// The local document of a key that a pending write names.
+fn laid<'a>(key: &'a DocumentKey, document: &'a Option<Document>) -> Option<DocRef<'a>>
+    ensures document { option_map lent result ≡ option_map (standing Pending) document.now }
+    ensures key { IfSome result (λ d. d.key.now ≡ key.now) }
+{
+    let document = document.as_ref()?;
+    Some(DocRef {
+        key,
+        fields: document.fields.as_fields(),
+        update_time: document.update_time,
+        state: DocState::Pending,
+    })
+}
+
+/// The document of the entry of a key that no pending write names.
+fn plain<'a>(
+    key: &'a DocumentKey,
+    sealed: Option<(&'a Entry, &'a Seal)>,
+) -> Option<DocRef<'a>>
+    ensures document { option_map lent result
+        ≡ known_by (option_map (λ pair. (pair.0.now, pair.1.now)) sealed.entry) }
+    ensures key { IfSome result (λ d. d.key.now ≡ key.now) }
+{
+    let (Entry::Found(fields, version), _) = sealed? else {
+        return None;
+    };
+    Some(DocRef {
+        key,
+        fields,
+        update_time: Some(*version),
+        state: standing_by(sealed),
+    })
 }
 
 impl DurableState {
@@ -117,14 +153,9 @@ impl Documents for DurableState {
     ghost touched_keys = { λ s. touched_keys_of (state_in s) };
 
     fn document<'a>(&'a self, key: &'a DocumentKey) -> Option<DocRef<'a>> {
-        match self.overlays.document(key, known(&self.entries, key)) {
-            Some((fields, update_time)) => Some(DocRef {
-                key,
-                fields,
-                update_time,
-                state: self.state_of(key),
-            }),
-            None => None,
+        match self.overlays.overlay(key) {
+            Some(document) => laid(key, document),
+            None => plain(key, self.entry(key)),
         }
     }
 

@@ -104,7 +104,7 @@ fn build_reference(alloc: Global, setting: &Setting<'_>, json: &Json) -> Result<
 {
     let name = clean_reference(alloc, setting, json)?;
     Ok(Value {
-        kind: Kind::Reference(name),
+        kind: Kind::Reference(Box::new(alloc, name)?),
     })
 }
 
@@ -219,7 +219,7 @@ pub fn clean_values(
     ensures deep { IfOk result (λ vs. items_depth (items_of vs.items) ≤ max_nesting) }
 {
     let items = clean_list(setting, Series::Values, json);
-    let mut values = Vec::new(alloc);
+    let mut values = Vec::with_capacity(alloc, items.len())?;
     for item in items {
         let value = clean_value(alloc, setting, item)?;
         values.push(value)?;
@@ -254,7 +254,7 @@ pub fn clean_fields(alloc: Global, setting: &Setting<'_>, json: &Json) -> Result
     ensures deep { IfOk result (λ fields. entries_depth fields ≤ max_nesting) }
 {
     let members = clean_object(setting, Object::Fields, json);
-    let mut fields = Fields::new(alloc);
+    let mut fields = Fields::with_capacity(alloc, members.len())?;
     for (key, member) in members {
         if member.is_null() {
             continue;

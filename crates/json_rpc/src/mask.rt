@@ -33,7 +33,7 @@ fn clean_paths(
     ensures storable { IfOk result (λ paths. AreAllStorable IsStorablePath paths.items) }
 {
     let items = clean_list(setting, Series::Paths, json);
-    let mut paths = Vec::new(alloc);
+    let mut paths = Vec::with_capacity(alloc, items.len())?;
     for item in items {
         paths.push(clean_path(alloc, setting, item)?)?;
     }

@@ -122,7 +122,7 @@ fn clean_items(
     ensures storable { IfOk result (λ transforms. AreAllStorable IsStorableTransform transforms.items) }
 {
     let items = clean_list(setting, Series::Transforms, json);
-    let mut transforms = Vec::new(alloc);
+    let mut transforms = Vec::with_capacity(alloc, items.len())?;
     for item in items {
         transforms.push(clean_transform(alloc, setting, item)?)?;
     }

@@ -37,7 +37,7 @@ use json_model::{
 use mutations::{Mask, Precondition, Transforms, Write};
 use serde_json::{Map, Value as Json};
 use std::alloc::Global;
-use value_model::Fields;
+use value_model::{Fields, SharedFields};
 
 /// The key under `name` of an update.
 #[tactic(auto, unfolding(json_model::specs::Places::update_rows))]
@@ -90,7 +90,7 @@ fn clean_update(
 {
     let inside = clean_object(setting, Object::Update, update);
     let key = clean_key(alloc, setting, inside)?;
-    let fields = clean_given_fields(alloc, setting, inside)?;
+    let fields = SharedFields::new(alloc, clean_given_fields(alloc, setting, inside)?)?;
     let mask = clean_member(setting, Object::Write, members, "updateMask");
     let mask = clean_mask(alloc, setting, mask)?;
     let transforms = clean_member(setting, Object::Write, members, "updateTransforms");
@@ -158,7 +158,7 @@ pub fn clean_writes(
     ensures storable { IfOk result (λ writes. All IsStorableWrite writes.items) }
 {
     let items = clean_list(setting, Series::Writes, json);
-    let mut writes = Vec::new(alloc);
+    let mut writes = Vec::with_capacity(alloc, items.len())?;
     for item in items {
         writes.push(clean_write(alloc, setting, item)?)?;
     }
@@ -289,7 +289,7 @@ fn print_members(
             condition,
         } => {
             let mut members = print_beside(alloc, mask, transforms)?;
-            let update = print_update(alloc, root, key, fields)?;
+            let update = print_update(alloc, root, key, fields.as_fields())?;
             put_member(alloc, &mut members, "update", update)?;
             put_condition(alloc, &mut members, *condition)?;
             Ok(members)

@@ -116,7 +116,10 @@ pub fn apply_result(
             mask: None,
             transforms,
             condition: _,
-        } => found(alloc, fields.copy(alloc)?, transforms, returned, version)?,
+        } => {
+            let fields = fields.as_fields().copy(alloc)?;
+            found(alloc, fields, transforms, returned, version)?
+        }
         Write::Update {
             key: _,
             fields,
@@ -125,7 +128,7 @@ pub fn apply_result(
             condition,
         } => {
             if condition.holds_in(entry) {
-                let fields = masked_known(alloc, entry, fields, mask)?;
+                let fields = masked_known(alloc, entry, fields.as_fields(), mask)?;
                 found(alloc, fields, transforms, returned, version)?
             } else {
                 Entry::Unknown(version)

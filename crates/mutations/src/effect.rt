@@ -13,7 +13,7 @@ use crate::transform::{Transform, Transforms};
 use crate::write::{Precondition, Write};
 use document_keys::{FieldPath, NoMemory};
 use std::alloc::Global;
-use value_model::{Document, Fields, Timestamp};
+use value_model::{Document, Fields, SharedFields, Timestamp};
 
 /// Whether the document was last changed at the time.
 fn is_of_time(update_time: Option<Timestamp>, time: Timestamp) -> bool
@@ -56,29 +56,59 @@ fn set(alloc: Global, input: &Fields, mask: &Option<Mask>) -> Result<Fields, NoM
     }
 }
 
-/// The fields after an update where there were none.
+/// The fields after an update where there were none: shared where they are the input's.
 fn made(
     alloc: Global,
-    input: &Fields,
+    input: &SharedFields,
     mask: &Option<Mask>,
     transforms: &Transforms,
     at: Timestamp,
-) -> Result<Fields, NoMemory>
+) -> Result<SharedFields, NoMemory>
     requires mask { HasMaskOfFields mask.now }
     requires transforms { HavePathsOfFields transforms.now }
     ensures sets { OnOk result (function.SetsRight [] input.now mask.now) }
     ensures exact { IfOk result (λ fields. fields ≡ function.updated at [] input.now mask.now transforms.now) }
 {
-    let fields = set(alloc, input, mask)?;
+    if mask.is_none() && transforms.as_slice().is_empty() {
+        return input.share();
+    }
+    let fields = set(alloc, input.as_fields(), mask)?;
     let fields = transformed(alloc, fields, transforms.as_slice(), at)?;
-    Ok(fields)
+    SharedFields::new(alloc, fields)
+}
+
+/// Makes of fields what a masked update and transforms make of them; they are copied where others hold them too.
+///
+/// # Errors
+/// `NoMemory`: the fields are then as before.
+fn update_shared(
+    alloc: Global,
+    fields: &mut SharedFields,
+    input: &Fields,
+    mask: &[FieldPath],
+    transforms: &[Transform],
+    at: Timestamp,
+) -> Result<(), NoMemory>
+    requires mask { All IsOfFields mask.now }
+    requires transforms { HavePathsOfFields transforms.now }
+    ensures sets { OnOk result (function.SetsRight fields.old input.now (Some mask.now)) }
+    ensures exact { OnOk result (fields.new ≡ function.updated at fields.old input.now (Some mask.now) transforms.now) }
+    ensures undone { OnErr result (fields.new ≡ fields.old) }
+{
+    if let Some(own) = fields.alone() {
+        return update_touched(alloc, own, input, mask, transforms, at);
+    }
+    let mut copy = fields.as_fields().copy(alloc)?;
+    update_touched(alloc, &mut copy, input, mask, transforms, at)?;
+    *fields = SharedFields::new(alloc, copy)?;
+    Ok(())
 }
 
 /// Makes of a document's fields what an update makes of them.
 fn update_fields(
     alloc: Global,
-    fields: &mut Fields,
-    input: &Fields,
+    fields: &mut SharedFields,
+    input: &SharedFields,
     mask: &Option<Mask>,
     transforms: &Transforms,
     at: Timestamp,
@@ -90,10 +120,10 @@ fn update_fields(
     ensures undone { OnErr result (fields.new ≡ fields.old) }
 {
     match mask {
-        Some(mask) => update_touched(
+        Some(mask) => update_shared(
             alloc,
             fields,
-            input,
+            input.as_fields(),
             mask.as_slice(),
             transforms.as_slice(),
             at,
@@ -107,7 +137,7 @@ fn update_fields(
 fn update(
     alloc: Global,
     doc: &mut Option<Document>,
-    input: &Fields,
+    input: &SharedFields,
     mask: &Option<Mask>,
     transforms: &Transforms,
     at: Timestamp,

@@ -4,7 +4,7 @@ use crate::lists::Mask;
 use crate::transform::Transforms;
 use document_keys::{DocumentKey, NoMemory};
 use std::alloc::Global;
-use value_model::{Fields, Timestamp};
+use value_model::{SharedFields, Timestamp};
 
 /// What is to hold of the document for its write to be made.
 #[derive(Clone, Copy, Debug)]
@@ -23,7 +23,7 @@ pub enum Write {
     /// Sets fields: those that the mask names, or all where there is no mask. Then come the transforms.
     Update {
         key: DocumentKey,
-        fields: Fields,
+        fields: SharedFields,
         mask: Option<Mask>,
         transforms: Transforms,
         condition: Precondition,
@@ -46,7 +46,7 @@ fn copy_mask(alloc: Global, mask: &Option<Mask>) -> Result<Option<Mask>, NoMemor
 }
 
 impl Write {
-    /// A copy.
+    /// A copy, which shares the fields.
     ///
     /// # Errors
     /// `NoMemory`
@@ -62,7 +62,7 @@ impl Write {
                 condition,
             } => Ok(Write::Update {
                 key: key.copy(alloc)?,
-                fields: fields.copy(alloc)?,
+                fields: fields.share()?,
                 mask: copy_mask(alloc, mask)?,
                 transforms: transforms.copy(alloc)?,
                 condition: *condition,

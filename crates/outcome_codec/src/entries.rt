@@ -10,10 +10,13 @@ use crate::parts::KeyedEntry;
 use document_keys::NoMemory;
 use record_parts::{
     DEPTH, ReadError, byte_of, fields_of, key_of, put_fields, put_key, put_number, put_time,
-    time_of, u64_of,
+    room_for, time_of, u64_of,
 };
 use std::alloc::Global;
 use value_model::Entry;
+
+/// How many bytes a key with its entry spells at least.
+const KEYED_ENTRY: usize = 39;
 
 /// What follows the byte of a document that was found, and what follows that.
 fn found_of(alloc: Global, bytes: &[u8]) -> Result<(Entry, &[u8]), ReadError>
@@ -53,7 +56,7 @@ fn any_entries_of(alloc: Global, bytes: &[u8]) -> Result<(Vec<KeyedEntry>, &[u8]
     ensures { Reads (many keyed) (AreSpelled IsSpelledKeyed) bytes.now (λ x. (x.0.items, x.1.now)) result }
 {
     let (count, start) = u64_of(bytes)?;
-    let mut entries = Vec::new(alloc);
+    let mut entries = Vec::with_capacity(alloc, room_for(count, start, KEYED_ENTRY))?;
     let mut rest = start;
     for _ in 0..count {
         let (entry, next) = keyed_of(alloc, rest)?;

@@ -7,15 +7,18 @@ ghost use Rattle.outcome_codec.specs.Spelling.{target_id, AreSpelledIds, IsSpell
 
 use crate::ascending::ids_ascend;
 use document_keys::NoMemory;
-use record_parts::{ReadError, put_number, u32_of, u64_of};
+use record_parts::{ReadError, put_number, room_for, u32_of, u64_of};
 use std::alloc::Global;
+
+/// How many bytes an id spells at least.
+const ID: usize = 4;
 
 /// Ids in whatever order, as many as the number before them says, and what follows them.
 fn any_ids_of(alloc: Global, bytes: &[u8]) -> Result<(Vec<u32>, &[u8]), ReadError>
     ensures { Reads (many target_id) (AreSpelled IsSpelledId) bytes.now (λ x. (x.0.items, x.1.now)) result }
 {
     let (count, start) = u64_of(bytes)?;
-    let mut ids = Vec::new(alloc);
+    let mut ids = Vec::with_capacity(alloc, room_for(count, start, ID))?;
     let mut rest = start;
     for _ in 0..count {
         let (id, next) = u32_of(rest)?;

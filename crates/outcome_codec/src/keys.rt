@@ -9,15 +9,18 @@ ghost use Rattle.outcome_codec.specs.Spelling.{AreSpelledKeys};
 
 use crate::ascending::keys_ascend;
 use document_keys::{DocumentKey, KeySet, NoMemory};
-use record_parts::{ReadError, key_of, put_key, put_number, u64_of};
+use record_parts::{ReadError, key_of, put_key, put_number, room_for, u64_of};
 use std::alloc::Global;
+
+/// How many bytes a key spells at least.
+const KEY: usize = 26;
 
 /// Keys in whatever order, as many as the number before them says, and what follows them.
 fn any_keys_of(alloc: Global, bytes: &[u8]) -> Result<(Vec<DocumentKey>, &[u8]), ReadError>
     ensures { Reads (many key) (AreSpelled IsSpelledKey) bytes.now (λ x. (x.0.items, x.1.now)) result }
 {
     let (count, start) = u64_of(bytes)?;
-    let mut keys = Vec::new(alloc);
+    let mut keys = Vec::with_capacity(alloc, room_for(count, start, KEY))?;
     let mut rest = start;
     for _ in 0..count {
         let (key, next) = key_of(alloc, rest)?;
@@ -32,7 +35,7 @@ fn set_of(alloc: Global, keys: Vec<DocumentKey>) -> Result<KeySet, NoMemory>
     requires { AllPairs PathBefore keys.items }
     ensures { IfOk result (λ set. set ≡ keys.items) }
 {
-    let mut set = KeySet::new(alloc);
+    let mut set = KeySet::with_capacity(alloc, keys.len())?;
     for key in keys {
         set.insert(alloc, key)?;
     }

@@ -9,10 +9,13 @@ ghost use Rattle.outcome_codec.specs.Spelling.{result as spelled, IsSpelledResul
 use document_keys::NoMemory;
 use mutations::{Values, WriteResult, WriteResults};
 use record_parts::{
-    DEPTH, ReadError, byte_of, put_number, put_time, put_value, time_of, u64_of, values_of,
+    DEPTH, ReadError, byte_of, put_number, put_time, put_value, room_for, time_of, u64_of, values_of,
 };
 use std::alloc::Global;
 use value_model::{Timestamp, Value};
+
+/// How many bytes a result spells at least.
+const RESULT: usize = 9;
 
 /// A time or none, and what follows it.
 fn given_time_of(bytes: &[u8]) -> Result<(Option<Timestamp>, &[u8]), ReadError>
@@ -53,7 +56,7 @@ pub fn results_of(alloc: Global, bytes: &[u8]) -> Result<(WriteResults, &[u8]), 
     ensures { Reads (many spelled) (AreSpelled IsSpelledResult) bytes.now (λ x. (x.0, x.1.now)) result }
 {
     let (count, start) = u64_of(bytes)?;
-    let mut results = Vec::new(alloc);
+    let mut results = Vec::with_capacity(alloc, room_for(count, start, RESULT))?;
     let mut rest = start;
     for _ in 0..count {
         let (one, next) = result_of(alloc, rest)?;

@@ -11,9 +11,12 @@ use crate::ids::put_id;
 use crate::keys::{keys_of, put_keys};
 use crate::parts::PointRow;
 use document_keys::NoMemory;
-use record_parts::{ReadError, put_bytes, put_number, slice_of, u32_of, u64_of};
+use record_parts::{ReadError, put_bytes, put_number, room_for, slice_of, u32_of, u64_of};
 use std::alloc::Global;
 use value_model::Bytes;
+
+/// How many bytes a row spells at least.
+const ROW: usize = 20;
 
 /// A token, and what follows it.
 fn token_of(alloc: Global, bytes: &[u8]) -> Result<(Bytes, &[u8]), ReadError>
@@ -39,7 +42,7 @@ fn any_rows_of(alloc: Global, bytes: &[u8]) -> Result<(Vec<PointRow>, &[u8]), Re
     ensures { Reads (many row) (AreSpelled IsSpelledRow) bytes.now (λ x. (x.0.items, x.1.now)) result }
 {
     let (count, start) = u64_of(bytes)?;
-    let mut rows = Vec::new(alloc);
+    let mut rows = Vec::with_capacity(alloc, room_for(count, start, ROW))?;
     let mut rest = start;
     for _ in 0..count {
         let (row, next) = row_of(alloc, rest)?;

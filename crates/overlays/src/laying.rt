@@ -11,7 +11,7 @@ use document_keys::{DocumentKey, NoMemory};
 use mutation_queue::written_key;
 use mutations::{Batch, Write, apply_local};
 use std::alloc::Global;
-use value_model::{Document, Entry};
+use value_model::{Document, Entry, SharedFields};
 
 /// Whether no path of the writes is `__name__`.
 fn writes_are_of_fields(writes: &[Write]) -> bool
@@ -51,7 +51,7 @@ pub(crate) fn base(alloc: Global, entry: Option<&Entry>) -> Result<Option<Docume
     let Some(Entry::Found(fields, version)) = entry else {
         return Ok(None);
     };
-    let fields = fields.copy(alloc)?;
+    let fields = SharedFields::new(alloc, fields.copy(alloc)?)?;
     Ok(Some(Document {
         fields,
         update_time: Some(*version),

@@ -1,4 +1,4 @@
-ghost use Rattle.std.specs.Prelude.{◌≡◌, ◌↔◌, ℕ, List, Some, None, IsTrue, IsOk, OnOk, IfOk};
+ghost use Rattle.std.specs.Prelude.{◌≡◌, ◌↔◌, ℕ, List, Some, None, IsTrue, IsOk, OnOk, IfOk, option_map};
 ghost use Rattle.std.specs.List.{All, AllPairs, Contains};
 ghost use Rattle.std.specs.Option.{ForSome, IsSome};
 ghost use Rattle.document_keys.specs.Order.{PathBefore};
@@ -54,23 +54,6 @@ fn lent<'a>(entry: Option<&'a Entry>) -> Option<(&'a Fields, Option<Timestamp>)>
     }
 }
 
-/// A copy of the document that is lent.
-fn owned(
-    alloc: Global,
-    document: Option<(&Fields, Option<Timestamp>)>,
-) -> Result<Option<Document>, NoMemory>
-    ensures { IfOk result (λ copy. copy ≡ lent_document document.entry) }
-{
-    let Some((fields, update_time)) = document else {
-        return Ok(None);
-    };
-    let fields = fields.copy(alloc)?;
-    Ok(Some(Document {
-        fields,
-        update_time,
-    }))
-}
-
 /// Whether the key is that of a document of the collection.
 fn is_listed(collection: &CollectionPath, key: &DocumentKey, slot: &Slot) -> bool
     ensures { IsTrue result ↔ (IsIn collection.now key.now × IsSome (document_in slot.now)) }
@@ -118,6 +101,22 @@ impl Overlays {
         Ok(Overlay { key, document })
     }
 
+    /// The local document of the key, to lay writes on. It shares the overlay's fields.
+    fn shown(
+        &self,
+        alloc: Global,
+        key: &DocumentKey,
+        entry: Option<&Entry>,
+    ) -> Result<Option<Document>, NoMemory>
+        ensures { IfOk result (λ document. document ≡ shown self.now key.now (known entry.entry)) }
+    {
+        match self.slots.get(key) {
+            Some(Slot::Laid(Some(document))) => Ok(Some(document.copy()?)),
+            Some(Slot::Laid(None)) => Ok(None),
+            _ => base(alloc, entry),
+        }
+    }
+
     /// Works out the local document of the key after one batch more, from what it is now. No path of the batch's writes is
     /// `__name__`.
     ///
@@ -135,7 +134,7 @@ impl Overlays {
         ensures document { IfOk result (λ overlay. overlay.document ≡
             after_batch key.now (shown self.now key.now (known entry.entry)) more.now) }
     {
-        let document = owned(alloc, self.document(key, entry))?;
+        let document = self.shown(alloc, key, entry)?;
         let document = laid_on(alloc, key, document, more)?;
         let key = key.copy(alloc)?;
         Ok(Overlay { key, document })
@@ -179,6 +178,16 @@ impl Overlays {
         self.slots.remove(key);
     }
 
+    /// The overlay of the key, lent: its local document, or that there is none. `None` exactly where the key has no overlay.
+    pub fn overlay(&self, key: &DocumentKey) -> Option<&Option<Document>>
+        ensures { option_map (λ document. document.now) result ≡ overlay_of self.now key.now }
+    {
+        match self.slots.get(key) {
+            Some(Slot::Laid(document)) => Some(document),
+            _ => None,
+        }
+    }
+
     /// The local document of the key, with its update time, lent: that of its overlay, and where it has none that of
     /// its entry. `None` exactly where there is no such document.
     pub fn document<'a>(
@@ -189,7 +198,7 @@ impl Overlays {
         ensures { lent_document result ≡ shown self.now key.now (known entry.entry) }
     {
         match self.slots.get(key) {
-            Some(Slot::Laid(Some(document))) => Some((&document.fields, document.update_time)),
+            Some(Slot::Laid(Some(document))) => Some((document.fields.as_fields(), document.update_time)),
             Some(Slot::Laid(None)) => None,
             _ => lent(entry),
         }

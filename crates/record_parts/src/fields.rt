@@ -5,7 +5,7 @@ ghost use Rattle.record_parts.specs.Kinds.{field, IsSpelledField};
 
 use crate::fault::ReadError;
 use crate::names::name_of;
-use crate::numbers::u64_of;
+use crate::numbers::{room_for, u64_of};
 use crate::scalars::scalar_of;
 use std::alloc::Global;
 use value_model::{Field, Fields, Value};
@@ -15,6 +15,12 @@ pub const ARRAY: u8 = 8;
 
 /// The byte that begins a map.
 pub const MAP: u8 = 9;
+
+/// How many bytes a value spells at least.
+const VALUE: usize = 1;
+
+/// How many bytes a field spells at least.
+const FIELD: usize = 10;
 
 /// How deep the values of a document may be nested.
 pub const DEPTH: u32 = 20;
@@ -40,7 +46,7 @@ pub fn values_of(alloc: Global, limit: u32, bytes: &[u8]) -> Result<(Vec<Value>,
     ensures { Reads (many value) (AreSpelled (IsSpelledValue limit)) bytes.now (λ x. (x.0.items, x.1.now)) result }
 {
     let (count, start) = u64_of(bytes)?;
-    let mut values = Vec::new(alloc);
+    let mut values = Vec::with_capacity(alloc, room_for(count, start, VALUE))?;
     let mut rest = start;
     for _ in 0..count {
         let (value, next) = value_of(alloc, limit, rest)?;
@@ -90,7 +96,7 @@ fn entries_of(alloc: Global, limit: u32, bytes: &[u8]) -> Result<(Vec<Field>, &[
     ensures { Reads (many field) (AreSpelled (IsSpelledField limit)) bytes.now (λ x. (x.0.items, x.1.now)) result }
 {
     let (count, start) = u64_of(bytes)?;
-    let mut entries = Vec::new(alloc);
+    let mut entries = Vec::with_capacity(alloc, room_for(count, start, FIELD))?;
     let mut rest = start;
     for _ in 0..count {
         let (entry, next) = field_of(alloc, limit, rest)?;

@@ -20,7 +20,7 @@ mod writing;
 pub use fault::ReadError;
 pub use fields::{DEPTH, fields_of, value_of, values_of};
 pub use names::{key_of, segment_of, segments_of, slice_of, text_of};
-pub use numbers::{after, byte_of, flag_of, u32_of, u64_of};
+pub use numbers::{after, byte_of, flag_of, room_for, u32_of, u64_of};
 pub use paths::{path_of, put_path};
 pub use times::time_of;
 pub use writes::{put_writes, writes_of};

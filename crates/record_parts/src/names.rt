@@ -4,9 +4,12 @@ ghost use Rattle.record_parts.specs.Spelling.{text, key, many, AreSpelled, IsTex
 ghost use Rattle.record_parts.specs.Reading.{Reads};
 
 use crate::fault::ReadError;
-use crate::numbers::u64_of;
+use crate::numbers::{room_for, u64_of};
 use document_keys::{DocumentKey, Segment, Text, check_field_name};
 use std::alloc::Global;
+
+/// How many bytes the text of a name spells at least.
+pub(crate) const TEXT: usize = 9;
 
 /// As many bytes as the length before them says, lent, and what follows them.
 pub fn slice_of(bytes: &[u8]) -> Result<(&[u8], &[u8]), ReadError>
@@ -44,7 +47,7 @@ pub fn segments_of(alloc: Global, bytes: &[u8]) -> Result<(Vec<Segment>, &[u8]),
     ensures { Reads (many text) (AreSpelled IsSegmentText) bytes.now (λ x. (x.0.items, x.1.now)) result }
 {
     let (count, start) = u64_of(bytes)?;
-    let mut segments = Vec::new(alloc);
+    let mut segments = Vec::with_capacity(alloc, room_for(count, start, TEXT))?;
     let mut rest = start;
     for _ in 0..count {
         let (segment, next) = segment_of(alloc, rest)?;

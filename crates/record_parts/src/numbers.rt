@@ -1,4 +1,4 @@
-ghost use Rattle.std.specs.Prelude.{◌≡◌, ◌≢◌, ◌<◌, ◌^◌, List, [], ◌∷◌, ℕ, ◌++◌, MatchResult, FitsSigned};
+ghost use Rattle.std.specs.Prelude.{◌≡◌, ◌≢◌, ◌<◌, ◌^◌, ◌/◌, List, [], ◌∷◌, ℕ, ◌++◌, length, min, MatchResult, FitsSigned};
 ghost use Rattle.std.specs.Int.{w32, w64, to_be_bytes};
 ghost use Rattle.record_parts.specs.Spelling.{number, signed, boolean};
 ghost use Rattle.record_parts.specs.Reading.{Reads};
@@ -55,6 +55,15 @@ pub fn u32_of(bytes: &[u8]) -> Result<(u32, &[u8]), ReadError>
         Some((front, rest)) => Ok((u32::from_be_bytes(*front), rest)),
         None => Err(ReadError::NotSpelled),
     }
+}
+
+/// How much room so many elements take, of which each spells at least so many of the bytes. It is never more than the bytes can
+/// spell: a damaged count, which may be any number, then asks for no memory.
+pub fn room_for(count: u64, bytes: &[u8], least: usize) -> usize
+    requires { 0 < least }
+    ensures { result ≡ min count (length bytes.now / least) }
+{
+    count.min((bytes.len() / least) as u64) as usize
 }
 
 /// A number of eight bytes with a sign, and what follows it.

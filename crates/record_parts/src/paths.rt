@@ -3,8 +3,8 @@ ghost use Rattle.record_parts.specs.Spelling.{text, path, many, opt, AreSpelled,
 ghost use Rattle.record_parts.specs.Reading.{Reads};
 
 use crate::fault::ReadError;
-use crate::names::name_of;
-use crate::numbers::{byte_of, u64_of};
+use crate::names::{TEXT, name_of};
+use crate::numbers::{byte_of, room_for, u64_of};
 use crate::writing::{put_number, put_text};
 use document_keys::{FieldPath, NoMemory, Text};
 use mutations::Mask;
@@ -12,6 +12,9 @@ use std::alloc::Global;
 
 /// How many names a path has at most.
 const MOST: usize = 21;
+
+/// How many bytes a path spells at least.
+const PATH: usize = 17;
 
 /// The byte that stands for no mask.
 const ABSENT: u8 = 0;
@@ -24,7 +27,7 @@ fn names_of(alloc: Global, bytes: &[u8]) -> Result<(Vec<Text>, &[u8]), ReadError
     ensures { Reads path (AreSpelled IsNameText) bytes.now (λ x. (x.0.items, x.1.now)) result }
 {
     let (count, start) = u64_of(bytes)?;
-    let mut names = Vec::new(alloc);
+    let mut names = Vec::with_capacity(alloc, room_for(count, start, TEXT))?;
     let mut rest = start;
     for _ in 0..count {
         let (name, next) = name_of(alloc, rest)?;
@@ -53,7 +56,7 @@ fn paths_of(alloc: Global, bytes: &[u8]) -> Result<(Vec<FieldPath>, &[u8]), Read
     ensures { Reads (many path) (AreSpelled IsSpelledPath) bytes.now (λ x. (x.0.items, x.1.now)) result }
 {
     let (count, start) = u64_of(bytes)?;
-    let mut paths = Vec::new(alloc);
+    let mut paths = Vec::with_capacity(alloc, room_for(count, start, PATH))?;
     let mut rest = start;
     for _ in 0..count {
         let (path, next) = path_of(alloc, rest)?;

@@ -101,7 +101,7 @@ fn reference_of(alloc: Global, bytes: &[u8]) -> Result<(Value, &[u8]), ReadError
     ensures { ReadsKind 7 bytes.now (λ x. (x.0, x.1.now)) result }
 {
     let (name, rest) = name_parts_of(alloc, bytes)?;
-    let kind = Kind::Reference(name);
+    let kind = Kind::Reference(Box::new(alloc, name)?);
     Ok((Value { kind }, rest))
 }
 

@@ -4,7 +4,7 @@ ghost use Rattle.record_parts.specs.Reading.{Reads};
 
 use crate::fault::ReadError;
 use crate::fields::{DEPTH, values_of};
-use crate::numbers::{byte_of, i64_of, u64_of};
+use crate::numbers::{byte_of, i64_of, room_for, u64_of};
 use crate::paths::{path_of, put_path};
 use crate::writing::{put_number, put_signed, put_value};
 use document_keys::NoMemory;
@@ -28,6 +28,9 @@ const APPEND: u8 = 5;
 
 /// The byte that begins the values that are taken out of an array.
 const REMOVE: u8 = 6;
+
+/// How many bytes a transform spells at least.
+const TRANSFORM: usize = 18;
 
 /// Values for an array at a path of so many names, and what follows them.
 fn elements_of(alloc: Global, names: u64, bytes: &[u8]) -> Result<(Values, &[u8]), ReadError>
@@ -85,7 +88,7 @@ pub fn transforms_of(alloc: Global, bytes: &[u8]) -> Result<(Transforms, &[u8]),
     ensures { Reads (many transform) (AreSpelled IsSpelledTransform) bytes.now (λ x. (x.0, x.1.now)) result }
 {
     let (count, start) = u64_of(bytes)?;
-    let mut transforms = Vec::new(alloc);
+    let mut transforms = Vec::with_capacity(alloc, room_for(count, start, TRANSFORM))?;
     let mut rest = start;
     for _ in 0..count {
         let (transform, next) = transform_of(alloc, rest)?;

@@ -1,11 +1,11 @@
 ghost use Rattle.std.specs.Prelude.{◌≡◌, ◌∷◌, ◌++◌, OnOk};
-ghost use Rattle.record_parts.specs.Spelling.{precondition, write, many, AreSpelled, IsSpelledPrecondition, IsSpelledWrite};
+ghost use Rattle.record_parts.specs.Spelling.{fields, precondition, write, many, AreSpelled, AreSpelledFields, IsSpelledPrecondition, IsSpelledWrite};
 ghost use Rattle.record_parts.specs.Reading.{Reads};
 
 use crate::fault::ReadError;
 use crate::fields::{DEPTH, fields_of};
 use crate::names::key_of;
-use crate::numbers::{byte_of, flag_of, u64_of};
+use crate::numbers::{byte_of, flag_of, room_for, u64_of};
 use crate::paths::{mask_of, put_mask};
 use crate::times::time_of;
 use crate::transforms::{put_transforms, transforms_of};
@@ -13,6 +13,7 @@ use crate::writing::{put_fields, put_key, put_number, put_time};
 use document_keys::NoMemory;
 use mutations::{Precondition, Write, Writes};
 use std::alloc::Global;
+use value_model::SharedFields;
 
 /// The byte of no precondition.
 const FREE: u8 = 0;
@@ -28,6 +29,9 @@ const UPDATE: u8 = 1;
 
 /// The byte that begins a delete.
 const DELETE: u8 = 2;
+
+/// How many bytes a write spells at least, with the two segments of its key.
+const WRITE: usize = 28;
 
 /// A precondition, and what follows it.
 fn precondition_of(bytes: &[u8]) -> Result<(Precondition, &[u8]), ReadError>
@@ -48,12 +52,20 @@ fn precondition_of(bytes: &[u8]) -> Result<(Precondition, &[u8]), ReadError>
     }
 }
 
+/// The fields of a write, and what follows them.
+fn shared_fields_of(alloc: Global, bytes: &[u8]) -> Result<(SharedFields, &[u8]), ReadError>
+    ensures { Reads fields (AreSpelledFields 20) bytes.now (λ x. (x.0, x.1.now)) result }
+{
+    let (content, rest) = fields_of(alloc, DEPTH, bytes)?;
+    Ok((SharedFields::new(alloc, content)?, rest))
+}
+
 /// What follows the byte of an update, and what follows that.
 fn update_of(alloc: Global, bytes: &[u8]) -> Result<(Write, &[u8]), ReadError>
     ensures { Reads write IsSpelledWrite (1 ∷ bytes.now) (λ x. (x.0, x.1.now)) result }
 {
     let (key, rest) = key_of(alloc, bytes)?;
-    let (fields, rest) = fields_of(alloc, DEPTH, rest)?;
+    let (fields, rest) = shared_fields_of(alloc, rest)?;
     let (mask, rest) = mask_of(alloc, rest)?;
     let (transforms, rest) = transforms_of(alloc, rest)?;
     let (condition, rest) = precondition_of(rest)?;
@@ -93,7 +105,7 @@ pub fn writes_of(alloc: Global, bytes: &[u8]) -> Result<(Writes, &[u8]), ReadErr
     ensures { Reads (many write) (AreSpelled IsSpelledWrite) bytes.now (λ x. (x.0, x.1.now)) result }
 {
     let (count, start) = u64_of(bytes)?;
-    let mut writes = Vec::new(alloc);
+    let mut writes = Vec::with_capacity(alloc, room_for(count, start, WRITE))?;
     let mut rest = start;
     for _ in 0..count {
         let (write, next) = write_of(alloc, rest)?;
@@ -132,7 +144,7 @@ fn put_write(out: &mut Vec<u8>, content: &Write) -> Result<(), NoMemory>
         } => {
             out.push(UPDATE)?;
             put_key(out, key)?;
-            put_fields(out, fields)?;
+            put_fields(out, fields.as_fields())?;
             put_mask(out, mask)?;
             put_transforms(out, transforms)?;
             put_precondition(out, condition)

@@ -1,11 +1,11 @@
 -- values of two kinds, which go by the ranks of their kinds
-use Rattle.std.proofs.Common.{◌≡◌, ◌≢◌, ℕ, ℤ, Bool, List, Vec, Global, refl, sym, subst}
+use Rattle.std.proofs.Common.{◌≡◌, ◌≢◌, ℕ, ℤ, Bool, List, Vec, Box, Global, refl, sym, subst}
 use Rattle.std.specs.Ordering.{nat_cmp}
 use Rattle.value_model.specs.declared.reference.RefName.{RefName}
 use Rattle.value_model.specs.declared.timestamp.Timestamp.{Timestamp}
 use Rattle.value_model.specs.declared.value.Kind.{Kind}
 use Rattle.value_model.specs.declared.value.Kind.TheVariants.{Null, Boolean, Integer, Time, Pending, Text, Bytes, Reference, Array, Map}
-use Rattle.value_model.specs.Data.{Data, Entries}
+use Rattle.value_model.specs.Data.{Data, Entries, reference}
 use Rattle.value_model.specs.Order.{rank}
 use Rattle.value_model.specs.View.{kind_data}
 use Rattle.value_model.proofs.Exact.{cmp}
@@ -62,12 +62,12 @@ bytes_apart x l other = refl
 pub not_bytes : (k l : Kind) (x : List ℕ) → k ≡ Bytes x → ((y : List ℕ) → l ≢ Bytes y) → GoesByRank k l
 not_bytes k l x is other = subst (λ z. GoesByRank z l) (sym is) (bytes_apart x l other)
 
-pub reference_apart : (x : RefName) (l : Kind) → ((y : RefName) → l ≢ Reference y) → GoesByRank (Reference x) l
+pub reference_apart : (x : RefName) (l : Kind) → ((y : Box RefName Global) → l ≢ Reference y) → cmp (reference x) (kind_data l) ≡ nat_cmp 7 (rank (kind_data l))
 reference_apart x (Reference y) other = absurd (other y refl)
 reference_apart x l other = refl
 
-pub not_reference : (k l : Kind) (x : RefName) → k ≡ Reference x → ((y : RefName) → l ≢ Reference y) → GoesByRank k l
-not_reference k l x is other = subst (λ z. GoesByRank z l) (sym is) (reference_apart x l other)
+pub not_reference : (k l : Kind) (x : Box RefName Global) → k ≡ Reference x → ((y : Box RefName Global) → l ≢ Reference y) → GoesByRank k l
+not_reference k l x is other = subst (λ z. GoesByRank z l) (sym is) (reference_apart x.value l other)
 
 array_apart : (x : Vec Data Global) (l : Kind) → ((y : Vec Data Global) → l ≢ Array y) → GoesByRank (Array x) l
 array_apart x (Array y) other = absurd (other y refl)

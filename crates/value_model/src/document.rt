@@ -2,6 +2,7 @@ ghost use Rattle.std.specs.Prelude.{◌≡◌, IfOk};
 ghost use Rattle.value_model.specs.Versions.{version_of};
 
 use crate::fields::Fields;
+use crate::shared_fields::SharedFields;
 use crate::timestamp::Timestamp;
 use document_keys::{NoMemory, Text};
 use std::alloc::Global;
@@ -9,7 +10,7 @@ use std::alloc::Global;
 /// A document: its fields, and the time of its last update at the backend, where that is known.
 #[derive(Debug, Drop)]
 pub struct Document {
-    pub fields: Fields,
+    pub fields: SharedFields,
     pub update_time: Option<Timestamp>,
 }
 
@@ -48,14 +49,14 @@ pub struct RpcStatus {
 }
 
 impl Document {
-    /// A copy.
+    /// A copy, which shares the fields.
     ///
     /// # Errors
     /// `NoMemory`
-    pub fn copy(&self, alloc: Global) -> Result<Document, NoMemory>
+    pub fn copy(&self) -> Result<Document, NoMemory>
         ensures { IfOk result (λ document. document ≡ self.now) }
     {
-        let fields = self.fields.copy(alloc)?;
+        let fields = self.fields.share()?;
         Ok(Document {
             fields,
             update_time: self.update_time,

@@ -75,6 +75,17 @@ impl Fields {
         }
     }
 
+    /// No fields, with room for so many.
+    ///
+    /// # Errors
+    /// `NoMemory`
+    pub fn with_capacity(alloc: Global, room: usize) -> Result<Fields, NoMemory>
+        ensures { IfOk result (λ fields. fields ≡ []) }
+    {
+        let entries = Vec::with_capacity(alloc, room)?;
+        Ok(Fields { entries })
+    }
+
     /// These fields; `None` exactly where their names aren't strictly ascending or one isn't a field's name.
     pub fn from_entries(entries: Vec<Field>) -> Option<Fields>
         ensures some { IfSome result (λ fields. (fields ≡ fields_data entries.items) × AreFields fields) }

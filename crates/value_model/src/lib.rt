@@ -20,6 +20,7 @@ mod nesting;
 mod order;
 mod printing;
 mod reference;
+mod shared_fields;
 mod target_ids;
 mod timestamp;
 mod value;
@@ -38,6 +39,7 @@ pub use message::{
 };
 pub use printing::times_read_back;
 pub use reference::{NameRef, RefName};
+pub use shared_fields::SharedFields;
 pub use target_ids::TargetIds;
 pub use timestamp::Timestamp;
 pub use value::{Kind, Value};

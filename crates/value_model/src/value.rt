@@ -29,8 +29,8 @@ pub enum Kind {
     Pending(Timestamp),
     Text(Text),
     Bytes(Bytes),
-    /// The name of a document.
-    Reference(RefName),
+    /// The name of a document, in a box since it is larger than what other kinds hold.
+    Reference(Box<RefName>),
     Array(Vec<Value>),
     Map(Fields),
 }
@@ -101,7 +101,7 @@ impl Value {
             Kind::Pending(time) => Kind::Pending(*time),
             Kind::Text(text) => Kind::Text(text.copy(alloc)?),
             Kind::Bytes(bytes) => Kind::Bytes(bytes.copy(alloc)?),
-            Kind::Reference(name) => Kind::Reference(name.copy(alloc)?),
+            Kind::Reference(name) => Kind::Reference(Box::new(alloc, name.copy(alloc)?)?),
             Kind::Array(values) => Kind::Array(copy_values(alloc, values)?),
             Kind::Map(fields) => Kind::Map(fields.copy(alloc)?),
         };

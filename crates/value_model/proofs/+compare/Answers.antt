@@ -26,7 +26,7 @@ pub value::Value::compare-returns-in-Bytes-Bytes : goal.value::Value::compare-re
 value::Value::compare-returns-in-Bytes-Bytes t c = ranks_values c.cmp-in-Bytes-Bytes.result c.args.self.now c.args.other.now (rw (← c.self.view_is, ← c.other.view_is, c.in-Bytes-Bytes.is-0, c.in-Bytes-Bytes.is-1, ← c.as_slice.ensures, ← c.as_slice-in-Bytes-Bytes.ensures) c.cmp-in-Bytes-Bytes.ensures)
 
 pub value::Value::compare-returns-in-Reference-Reference : goal.value::Value::compare-returns-in-Reference-Reference
-value::Value::compare-returns-in-Reference-Reference t c = ranks_values c.compare.result c.args.self.now c.args.other.now (rw (← c.self.view_is, ← c.other.view_is, c.in-Reference-Reference.is-0, c.in-Reference-Reference.is-1) (ranked_paths c.compare.result c.in-Reference-Reference.a c.in-Reference-Reference.b c.compare.ensures))
+value::Value::compare-returns-in-Reference-Reference t c = ranks_values c.compare.result c.args.self.now c.args.other.now (rw (← c.self.view_is, ← c.other.view_is, c.in-Reference-Reference.is-0, c.in-Reference-Reference.is-1, ← c.deref.ensures, ← c.deref-in-Reference-Reference.ensures) (ranked_paths c.compare.result c.deref.result.now c.deref-in-Reference-Reference.result.now c.compare.ensures))
 
 pub value::Value::compare-returns-in_default : goal.value::Value::compare-returns-in_default
 value::Value::compare-returns-in_default t c =

@@ -101,7 +101,7 @@ loop-handled-init g c = record {
   live = c.requires.live;
   standing = c.requires.standing;
   stored = c.requires.stored;
-  serving = λ tells told s stands. served_none _ c.args.client (g.H.Host.view c.args.host.now) refl refl c.requires.live.store (c.requires.stored told) stands;
+  serving = λ tells told s stands. served_none _ c.args.client.now (g.H.Host.view c.args.host.now) refl refl c.requires.live.store (c.requires.stored told) stands;
   counts = record { disk = refl; sink = refl };
   source = refl;
 }

@@ -6,7 +6,7 @@ use Rattle.document_keys.proofs.path.read_segments.Goals as goal
 
 pub returns-in_err-read-clause-fault : goal.returns-in_err-read-clause-fault
 returns-in_err-read-clause-fault c =
-    let p = err_from_is_err_and c.from_residual.result c.from_residual.ensures.1 in
+    let p = err_from_is_err_and c.from_residual-in_err-read.result c.from_residual-in_err-read.ensures.1 in
     let cut = split_parts 47 c.loop-part.rest.now c.split_once.result c.split_once.ensures.cases (lit< tt) in
     let here = rw c.in-Some.is at cut in
     let parts = cut_part c.args.path.now c.loop-part.rest.now _ _ _ c.loop-part.invariant.1 here.0 here.1 in

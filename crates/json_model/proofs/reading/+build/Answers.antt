@@ -48,7 +48,7 @@ pub build_map-returns-clause-storable : goal.build_map-returns-clause-storable
 build_map-returns-clause-storable t c = map_stored _ _ c.map-2.ensures c.in_ok-fields.ensures.storable
 
 pub clean_fields-loop-key-init : goal.clean_fields-loop-key-init
-clean_fields-loop-key-init t c = (tt, tt, rw c.new-fields.ensures no_member, rw c.new-fields.ensures (All-nil IsUtf8), rw c.new-fields.ensures tt)
+clean_fields-loop-key-init t c = (tt, tt, rw c.in_ok-fields.ensures no_member, rw c.in_ok-fields.ensures (All-nil IsUtf8), rw c.in_ok-fields.ensures tt)
 
 pub clean_fields-loop-key-preserved-then-is_null : goal.clean_fields-loop-key-preserved-then-is_null
 clean_fields-loop-key-preserved-then-is_null t c = (
@@ -106,7 +106,7 @@ clean_value-returns-clause-deep t c =
     (λ v spells. value_within _ _ v c.requires (a_value _ _ _ _ v c.clean_object-members.ensures.is c.clean_choice.ensures.only (subst (λ p. SpellsKind p (view c.clean_choice.result.1.now) v) c.value_member.ensures spells))) c.build_kind.ensures.found
 
 pub clean_values-loop-item-init : goal.clean_values-loop-item-init
-clean_values-loop-item-init t c = no_items _ c.new-values.ensures.items
+clean_values-loop-item-init t c = no_items _ c.in_ok-values.ensures.items
 
 pub clean_values-clean_value-requires : goal.clean_values-clean_value-requires
 clean_values-clean_value-requires t c =

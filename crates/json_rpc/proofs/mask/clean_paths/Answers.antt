@@ -9,7 +9,7 @@ use Rattle.json_model.proofs.Forms.{none_spelled, more_spelled, all_spelled}
 use Rattle.json_rpc.proofs.mask.clean_paths.Goals as goal
 
 pub loop-item-init : goal.loop-item-init
-loop-item-init c = none_spelled SpellsPathTree IsStorablePath _ c.new-paths.ensures.items
+loop-item-init c = none_spelled SpellsPathTree IsStorablePath _ c.in_ok-paths.ensures.items
 
 pub clean_path-requires : goal.clean_path-requires
 clean_path-requires c =

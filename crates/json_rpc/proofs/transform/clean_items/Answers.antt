@@ -9,7 +9,7 @@ use Rattle.json_rpc.specs.Storable.{IsStorableTransform}
 use Rattle.json_rpc.proofs.transform.clean_items.Goals as goal
 
 pub loop-item-init : goal.loop-item-init
-loop-item-init c = none_spelled SpellsTransform IsStorableTransform _ c.new-transforms.ensures.items
+loop-item-init c = none_spelled SpellsTransform IsStorableTransform _ c.in_ok-transforms.ensures.items
 
 pub clean_transform-requires : goal.clean_transform-requires
 clean_transform-requires c =

@@ -9,7 +9,7 @@ use Rattle.json_rpc.specs.Storable.{IsStorableWrite}
 use Rattle.json_rpc.proofs.write.clean_writes.Goals as goal
 
 pub loop-item-init : goal.loop-item-init
-loop-item-init c = none_spelled (SpellsWrite c.args.setting.now.root) IsStorableWrite _ c.new-writes.ensures.items
+loop-item-init c = none_spelled (SpellsWrite c.args.setting.now.root) IsStorableWrite _ c.in_ok-writes.ensures.items
 
 pub clean_write-requires : goal.clean_write-requires
 clean_write-requires c =

@@ -13,4 +13,4 @@ returns-in_err-name c = λ limit.
     rw (p.1, p.2) (fails_also c.in_err-name.field-0.0 (kind_none (7 ∷ []) kind.reference document_name (reference_kind limit) c.args.bytes.now) c.in_err-name.ensures)
 
 pub returns : goal.returns
-returns c = λ limit. (kind_read (7 ∷ []) kind.reference document_name (reference_kind limit) c.args.bytes.now c.in_ok-name.name c.in_ok-name.rest.now c.in_ok-name.ensures)
+returns c = λ limit. rw c.in_ok-new.ensures.ok (kind_read (7 ∷ []) kind.reference document_name (reference_kind limit) c.args.bytes.now c.in_ok-name.name c.in_ok-name.rest.now c.in_ok-name.ensures)

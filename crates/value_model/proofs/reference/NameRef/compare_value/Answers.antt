@@ -7,7 +7,7 @@ use Rattle.value_model.proofs.Exact.{ranks_values, ranked_paths}
 use Rattle.value_model.proofs.reference.NameRef.compare_value.Goals as goal
 
 pub returns-in-Reference : goal.returns-in-Reference
-returns-in-Reference c = ranks_values c.compare.result (reference (lent_name c.args.self.now)) c.args.other.now (rw (← c.other.view_is, c.in-Reference.is) (ranked_paths c.compare.result (lent_name c.args.self.now) c.in-Reference.name c.compare.ensures))
+returns-in-Reference c = ranks_values c.compare.result (reference (lent_name c.args.self.now)) c.args.other.now (rw (← c.other.view_is, c.in-Reference.is, ← c.deref.ensures) (ranked_paths c.compare.result (lent_name c.args.self.now) c.deref.result.now c.compare.ensures))
 
 pub returns-in_default : goal.returns-in_default
 returns-in_default c =
