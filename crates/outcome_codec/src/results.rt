@@ -9,7 +9,8 @@ ghost use Rattle.outcome_codec.specs.Spelling.{result as spelled, IsSpelledResul
 use document_keys::NoMemory;
 use mutations::{Values, WriteResult, WriteResults};
 use record_parts::{
-    DEPTH, ReadError, byte_of, put_number, put_time, put_value, room_for, time_of, u64_of, values_of,
+    DEPTH, ReadError, byte_of, put_number, put_time, put_value, room_for, time_of, u64_of,
+    values_of,
 };
 use std::alloc::Global;
 use value_model::{Timestamp, Value};

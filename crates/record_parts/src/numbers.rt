@@ -57,8 +57,8 @@ pub fn u32_of(bytes: &[u8]) -> Result<(u32, &[u8]), ReadError>
     }
 }
 
-/// How much room so many elements take, of which each spells at least so many of the bytes. It is never more than the bytes can
-/// spell: a damaged count, which may be any number, then asks for no memory.
+/// For how many elements to take room, where there are to be so many and each spells at least so many of the bytes: for no more
+/// than the bytes can spell, since a damaged count may be any number.
 pub fn room_for(count: u64, bytes: &[u8], least: usize) -> usize
     requires { 0 < least }
     ensures { result ≡ min count (length bytes.now / least) }
