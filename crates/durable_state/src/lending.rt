@@ -74,10 +74,7 @@ fn laid<'a>(key: &'a DocumentKey, document: &'a Option<Document>) -> Option<DocR
 }
 
 /// The document of the entry of a key that no pending write names.
-fn plain<'a>(
-    key: &'a DocumentKey,
-    sealed: Option<(&'a Entry, &'a Seal)>,
-) -> Option<DocRef<'a>>
+fn plain<'a>(key: &'a DocumentKey, sealed: Option<(&'a Entry, &'a Seal)>) -> Option<DocRef<'a>>
     ensures document { option_map lent result
         ≡ known_by (option_map (λ pair. (pair.0.now, pair.1.now)) sealed.entry) }
     ensures key { IfSome result (λ d. d.key.now ≡ key.now) }

@@ -198,7 +198,10 @@ impl Overlays {
         ensures { lent_document result ≡ shown self.now key.now (known entry.entry) }
     {
         match self.slots.get(key) {
-            Some(Slot::Laid(Some(document))) => Some((document.fields.as_fields(), document.update_time)),
+            Some(Slot::Laid(Some(document))) => Some((
+                document.fields.as_fields(),
+                document.update_time,
+            )),
             Some(Slot::Laid(None)) => None,
             _ => lent(entry),
         }
