@@ -11,7 +11,7 @@ ghost use Rattle.line_printer.specs.Lines.{line_of, count, ok_tree, listening_tr
 ghost use Rattle.line_printer.specs.Trees.{two, three};
 
 use crate::line::{begin_line, end_line};
-use crate::members::put_count;
+use crate::pieces::put_count;
 use document_keys::NoMemory;
 use json::Writer;
 use std::alloc::{AllocError, Global};

@@ -9,7 +9,7 @@ ghost use Rattle.line_printer.specs.Lines.{line_of, existing, document_in, docum
 ghost use Rattle.line_printer.specs.Trees.{three};
 
 use crate::line::{begin_line, end_line};
-use crate::members::put_flag;
+use crate::pieces::put_flag;
 use document_keys::{Database, DocumentKey, NoMemory};
 use json::Writer;
 use json_model::state_text;

@@ -11,7 +11,7 @@ mod answer;
 mod document;
 mod laws;
 mod line;
-mod members;
+mod pieces;
 mod refusal;
 mod snapshot;
 mod watching;

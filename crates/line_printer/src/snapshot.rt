@@ -10,7 +10,7 @@ ghost use Rattle.line_printer.specs.Lines.{line_of, count, kind_text as kind_tex
 ghost use Rattle.line_printer.specs.Trees.{two};
 
 use crate::line::{begin_line, end_line};
-use crate::members::{put_count, put_flag};
+use crate::pieces::{put_count, put_flag};
 use document_keys::{Database, NoMemory};
 use json::Writer;
 use json_text::{put_document, put_text_member};
