@@ -74,6 +74,21 @@ fn clean_given_fields(
     }
 }
 
+/// The same, for the write and the documents that it makes to share.
+fn clean_shared_fields(
+    alloc: Global,
+    setting: &Setting<'_>,
+    members: &Map<String, Json>,
+) -> Result<SharedFields, NoMemory>
+    requires { AreClean setting.now objects.Update (members_view members.now.entries) }
+    ensures fields { IfOk result (λ fields. SpellsFieldsIn (given (codes "fields") (members_view members.now.entries)) fields) }
+    ensures storable { IfOk result AreStorable }
+    ensures deep { IfOk result (λ fields. entries_depth fields ≤ max_nesting) }
+{
+    let fields = clean_given_fields(alloc, setting, members)?;
+    SharedFields::new(alloc, fields)
+}
+
 /// An update, with what stands beside it.
 #[tactic(auto, unfolding(json_model::specs::Places::write_rows))]
 fn clean_update(
@@ -90,7 +105,7 @@ fn clean_update(
 {
     let inside = clean_object(setting, Object::Update, update);
     let key = clean_key(alloc, setting, inside)?;
-    let fields = SharedFields::new(alloc, clean_given_fields(alloc, setting, inside)?)?;
+    let fields = clean_shared_fields(alloc, setting, inside)?;
     let mask = clean_member(setting, Object::Write, members, "updateMask");
     let mask = clean_mask(alloc, setting, mask)?;
     let transforms = clean_member(setting, Object::Write, members, "updateTransforms");
