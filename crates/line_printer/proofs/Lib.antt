@@ -1,3 +1,4 @@
+pub mod Begun
 pub mod Answered
 pub mod Breaks
 pub mod Documents

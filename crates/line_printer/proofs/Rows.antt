@@ -1,9 +1,8 @@
 -- The documents of a snapshot: what is printed of what the store lends is printed of the rows.
-use Rattle.std.proofs.Common.{◌≡◌, ◌∙◌, ℕ, ◌+◌, List, [], ◌∷◌, ◌++◌, take, codes, Option, refl, sym, ap}
+use Rattle.std.proofs.Common.{◌≡◌, ◌∙◌, ℕ, suc, ◌+◌, List, [], ◌∷◌, ◌++◌, drop, codes, Option, refl, sym, ap, add-one}
+use Rattle.std.proofs.Math.Seq.{drop-cons}
 use Rattle.std.proofs.lemmas.Option.{slice_get_within, get_or_from_slice_get}
 use Rattle.serde_json.specs.Data as json
-use Rattle.serde_json.specs.View.{view, items_view}
-use Rattle.serde_json.specs.declared.value.Value.{Value}
 use Rattle.document_keys.specs.Names.{Root, name_text}
 use Rattle.value_model.specs.Data as kind
 use Rattle.value_model.specs.Data.{Data, Items, Members, Entries, members_of}
@@ -12,9 +11,9 @@ use Rattle.value_model.specs.declared.timestamp.Timestamp.{Timestamp}
 use Rattle.json_model.specs.Forms.{printed_each}
 use Rattle.json_model.specs.Printed.{printed_value, printed_items, printed_members, values_tree, fields_tree, with_time, document_tree as body_tree, printed_document, state_text}
 use Rattle.json_model.specs.Trees.{one}
-use Rattle.json_model.proofs.PrintedLists.{printed_more}
+use Rattle.json_text.specs.Puts.{tokens_of, tokens_of_items}
 use Rattle.views.specs.Printed.{printed_value as shown_value, printed_items as shown_items, printed_members as shown_members, printed_fields as shown_fields, printed, stored_of}
-use Rattle.views.specs.Row.{row}
+use Rattle.views.specs.Row.{Row, row}
 use Rattle.views.specs.Snapshot.{Lent, LendsAt}
 use Rattle.line_printer.specs.Lines.{row_tree}
 
@@ -53,11 +52,13 @@ same_body name (field ∷ fields) at how =
 row_printed : (root : Root) (document : DocRef) → printed_document root document.key.now document.fields.now document.update_time document.state ≡ row_tree root (row document.key.now (printed (stored_of document)))
 row_printed root document = sym (same_body (name_text root document.key.now) document.fields.now document.update_time (state_text document.state))
 
--- one row more
-pub rows_more : (root : Root) (lent : Lent) (i : ℕ) (document : DocRef) (old new : List Value) (tree : Value) → LendsAt lent i document → new ≡ old ++ tree ∷ []
-    → view tree ≡ printed_document root document.key.now document.fields.now document.update_time document.state
-    → items_view old ≡ printed_each (row_tree root) (take i lent.raised.rows) → items_view new ≡ printed_each (row_tree root) (take (i + 1) lent.raised.rows)
-rows_more root lent i document old new tree lends pushed is so_far =
+-- the tokens of the rows from an index on: of the lent document, and of those behind it
+pub rows_left : (root : Root) (lent : Lent) (i : ℕ) (document : DocRef) → LendsAt lent i document
+    → tokens_of_items (printed_each (row_tree root) (drop i lent.raised.rows))
+    ≡ tokens_of (printed_document root document.key.now document.fields.now document.update_time document.state) ++ tokens_of_items (printed_each (row_tree root) (drop (i + 1) lent.raised.rows))
+rows_left root lent i document lends =
     let r = row document.key.now (printed (stored_of document)) in
-    printed_more (row_tree root) old new tree lent.raised.rows i r (slice_get_within lent.raised.rows i r lends.shown) (sym (get_or_from_slice_get lent.raised.rows i r r lends.shown)) pushed
-    (is ∙ row_printed root document) so_far
+    let rows = lent.raised.rows in
+    let cut = drop-cons rows i r (slice_get_within rows i r lends.shown) ∙ ap (λ (x : Row). x ∷ drop (suc i) rows) (get_or_from_slice_get rows i r r lends.shown) ∙ ap (λ n. r ∷ drop n rows) (sym (add-one i)) in
+    ap (λ rs. tokens_of_items (printed_each (row_tree root) rs)) cut
+    ∙ ap (λ d. tokens_of d ++ tokens_of_items (printed_each (row_tree root) (drop (i + 1) rows))) (sym (row_printed root document))

@@ -1,5 +1,5 @@
--- Snapshots: what they are printed of, that they have no floats, what they are read as, and what they report.
-use Rattle.std.proofs.Common.{◌≡◌, ◌∙◌, inl, inr, ℕ, ◌<◌, ◌≤◌, ◌^◌, Bool, false, List, [], ◌∷◌, codes, Option, Some, None, refl, sym, ap, arith}
+-- Snapshots: what they are printed of, what they are read as, and what they report.
+use Rattle.std.proofs.Common.{◌≡◌, ◌∙◌, inl, inr, ℕ, ◌<◌, ◌≤◌, ◌^◌, Bool, List, [], ◌∷◌, codes, Option, Some, None, refl, sym, ap, arith}
 use Rattle.std.specs.Prelude.{option_and_then, option_map}
 use Rattle.std.specs.List.{All}
 use Rattle.std.proofs.lemmas.List.Elements.{All-head, All-tail}
@@ -9,13 +9,12 @@ use Rattle.json.proofs.Found.{not_found, Some_inj}
 use Rattle.json.proofs.Printed.Decimals.{IsNumber-decimal}
 use Rattle.serde_json.specs.Data.{Data, boolean, number, array, object, Items, Members, no_members, put}
 use Rattle.serde_json.specs.Read.{of_json, of_items, of_members}
-use Rattle.serde_json.specs.Written.{has_float, outline, items_outline, members_outline, compact_text}
+use Rattle.serde_json.specs.Written.{outline, items_outline, members_outline, compact_text}
 use Rattle.serde_json.proofs.Numbers.{number_of-decimal}
 use Rattle.document_keys.specs.Names.{Root, name_text}
 use Rattle.value_model.specs.declared.timestamp.Timestamp.{Timestamp}
 use Rattle.json_model.specs.Forms.{before, present, printed_each}
 use Rattle.json_model.specs.Printed.{state_text}
-use Rattle.json_model.proofs.Digits.{neither, each_digits, option_digits, rows_digits, document_digits}
 use Rattle.views.specs.Row.{Row}
 use Rattle.views.specs.declared.change.Change.{Change}
 use Rattle.views.specs.declared.raised.Raised.{Raised}
@@ -23,19 +22,6 @@ use Rattle.line_printer.specs.Lines.{count, change_tree, row_tree, time_tree, sn
 use Rattle.line_printer.specs.Reported.{IsReporting, ReportsWithin, commit_in, IsShallow, SnapshotReports}
 use Rattle.line_printer.proofs.Documents.{There, item_there, body_numbers, body_flat, body_there}
 use Rattle.line_printer.proofs.Parsed.{IsLoud, HasCommit, within_commit, reports_commit}
-
--- ---- no floats
-
-row_digits : (root : Root) (row : Row) → has_float (row_tree root row) ≡ false
-row_digits root row = document_digits root row.key row.document.fields row.document.update_time row.document.state
-
-members_digits : (root : Root) (id commit : ℕ) (read_time : Option Timestamp) (raised : Raised) → has_float (object (present (snapshot_members root id commit read_time raised))) ≡ false
-members_digits root id commit read_time raised =
-    rows_digits (snapshot_members root id commit read_time raised)
-    (each_digits (change_tree root) (λ change. refl) raised.changes, (refl, (each_digits (row_tree root) (row_digits root) raised.rows, (refl, (refl, (option_digits time_tree (λ time. refl) read_time, tt))))))
-
-pub snapshot_digits : (root : Root) (id commit : ℕ) (read_time : Option Timestamp) (raised : Raised) → has_float (snapshot_tree root id commit read_time raised) ≡ false
-snapshot_digits root id commit read_time raised = neither _ false (members_digits root id commit read_time raised) refl
 
 -- ---- numbers
 

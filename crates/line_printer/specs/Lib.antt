@@ -1,3 +1,4 @@
+pub mod Begun
 pub mod Lines
 pub mod Reported
 pub mod Trees

@@ -1,19 +1,29 @@
 //! The answers of writes, listens and unlistens.
 
-ghost use Rattle.std.specs.Prelude.{◌≡◌, IfOk};
+ghost use Rattle.std.specs.Prelude.{◌≡◌, ◌∷◌, [], codes, IfOk, OnOk};
 ghost use Rattle.std.specs.String.{string_bytes};
-ghost use Rattle.serde_json.specs.View.{view};
-ghost use Rattle.line_printer.specs.Lines.{line_of, ok_tree, listening_tree, unlistened_tree};
+ghost use Rattle.json.specs.Token.{key, number as number_token};
+ghost use Rattle.serde_json.specs.Data.{number};
+ghost use Rattle.serde_json.specs.Find.{of_integer};
+ghost use Rattle.serde_json.specs.Written.{number_text};
+ghost use Rattle.json_text.specs.Puts.{Adds, Puts};
+ghost use Rattle.line_printer.specs.Lines.{line_of, count, ok_tree, listening_tree, unlistened_tree};
+ghost use Rattle.line_printer.specs.Trees.{two, three};
 
-use crate::line::print_line;
+use crate::line::{begin_line, end_line};
+use crate::pieces::put_count;
 use document_keys::NoMemory;
-use serde_json::{Value as Json, json};
+use json::Writer;
 use std::alloc::{AllocError, Global};
 
-fn wrote_json(alloc: Global, batch: u64, commit: u64) -> Result<Json, AllocError>
-    ensures { IfOk result (λ json. view json ≡ ok_tree batch commit) }
+fn put_wrote(out: &mut Writer, batch: u64, commit: u64) -> Result<(), AllocError>
+    ensures { Puts result out.old out.new
+        (two (codes "batch") (count batch) (codes "commit") (count commit)) }
 {
-    json!(in alloc; {"ok": {"batch": batch, "commit": commit}})
+    out.begin_object()?;
+    put_count(out, "batch", batch)?;
+    put_count(out, "commit", commit)?;
+    out.end_object()
 }
 
 /// The answer of a write: the ids of its batch and of its commit.
@@ -23,14 +33,29 @@ fn wrote_json(alloc: Global, batch: u64, commit: u64) -> Result<Json, AllocError
 pub fn print_wrote(alloc: Global, batch: u64, commit: u64) -> Result<String, NoMemory>
     ensures { IfOk result (λ line. string_bytes line ≡ line_of (ok_tree batch commit)) }
 {
-    let json = wrote_json(alloc, batch, commit)?;
-    print_line(alloc, &json)
+    let mut out = begin_line(alloc, "ok")?;
+    put_wrote(&mut out, batch, commit)?;
+    end_line(out)
 }
 
-fn listening_json(alloc: Global, id: u32, target: i32, commit: u64) -> Result<Json, AllocError>
-    ensures { IfOk result (λ json. view json ≡ listening_tree id target commit) }
+fn put_target(out: &mut Writer, target: i32) -> Result<(), AllocError>
+    ensures { OnOk result (Adds out.old out.new
+        (key (codes "targetId") ∷ number_token (number_text (of_integer target)) ∷ [])) }
 {
-    json!(in alloc; {"ok": {"commit": commit, "id": id, "targetId": target}})
+    out.key("targetId")?;
+    out.i64(target as i64)
+}
+
+fn put_listening(out: &mut Writer, id: u32, target: i32, commit: u64) -> Result<(), AllocError>
+    ensures { Puts result out.old out.new
+        (three (codes "commit") (count commit) (codes "id") (count id)
+        (codes "targetId") (number (of_integer target))) }
+{
+    out.begin_object()?;
+    put_count(out, "commit", commit)?;
+    put_count(out, "id", id as u64)?;
+    put_target(out, target)?;
+    out.end_object()
 }
 
 /// The answer of a listen: the id of the listener and the one of its target, and the store's number.
@@ -40,14 +65,19 @@ fn listening_json(alloc: Global, id: u32, target: i32, commit: u64) -> Result<Js
 pub fn print_listening(alloc: Global, id: u32, target: i32, commit: u64) -> Result<String, NoMemory>
     ensures { IfOk result (λ line. string_bytes line ≡ line_of (listening_tree id target commit)) }
 {
-    let json = listening_json(alloc, id, target, commit)?;
-    print_line(alloc, &json)
+    let mut out = begin_line(alloc, "ok")?;
+    put_listening(&mut out, id, target, commit)?;
+    end_line(out)
 }
 
-fn unlistened_json(alloc: Global, id: u32, commit: u64) -> Result<Json, AllocError>
-    ensures { IfOk result (λ json. view json ≡ unlistened_tree id commit) }
+fn put_unlistened(out: &mut Writer, id: u32, commit: u64) -> Result<(), AllocError>
+    ensures { Puts result out.old out.new
+        (two (codes "commit") (count commit) (codes "id") (count id)) }
 {
-    json!(in alloc; {"ok": {"commit": commit, "id": id}})
+    out.begin_object()?;
+    put_count(out, "commit", commit)?;
+    put_count(out, "id", id as u64)?;
+    out.end_object()
 }
 
 /// The answer of an unlisten: the id of the listener, and the store's number.
@@ -57,6 +87,7 @@ fn unlistened_json(alloc: Global, id: u32, commit: u64) -> Result<Json, AllocErr
 pub fn print_unlistened(alloc: Global, id: u32, commit: u64) -> Result<String, NoMemory>
     ensures { IfOk result (λ line. string_bytes line ≡ line_of (unlistened_tree id commit)) }
 {
-    let json = unlistened_json(alloc, id, commit)?;
-    print_line(alloc, &json)
+    let mut out = begin_line(alloc, "ok")?;
+    put_unlistened(&mut out, id, commit)?;
+    end_line(out)
 }

@@ -2,36 +2,34 @@
 
 ghost use Rattle.std.specs.Prelude.{◌≡◌, codes, false, Some, None, IfOk};
 ghost use Rattle.std.specs.String.{string_bytes};
-ghost use Rattle.serde_json.specs.View.{view};
-ghost use Rattle.serde_json.specs.Written.{has_float};
+ghost use Rattle.serde_json.specs.Data.{boolean, string};
 ghost use Rattle.json_model.specs.Printed.{printed_document};
-ghost use Rattle.line_printer.specs.Lines.{line_of, missing_tree, existing, document_in, document_tree};
-ghost use Rattle.line_printer.specs.Trees.{one};
+ghost use Rattle.json_text.specs.Puts.{Puts};
+ghost use Rattle.line_printer.specs.Lines.{line_of, existing, document_in, document_tree};
+ghost use Rattle.line_printer.specs.Trees.{three};
 
-use crate::line::print_line;
+use crate::line::{begin_line, end_line};
+use crate::pieces::put_flag;
 use document_keys::{Database, DocumentKey, NoMemory};
-use json_model::{print_document, put_member, state_text};
-use serde_json::{Value as Json, json};
+use json::Writer;
+use json_model::state_text;
+use json_text::{put_members, put_text_member};
 use std::alloc::{AllocError, Global};
 use value_model::{DocRef, DocState};
 
-fn document_json(alloc: Global, members: Json) -> Result<Json, AllocError>
-    ensures { IfOk result (λ json. view json ≡ one (codes "document") (view members)) }
-{
-    json!(in alloc; {"document": members})
-}
-
-/// The members of a document that is there.
-fn existing_json(alloc: Global, root: &Database, doc: DocRef<'_>) -> Result<Json, NoMemory>
-    ensures tree { IfOk result (λ json. view json ≡ existing (printed_document root.now
+/// Puts a document that is there.
+fn put_found(
+    alloc: Global,
+    out: &mut Writer,
+    root: &Database,
+    doc: DocRef<'_>,
+) -> Result<(), NoMemory>
+    ensures { Puts result out.old out.new (existing (printed_document root.now
         doc.entry.key.now doc.entry.fields.now doc.entry.update_time doc.entry.state)) }
-    ensures digits { IfOk result (λ json. has_float (view json) ≡ false) }
 {
-    let Json::Object(mut members) = print_document(alloc, root, doc)? else {
-        unreachable!();
-    };
-    put_member(alloc, &mut members, "exists", Json::Bool(true))?;
-    Ok(Json::Object(members))
+    out.begin_object()?;
+    put_flag(out, "exists", true)?;
+    put_members(alloc, out, root, doc)
 }
 
 /// A document that is there.
@@ -42,14 +40,22 @@ pub fn print_found(alloc: Global, root: &Database, doc: DocRef<'_>) -> Result<St
     ensures { IfOk result (λ line. string_bytes line ≡ line_of
         (document_tree root.now doc.entry.key.now (Some (document_in doc.entry)) doc.entry.state)) }
 {
-    let json = document_json(alloc, existing_json(alloc, root, doc)?)?;
-    print_line(alloc, &json)
+    let mut out = begin_line(alloc, "document")?;
+    put_found(alloc, &mut out, root, doc)?;
+    end_line(out)
 }
 
-fn missing_json(alloc: Global, name: &str, state: &str) -> Result<Json, AllocError>
-    ensures { IfOk result (λ json. view json ≡ missing_tree name.now state.now) }
+/// Puts a document that isn't there.
+fn put_missing(out: &mut Writer, name: &str, state: &str) -> Result<(), AllocError>
+    ensures { Puts result out.old out.new
+        (three (codes "exists") (boolean false) (codes "name") (string name.now)
+        (codes "state") (string state.now)) }
 {
-    json!(in alloc; {"document": {"exists": false, "name": name, "state": state}})
+    out.begin_object()?;
+    put_flag(out, "exists", false)?;
+    put_text_member(out, "name", name)?;
+    put_text_member(out, "state", state)?;
+    out.end_object()
 }
 
 /// A document that isn't there, with how its key stands to the backend.
@@ -66,6 +72,7 @@ pub fn print_missing(
         ≡ line_of (document_tree root.now key.now None state)) }
 {
     let name = key.print(alloc, root)?;
-    let json = missing_json(alloc, name.as_str(), state_text(state))?;
-    print_line(alloc, &json)
+    let mut out = begin_line(alloc, "document")?;
+    put_missing(&mut out, name.as_str(), state_text(state))?;
+    end_line(out)
 }

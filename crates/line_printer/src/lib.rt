@@ -2,14 +2,16 @@
 //!
 //! One function prints each line, from its parts: the answers of a write, of a listen and of an unlisten (`answer`), a document
 //! (`document`), a snapshot of a listener (`snapshot`), the requests and results of the stream of writes (`writing`), the requests and
-//! errors of the stream of listeners (`watching`) and the refusals (`refusal`). `specs/Lines.antt` has the tree of each line, and
-//! `line_of` its bytes. `specs/Reported.antt` says which numbers of commits an output reports.
+//! errors of the stream of listeners (`watching`) and the refusals (`refusal`). Answers, documents and snapshots are put piece by
+//! piece, the others by way of a tree (`line`). `specs/Lines.antt` has the tree of each line, and `line_of` its bytes.
+//! `specs/Reported.antt` says which numbers of commits an output reports.
 #![tactic(auto)]
 
 mod answer;
 mod document;
 mod laws;
 mod line;
+mod pieces;
 mod refusal;
 mod snapshot;
 mod watching;

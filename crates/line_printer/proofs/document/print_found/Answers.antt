@@ -1,0 +1,5 @@
+use Rattle.line_printer.proofs.Begun.{ended}
+use Rattle.line_printer.proofs.document.print_found.Goals as goal
+
+pub returns : goal.returns
+returns c = ended _ _ _ _ _ c.in_ok-out.ensures c.in_ok-put_found.ensures c.end_line.ensures
