@@ -17,13 +17,16 @@ use std::fs::Files;
 use std::io::BufReader;
 use std::process::ExitCode;
 
+/// How many bytes of the standard input are read at once: as many as a pipe holds.
+const READ_AHEAD: usize = 65536;
+
 /// Runs what the words ask for over the folder that they name, the standard input and the standard output.
 fn run<R: Files + Print + Input + Env + AllocGlobal + Clone + Drop>(rt: &R) -> Status {
     let words = match words_of(rt) {
         Ok(words) => words,
         Err(status) => return status,
     };
-    let Ok(reader) = BufReader::new(rt.alloc(), rt.reader()) else {
+    let Ok(reader) = BufReader::with_capacity(rt.alloc(), READ_AHEAD, rt.reader()) else {
         return Status::NoMemory;
     };
     let handle: Result<R, _> = rt.clone();
