@@ -32,9 +32,9 @@ returns-in-Err-NotAStore-clause-not_a_store g c = λ is. record {
 
 pub returns-clause-run : goal.returns-clause-run
 returns-clause-run g c = λ tells told s finds.
-    let ran = c.serve.ensures.run tells told s (opened_stands c.in-Ok.ensures.stands (c.in-Ok.ensures.found told) finds) in
+    let ran = c.serve-status.ensures.run tells told s (opened_stands c.in-Ok.ensures.stands (c.in-Ok.ensures.found told) finds) in
     ran_from g.H.Host.view (λ h o x left. g.met.H.Host.only_now h o x told left) _ _ _ refl c.in-Ok.ensures.out.out finds (c.in-Ok.ensures.settled told)
-    (subst (λ (o : List ℕ). Ran (called c.args.root (g.S.Source.left c.args.source.now) s c.args.budget g.H.Host.tells_out o) c.serve.result (g.S.Source.left c.serve.new.source) (g.H.Host.view c.open.new.host) (g.H.Host.view c.serve.new.host)) c.in-Ok.ensures.out.out (subst (λ (r : Root). Ran (called r (g.S.Source.left c.args.source.now) s c.args.budget g.H.Host.tells_out (g.H.Host.view c.open.new.host).out) c.serve.result (g.S.Source.left c.serve.new.source) (g.H.Host.view c.open.new.host) (g.H.Host.view c.serve.new.host)) c.in-Ok.ensures.root ran))
+    (subst (λ (o : List ℕ). Ran (called c.args.root (g.S.Source.left c.args.source.now) s c.args.budget g.H.Host.tells_out o) c.serve-status.result (g.S.Source.left c.serve-status.new.source) (g.H.Host.view c.open.new.host) (g.H.Host.view c.serve-status.new.host)) c.in-Ok.ensures.out.out (subst (λ (r : Root). Ran (called r (g.S.Source.left c.args.source.now) s c.args.budget g.H.Host.tells_out (g.H.Host.view c.open.new.host).out) c.serve-status.result (g.S.Source.left c.serve-status.new.source) (g.H.Host.view c.open.new.host) (g.H.Host.view c.serve-status.new.host)) c.in-Ok.ensures.root ran))
 
 pub returns-in-Err-DiskFault-clause-agreement : goal.returns-in-Err-DiskFault-clause-agreement
 returns-in-Err-DiskFault-clause-agreement g c = λ tells told s finds. agrees _ _ _ _ _ finds (returns-in-Err-DiskFault-clause-run g c tells told s finds)
@@ -50,8 +50,8 @@ returns-clause-agreement g c = λ tells told s finds. agrees _ _ _ _ _ finds (re
 
 pub returns-clause-kept : goal.returns-clause-kept
 returns-clause-kept g c = λ tells told s finds.
-    subst (λ (o : List ℕ). Kept c.serve.result (called c.args.root (g.S.Source.left c.args.source.now) s c.args.budget g.H.Host.tells_out o) (g.H.Host.view c.serve.new.host).bytes) c.in-Ok.ensures.out.out
-    (subst (λ (r : Root). Kept c.serve.result (called r (g.S.Source.left c.args.source.now) s c.args.budget g.H.Host.tells_out (g.H.Host.view c.open.new.host).out) (g.H.Host.view c.serve.new.host).bytes) c.in-Ok.ensures.root (c.serve.ensures.kept tells told s (opened_stands c.in-Ok.ensures.stands (c.in-Ok.ensures.found told) finds)))
+    subst (λ (o : List ℕ). Kept c.serve-status.result (called c.args.root (g.S.Source.left c.args.source.now) s c.args.budget g.H.Host.tells_out o) (g.H.Host.view c.serve-status.new.host).bytes) c.in-Ok.ensures.out.out
+    (subst (λ (r : Root). Kept c.serve-status.result (called r (g.S.Source.left c.args.source.now) s c.args.budget g.H.Host.tells_out (g.H.Host.view c.open.new.host).out) (g.H.Host.view c.serve-status.new.host).bytes) c.in-Ok.ensures.root (c.serve-status.ensures.kept tells told s (opened_stands c.in-Ok.ensures.stands (c.in-Ok.ensures.found told) finds)))
 
 pub returns-clause-no_store : goal.returns-clause-no_store
 returns-clause-no_store g c = λ told none. absurd (none _ (c.in-Ok.ensures.found told))
@@ -89,16 +89,16 @@ returns-in-Err-NotAStore-clause-completes g c = λ tells told keeps few none.
 
 pub returns-clause-completes : goal.returns-clause-completes
 returns-clause-completes g c = λ tells told keeps few none.
-    let causes = causes_from (c.in-Ok.ensures.counts.stays (λ is. cc)) c.in-Ok.ensures.out.faults c.serve.ensures.cause in
-    completed c.serve.result (c.serve.ensures.run tells told _ c.in-Ok.ensures.stands) causes few none
+    let causes = causes_from (c.in-Ok.ensures.counts.stays (λ is. cc)) c.in-Ok.ensures.out.faults c.serve-status.ensures.cause in
+    completed c.serve-status.result (c.serve-status.ensures.run tells told _ c.in-Ok.ensures.stands) causes few none
 
 pub returns-clause-cause : goal.returns-clause-cause
-returns-clause-cause g c = causes_from (c.in-Ok.ensures.counts.stays (λ is. cc)) c.in-Ok.ensures.out.faults c.serve.ensures.cause
+returns-clause-cause g c = causes_from (c.in-Ok.ensures.counts.stays (λ is. cc)) c.in-Ok.ensures.out.faults c.serve-status.ensures.cause
 
 pub returns-in-Err-NotAStore-clause-never_kept : goal.returns-in-Err-NotAStore-clause-never_kept
 returns-in-Err-NotAStore-clause-never_kept g c = λ told keeps.
     let refuses = rw c.in-Err-NotAStore.field-0-is at c.in-Err-NotAStore.ensures.refused told in
     absurd (kept_is_store keeps (refused_is_none _ _ refuses.0))
 
-pub serve-requires-clause-standing : goal.serve-requires-clause-standing
-serve-requires-clause-standing g c = (c.in-Ok.client.store.state, ([], c.in-Ok.ensures.stands))
+pub serve-status-requires-clause-standing : goal.serve-status-requires-clause-standing
+serve-status-requires-clause-standing g c = (c.in-Ok.client.store.state, ([], c.in-Ok.ensures.stands))
