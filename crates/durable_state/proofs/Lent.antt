@@ -45,17 +45,6 @@ plain_stands s q named = sym (ap (λ b. cond b stands.Pending (standing_by (seal
 
 -- ---- the local document
 
--- what the overlays show over the entry is the local document
-pub shows : (s : State) (table : Table) (q : List (List ℕ)) → AreLaid s table → shown table q (base_of (entry_of s q)) ≡ document_of s q
-shows s table q laid = by (is_named s q) refl
-  where
-    by : (b : Bool) → is_named s q ≡ b → shown table q (base_of (entry_of s q)) ≡ document_of s q
-    by b e = ap (λ o. unwrap_or o (base_of (entry_of s q))) (laid q ∙ ap (λ c. cond c (Some (document_of s q)) None) e) ∙ at b e
-      where
-        at : (c : Bool) → is_named s q ≡ c → unwrap_or (cond c (Some (document_of s q)) None) (base_of (entry_of s q)) ≡ document_of s q
-        at true e = refl
-        at false e = sym (unnamed_document s q e)
-
 some_is : {X : Type 0} (x y : X) → Some x ≡ Some y → x ≡ y
 some_is x y same = cc
 

@@ -1,8 +1,8 @@
 -- entries only rise
-use Rattle.std.proofs.Common.{◌≡◌, ◌∙◌, ◌⊎◌, inl, inr, ◌+◌, ◌<◌, ℕ, zero, suc, Bool, true, false, cond, List, [], ◌∷◌, ◌++◌, fold, length, get_or, option_map, option_and_then, Option, Some, None, refl, sym, ap, subst, arith}
+use Rattle.std.proofs.Common.{◌≡◌, ◌∙◌, ◌⊎◌, inl, inr, ℕ, zero, suc, Bool, true, false, cond, List, [], ◌∷◌, fold, option_map, option_and_then, Option, Some, None, refl, sym, ap, subst, arith}
 use Rattle.std.specs.FinMap as finite
-use Rattle.std.specs.List.{All, Contains, cons_option, filter_map}
-use Rattle.std.proofs.lemmas.List.Elements.{All-contains, All-cons, All-nil, Contains-append_left, Contains-append_right}
+use Rattle.std.specs.List.{Contains, cons_option, filter_map}
+use Rattle.std.proofs.lemmas.List.Elements.{All-contains, Contains-append_left, Contains-append_right}
 use Rattle.std.proofs.lemmas.Option.{same_Some}
 use Rattle.document_keys.specs.KeySet.{is_key}
 use Rattle.value_model.specs.Order.{Earlier}
@@ -21,13 +21,11 @@ use Rattle.mutation_queue.proofs.Tables.{one_key}
 use Rattle.acknowledgements.specs.Acked.{acked, answered, greatest, is_below, is_earlier, left_after, latest, versions}
 use Rattle.acknowledgements.proofs.Times.{earlier_so, not_earlier, one_time}
 use Rattle.outcome_codec.specs.declared.parts.KeyedEntry.{KeyedEntry}
-use Rattle.record_codec.specs.declared.commit.Commit.{Commit}
 use Rattle.record_codec.specs.declared.commit.Commit.TheVariants.{Enqueue, Acknowledge, Reject, Allocate, Point, Reset, Drop}
 use Rattle.remote_documents.specs.Table.{EntryMap}
 use Rattle.durable_state.specs.Cached.{Changed, acknowledged_keys, answered_by, cached, first_writes, seen_at, with_all, with_changed}
 use Rattle.durable_state.specs.Documents.{sealed_entry_of}
-use Rattle.durable_state.specs.Rising.{EntriesRise, IsBelowEntry, PutsAnew, Replaces, Rises}
-use Rattle.durable_state.specs.State.{State, committed}
+use Rattle.durable_state.specs.Rising.{EntriesRise, Replaces, Rises}
 use Rattle.durable_state.proofs.Changed.{get_changed}
 
 -- what a key has after some changes it had before, or one of them gives it

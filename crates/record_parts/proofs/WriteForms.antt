@@ -1,7 +1,6 @@
 -- The forms of paths, transforms, preconditions and writes.
 use Rattle.std.proofs.Common.{◌≡◌, ◌≢◌, ℕ, ◌-◌, List, [], ◌∷◌, length, refl, sym, arith, Option}
 use Rattle.value_model.specs.Data.{Data, Entries}
-use Rattle.value_model.specs.declared.timestamp.Timestamp.{Timestamp}
 use Rattle.mutations.specs.declared.transform.Change.{Change}
 use Rattle.mutations.specs.declared.transform.Change.TheVariants.{ServerTime, Increment, Maximum, Minimum, Append, RemoveAll}
 use Rattle.mutations.specs.declared.transform.Transform.{Transform}
@@ -10,9 +9,8 @@ use Rattle.mutations.specs.declared.write.Precondition.TheVariants.{Free, Exists
 use Rattle.mutations.specs.declared.write.Write.{Write}
 use Rattle.mutations.specs.declared.write.Write.TheVariants.{Update, Delete}
 use Rattle.record_parts.specs.Spelling.{path, many, value, precondition, change, transform, write, AreSpelled, IsSpelledPath, IsSpelledPrecondition, AreSpelledElements, IsSpelledChange, IsSpelledTransform, IsSpelledWrite, IsNameText, IsSpelledValue}
-use Rattle.record_parts.proofs.Wide.{IsUnique}
 use Rattle.record_parts.proofs.Forms.{unique_narrower}
-use Rattle.record_parts.proofs.Basics.{word, whole_number, flag, moment, field_name, document_key}
+use Rattle.record_parts.proofs.Basics.{whole_number, flag, moment, field_name, document_key}
 use Rattle.record_parts.proofs.Values.{value_within, fields_within}
 use Rattle.record_parts.proofs.Options.{optional}
 use Rattle.record_parts.proofs.Combine.{Form, Made, IsKind, HasKind, has_kind, IsTagged, empty, pair, both, list, unique_kinds, tag_first}
