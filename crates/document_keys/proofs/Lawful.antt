@@ -46,7 +46,7 @@ front_same (h ∷ a) (g ∷ b) p q one two e =
     let heads : h ≡ g = cc in
     (λ i. heads i ∷ tails.0 i, tails.1)
 
-path_same : (p q : List (List ℕ)) → All IsPart p → All IsPart q → path_text p ≡ path_text q → p ≡ q
+pub path_same : (p q : List (List ℕ)) → All IsPart p → All IsPart q → path_text p ≡ path_text q → p ≡ q
 path_same [] [] one two e = refl
 path_same [] (t ∷ q) one two e = cc
 path_same (s ∷ p) [] one two e = cc

@@ -61,7 +61,7 @@ number_less x y Less is below = refl
 number_less x y Equal is below = let e : x ≡ y = ranked x y Equal is in absurd (omega arith)
 number_less x y Greater is below = let e : y < x = ranked x y Greater is in absurd (omega arith)
 
-numbers_compute : Computes nat_cmp ◌<◌
+pub numbers_compute : Computes nat_cmp ◌<◌
 numbers_compute = record {
   total = nat_cmp_total;
   exact = λ x y e. (number_by x y (nat_cmp x y) refl).0 e;

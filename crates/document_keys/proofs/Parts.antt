@@ -18,7 +18,7 @@ is_part-from_search text true here every = (λ no. cc, λ part. let w = here ref
 is_part-from_search text false here every = (λ yes k d below is. cc (every k below (get_or_default text k 0 d below ∙ is)), λ part. refl)
 
 -- what begins a name of a document, as the code looks for it: the root, and then `/documents/`
-documents_front : (root : Root) (rest : List ℕ) → documents_text root ++ 47 ∷ rest ≡ root_text root ++ (codes "/documents/" ++ rest)
+pub documents_front : (root : Root) (rest : List ℕ) → documents_text root ++ 47 ∷ rest ≡ root_text root ++ (codes "/documents/" ++ rest)
 unfolding documents_text
 documents_front root rest = append_assoc (root_text root) (codes "/documents") (47 ∷ rest)
 
@@ -94,7 +94,7 @@ unfolding documents_text
 name_begins root [] front name is added = added ∙ ap (λ f. f ++ codes "/documents") is ∙ sym (append-nil _)
 name_begins root (x ∷ xs) front name is added = added ∙ ap (λ f. f ++ codes "/documents") is ∙ sym (append-nil _)
 
-path_text-push : (path : List (List ℕ)) (x : List ℕ) → path_text (path ++ x ∷ []) ≡ path_text path ++ 47 ∷ x
+pub path_text-push : (path : List (List ℕ)) (x : List ℕ) → path_text (path ++ x ∷ []) ≡ path_text path ++ 47 ∷ x
 path_text-push [] x = ap (λ t. 47 ∷ t) (append-nil x)
 path_text-push (p ∷ path) x = ap (λ t. 47 ∷ (p ++ t)) (path_text-push path x) ∙ ap (λ t. 47 ∷ t) (sym (append_assoc p (path_text path) (47 ∷ x)))
 

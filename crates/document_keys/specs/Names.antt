@@ -3,7 +3,8 @@
 -- A document name is `projects/{project}/databases/{database}/documents/{path}`, whose path has collection ids and
 -- document ids in turn. Here names are written from their parts; the code cuts them.
 use Rattle.std.specs.Prelude.{◌≡◌, ◌≢◌, ℕ, ◌<◌, ◌≤◌, ◌%◌, List, [], ◌∷◌, ◌++◌, length, codes, Option, Some, None}
-use Rattle.std.specs.List.{All}
+use Rattle.std.specs.Bool.{◌==◌}
+use Rattle.std.specs.List.{All, join_with_byte, slice_split}
 
 -- the text is of the form `__.*__`: at least four bytes that begin and end with `__`
 abbrev pub IsReserved : List ℕ → Type 0
@@ -48,6 +49,19 @@ documents_text root = root_text root ++ codes "/documents"
 abbrev pub path_text : List (List ℕ) → List ℕ
 path_text [] = []
 path_text (segment ∷ path) = 47 ∷ (segment ++ path_text path)
+
+-- the parts of a text, cut at each `/`
+abbrev pub parts_of : List ℕ → List (List ℕ)
+parts_of text = slice_split (λ byte. byte == 47) text
+
+-- the segments in such a text: none where it is empty
+abbrev pub segments_in : List ℕ → List (List ℕ)
+segments_in [] = []
+segments_in (byte ∷ text) = parts_of (byte ∷ text)
+
+-- the text of a path below the root's `documents`: its segments, with a `/` between each two
+abbrev pub relative_path : List (List ℕ) → List ℕ
+relative_path path = join_with_byte 47 path
 
 -- the name of a path under a root: the root, `/documents`, and per segment `/` and the segment
 abbrev pub name_text : Root → List (List ℕ) → List ℕ

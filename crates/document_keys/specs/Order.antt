@@ -1,6 +1,8 @@
 -- The order of texts, keys and paths: the first place at which two lists differ decides, and a front comes before the
 -- longer list.
-use Rattle.std.specs.Prelude.{◌≡◌, ◌↔◌, ℕ, ◌<◌, List, ◌∷◌, ◌++◌}
+use Rattle.std.specs.Prelude.{◌≡◌, ◌↔◌, ℕ, ◌<◌, List, ◌∷◌, ◌++◌, cond}
+use Rattle.std.specs.Bool.{◌==◌}
+use Rattle.std.specs.Ordering.{nat_cmp}
 use Rattle.std.specs.declared.cmp.Ordering.{Ordering}
 use Rattle.std.specs.declared.cmp.Ordering.TheVariants.{Less, Equal, Greater}
 
@@ -16,6 +18,10 @@ TextBefore = ListBefore ◌<◌
 -- keys and paths go segment by segment
 abbrev pub PathBefore : List (List ℕ) → List (List ℕ) → Type 0
 PathBefore = ListBefore TextBefore
+
+-- the order of two bytes that differ, in texts of paths: a `/`, at which a segment ends, comes first
+abbrev pub byte_order : ℕ → ℕ → Ordering
+byte_order x y = cond (x == 47) Less (cond (y == 47) Greater (nat_cmp x y))
 
 -- what a comparison of two paths answers: Less and Greater exactly where one is before the other, Equal exactly where
 -- they are equal

@@ -51,17 +51,17 @@ fn read_parent(alloc: Global, root: &Database, parent: &str) -> Result<Vec<Segme
         return Ok(Vec::new(alloc));
     }
     let key = DocumentKey::read(alloc, root, parent)?;
-    Ok(key.into_segments())
+    Ok(key.segments(alloc)?)
 }
 
 /// The segments of a parent: those of its key, or none.
-fn segments_of(alloc: Global, parent: Option<DocumentKey>) -> Vec<Segment>
-    ensures segments { result.items ≡ parent_path parent }
-    ensures even { length result.items % 2 ≡ 0 }
+fn segments_of(alloc: Global, parent: Option<DocumentKey>) -> Result<Vec<Segment>, NoMemory>
+    ensures segments { IfOk result (λ segments. segments.items ≡ parent_path parent) }
+    ensures even { IfOk result (λ segments. length segments.items % 2 ≡ 0) }
 {
     match parent {
-        Some(key) => key.into_segments(),
-        None => Vec::new(alloc),
+        Some(key) => key.segments(alloc),
+        None => Ok(Vec::new(alloc)),
     }
 }
 
@@ -96,7 +96,7 @@ impl CollectionPath {
     ) -> Result<CollectionPath, NoMemory>
         ensures { IfOk result (λ path. path ≡ parent_path parent ++ id ∷ []) }
     {
-        let mut segments = segments_of(alloc, parent);
+        let mut segments = segments_of(alloc, parent)?;
         segments.push(id)?;
         let Some(path) = CollectionPath::from_segments(segments) else {
             unreachable!();

@@ -11,10 +11,12 @@ mod database;
 mod faults;
 mod field;
 mod key;
+mod key_builder;
 mod key_set;
 mod laws;
 mod path;
 mod path_set;
+mod relative;
 mod segment;
 mod sequence;
 mod spelling;
@@ -25,6 +27,7 @@ pub use database::Database;
 pub use faults::{FieldFault, NameFault, NoMemory};
 pub use field::{FieldPath, check_field_name};
 pub use key::DocumentKey;
+pub use key_builder::KeyBuilder;
 pub use key_set::KeySet;
 pub use laws::{
     faults_exclude, field_paths_read_back, key_faults_exclude, names_one_path, paths_are_ordered,

@@ -51,7 +51,8 @@ pub(crate) fn is_part(text: &str) -> bool
     !text.contains('/')
 }
 
-fn is_segment(text: &str) -> bool
+/// Whether the text is a segment.
+pub(crate) fn is_segment(text: &str) -> bool
     ensures { IsTrue result ↔ IsSegment text.now }
 {
     if !has_name_length(text) {
