@@ -1,6 +1,6 @@
 //! Paths of collections and of fields, and sets of keys.
 
-use crate::fixtures::root;
+use crate::fixtures::{key, root};
 use document_keys::{
     CollectionPath, Database, DocumentKey, FieldFault, FieldPath, KeySet, Segment, Text,
     check_field_name,
@@ -142,6 +142,35 @@ fn collection_of_segments(rt: HostRuntime) -> Result<(), Fail> {
     segments.push(Segment::read(rt.alloc(), "rooms")?)?;
     let rooms = CollectionPath::from_segments(segments).ok_or("one segment")?;
     assert!(rt; rooms.len() == 1);
+    Ok(())
+}
+
+/// Keys in their order: a segment that ends comes before one that goes on, whatever its next byte is.
+static ORDERED: [&[&str]; 8] = [
+    &["a", "b"],
+    &["a", "b", "c", "d"],
+    &["a", "b\u{0}"],
+    &["a", "b-"],
+    &["a", "b0"],
+    &["a\u{0}", "b"],
+    &["a-", "b"],
+    &["b", "a"],
+];
+
+fn compared(alloc: Global, one: &[&str], other: &[&str]) -> Result<Ordering, Fail> {
+    Ok(key(alloc, one)?.compare(&key(alloc, other)?))
+}
+
+#[test]
+fn keys_in_order(rt: HostRuntime) -> Result<(), Fail> {
+    for i in 0..ORDERED.len() {
+        for j in 0..ORDERED.len() {
+            assert!(rt;
+                compared(rt.alloc(), ORDERED[i], ORDERED[j])? == i.cmp(&j),
+                "{i} and {j}"
+            );
+        }
+    }
     Ok(())
 }
 

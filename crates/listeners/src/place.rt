@@ -1,7 +1,7 @@
 //! Where a query stands in the index of listeners.
 
-ghost use Rattle.std.specs.Prelude.{◌≡◌, IfOk, OnOk};
-ghost use Rattle.document_keys.specs.Names.{IsCollection, IsSegment};
+ghost use Rattle.std.specs.Prelude.{◌≡◌, IfOk};
+ghost use Rattle.document_keys.specs.Names.{IsSegment};
 ghost use Rattle.listeners.specs.Places.{least_in, place_of};
 
 use document_keys::{CollectionPath, DocumentKey, NameFault, NoMemory, Segment};
@@ -23,21 +23,6 @@ fn segment_of(alloc: Global, text: &str) -> Result<Segment, NoMemory>
     }
 }
 
-/// The segments of the path.
-fn segments_of(alloc: Global, path: &CollectionPath) -> Result<Vec<Segment>, NoMemory>
-    ensures segments { IfOk result (λ segments. segments.items ≡ path.now) }
-    ensures path { OnOk result (IsCollection path.now) }
-{
-    let mut segments = Vec::new(alloc);
-    for index in 0..path.len() {
-        let Some(text) = path.segment(index) else {
-            unreachable!();
-        };
-        segments.push(segment_of(alloc, text)?)?;
-    }
-    Ok(segments)
-}
-
 /// The least key that a document of the collection can have.
 ///
 /// # Errors
@@ -45,12 +30,8 @@ fn segments_of(alloc: Global, path: &CollectionPath) -> Result<Vec<Segment>, NoM
 pub(crate) fn least_key(alloc: Global, collection: &CollectionPath) -> Result<DocumentKey, NoMemory>
     ensures { IfOk result (λ key. key ≡ least_in collection.now) }
 {
-    let mut segments = segments_of(alloc, collection)?;
-    segments.push(segment_of(alloc, LEAST_ID)?)?;
-    let Some(key) = DocumentKey::from_segments(segments) else {
-        unreachable!();
-    };
-    Ok(key)
+    let id = segment_of(alloc, LEAST_ID)?;
+    DocumentKey::inside(alloc, collection, &id)
 }
 
 /// Where the query stands.

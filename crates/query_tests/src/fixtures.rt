@@ -1,6 +1,6 @@
 //! What the tests are made of.
 
-use document_keys::{Database, DocumentKey, Segment, Text, check_field_name};
+use document_keys::{Database, DocumentKey, KeyBuilder, Text, check_field_name};
 use std::alloc::Global;
 use std::test::Fail;
 use value_model::{Fields, Kind, Value};
@@ -11,11 +11,11 @@ pub(crate) fn root(alloc: Global) -> Result<Database, Fail> {
 
 /// The key of these segments.
 pub(crate) fn key(alloc: Global, texts: &[&str]) -> Result<DocumentKey, Fail> {
-    let mut segments = Vec::new(alloc);
+    let mut builder = KeyBuilder::new(alloc);
     for text in texts {
-        segments.push(Segment::read(alloc, text)?)?;
+        builder = builder.with(text)?;
     }
-    Ok(DocumentKey::from_segments(segments).ok_or("pairs of segments")?)
+    Ok(builder.finish()?)
 }
 
 pub(crate) fn number(number: i64) -> Value {

@@ -1,11 +1,11 @@
-ghost use Rattle.std.specs.Prelude.{◌≡◌, ◌↔◌, IsTrue};
+ghost use Rattle.std.specs.Prelude.{◌≡◌, IfOk, IfErr, List, ℕ, [], ◌++◌, ◌∷◌};
 ghost use Rattle.value_model.specs.Storable.{IsCountable};
 ghost use Rattle.record_parts.specs.Spelling.{text, key, many, AreSpelled, IsText, IsNameText, IsSegmentText, IsSpelledKey};
-ghost use Rattle.record_parts.specs.Reading.{Reads};
+ghost use Rattle.record_parts.specs.Reading.{Begins, BeginsNone, Fails, Reads};
 
 use crate::fault::ReadError;
 use crate::numbers::{room_for, u64_of};
-use document_keys::{DocumentKey, Segment, Text, check_field_name};
+use document_keys::{DocumentKey, KeyBuilder, Segment, Text, check_field_name};
 use std::alloc::Global;
 
 /// How many bytes the text of a name spells at least.
@@ -57,15 +57,39 @@ pub fn segments_of(alloc: Global, bytes: &[u8]) -> Result<(Vec<Segment>, &[u8]),
     Ok((segments, rest))
 }
 
+/// The segments of the builder and a further one, and what follows it.
+fn segment_onto(builder: KeyBuilder, bytes: &[u8]) -> Result<(KeyBuilder, &[u8]), ReadError>
+    ensures next { IfOk result (λ x. (segment : List ℕ) × Begins text IsSegmentText bytes.now segment x.1.now
+        × (x.0 ≡ builder ++ segment ∷ [])) }
+    ensures none { IfErr result (λ fault. Fails fault (BeginsNone text IsSegmentText bytes.now)) }
+{
+    let (content, rest) = text_of(bytes)?;
+    let longer = builder.with(content)?;
+    Ok((longer, rest))
+}
+
+/// The segments of a key, as many as the number before them says, and what follows them.
+fn builder_of(alloc: Global, bytes: &[u8]) -> Result<(KeyBuilder, &[u8]), ReadError>
+    ensures { Reads (many text) (AreSpelled IsSegmentText) bytes.now (λ x. (x.0, x.1.now)) result }
+{
+    let (count, start) = u64_of(bytes)?;
+    let mut builder = KeyBuilder::new(alloc);
+    let mut rest = start;
+    for _ in 0..count {
+        let (longer, next) = segment_onto(builder, rest)?;
+        builder = longer;
+        rest = next;
+    }
+    Ok((builder, rest))
+}
+
 /// A key, and what follows it.
 pub fn key_of(alloc: Global, bytes: &[u8]) -> Result<(DocumentKey, &[u8]), ReadError>
     ensures { Reads key IsSpelledKey bytes.now (λ x. (x.0, x.1.now)) result }
 {
-    let (segments, rest) = segments_of(alloc, bytes)?;
-    match DocumentKey::from_segments(segments) {
-        Some(name) => Ok((name, rest)),
-        None => Err(ReadError::NotSpelled),
-    }
+    let (builder, rest) = builder_of(alloc, bytes)?;
+    let name = builder.finish()?;
+    Ok((name, rest))
 }
 
 /// The name of a field, and what follows it.

@@ -4,7 +4,7 @@ ghost use Rattle.std.specs.Prelude.{IsTrue};
 ghost use Rattle.local_store.specs.Store.{IsStored};
 
 use crate::journal::host_of;
-use document_keys::{DocumentKey, Segment};
+use document_keys::{DocumentKey, KeyBuilder};
 use host_api::{Host, MemHost};
 use local_store::{LocalStore, StoreFault};
 use mutations::{Batch, Precondition, Write, Writes};
@@ -23,10 +23,8 @@ static PAYLOAD: [u8; 97] = [
 ];
 
 pub(crate) fn room(alloc: Global, id: &str) -> Result<DocumentKey, Fail> {
-    let mut segments = Vec::new(alloc);
-    segments.push(Segment::read(alloc, "rooms")?)?;
-    segments.push(Segment::read(alloc, id)?)?;
-    Ok(DocumentKey::from_segments(segments).ok_or("pairs of segments")?)
+    let builder = KeyBuilder::new(alloc).with("rooms")?;
+    Ok(builder.with(id)?.finish()?)
 }
 
 /// The bytes of the commit whose batch has this id.

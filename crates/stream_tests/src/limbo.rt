@@ -1,6 +1,6 @@
 //! Which documents in limbo are listened to, under which ids, and which wait.
 
-use document_keys::{DocumentKey, KeySet, Segment};
+use document_keys::{DocumentKey, KeyBuilder, KeySet};
 use limbo_resolver::{LimboChange, LimboResolver};
 use std::alloc::Global;
 use std::process::Abort;
@@ -9,10 +9,8 @@ use std::test::Fail;
 /// The key `rooms/` and the number, in three digits.
 pub(crate) fn room(alloc: Global, number: u32) -> Result<DocumentKey, Fail> {
     let id = format!(in alloc; "{number:03}")?;
-    let mut segments = Vec::new(alloc);
-    segments.push(Segment::read(alloc, "rooms")?)?;
-    segments.push(Segment::read(alloc, id.as_str())?)?;
-    Ok(DocumentKey::from_segments(segments).ok_or("pairs of segments")?)
+    let builder = KeyBuilder::new(alloc).with("rooms")?;
+    Ok(builder.with(id.as_str())?.finish()?)
 }
 
 /// The keys of the rooms from one number on, up to another and without it.

@@ -1,6 +1,6 @@
 //! What the messages of a watch stream add up to for one target, contradictory ones among them.
 
-use document_keys::{DocumentKey, KeySet, Segment, Text};
+use document_keys::{DocumentKey, KeyBuilder, KeySet, Text};
 use existence_filter::{Verdict, judge};
 use std::alloc::Global;
 use std::process::Abort;
@@ -13,10 +13,8 @@ use watch_aggregator::{Aggregator, Effect, WatchFault, WatchMember, WatchPoint};
 
 /// The key `rooms/a`.
 fn room(alloc: Global) -> Result<DocumentKey, Fail> {
-    let mut segments = Vec::new(alloc);
-    segments.push(Segment::read(alloc, "rooms")?)?;
-    segments.push(Segment::read(alloc, "a")?)?;
-    Ok(DocumentKey::from_segments(segments).ok_or("pairs of segments")?)
+    let builder = KeyBuilder::new(alloc).with("rooms")?;
+    Ok(builder.with("a")?.finish()?)
 }
 
 fn time(seconds: i64) -> Timestamp {
