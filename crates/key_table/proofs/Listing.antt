@@ -1,7 +1,7 @@
 -- the keys of a collection, found along the keys of a table in their order
-use Rattle.std.proofs.Common.{◌≡◌, ◌∙◌, ◌↔◌, ◌⊎◌, inl, inr, ℕ, IsTrue, List, [], ◌∷◌, ◌++◌, ◌<◌, length, get_or, Less, refl, sym, subst, arith}
+use Rattle.std.proofs.Common.{◌≡◌, ◌∙◌, ◌↔◌, ◌⊎◌, inl, inr, ℕ, Bool, true, false, cond, IsTrue, List, [], ◌∷◌, ◌++◌, ◌<◌, length, get_or, Less, refl, sym, subst, arith}
 use Rattle.std.specs.Cmp.{eq_by_cmp_equiv}
-use Rattle.std.specs.List.{All, AllPairs, Contains}
+use Rattle.std.specs.List.{All, AllPairs, Contains, filter}
 use Rattle.std.specs.List.Sorted.{IsStrictlySortedBy}
 use Rattle.std.proofs.lemmas.List.{get_or_default}
 use Rattle.std.proofs.lemmas.List.Elements.{All-contains, All-head, All-tail, Contains-append_cases, Contains-append_left, Contains-append_right, Contains-push, Contains-push_cases}
@@ -170,4 +170,42 @@ all_gathered {V} {found} table keys whole left are same none is q = (
     | inl got ↦ got
     | inr ahead ↦ absurd (no_member q (subst (λ t. Contains t q) none ahead))
   ],
+)
+
+-- ---- some keys of a listing
+
+-- a key is among those that pass a test where it is in the list and passes
+pub passing : (test : List (List ℕ) → Bool) (keys : List (List (List ℕ))) (q : List (List ℕ)) → Contains (filter test keys) q ↔ (Contains keys q × (test q ≡ true))
+passing test [] q = (λ there. absurd (no_member q there), λ both. both.0)
+passing test (k ∷ keys) q = by (test k) refl (passing test keys q)
+  where
+    by : (b : Bool) → test k ≡ b → Contains (filter test keys) q ↔ (Contains keys q × (test q ≡ true)) → Contains (cond b (k ∷ filter test keys) (filter test keys)) q ↔ (Contains (k ∷ keys) q × (test q ≡ true))
+    by true e rest = (
+      λ there. elim (Contains-append_cases (k ∷ []) (filter test keys) q there) [
+        | inl first ↦ (Contains-append_left (k ∷ []) keys q first, subst (λ x. test x ≡ true) (only k q first) e)
+        | inr behind ↦ (Contains-append_right (k ∷ []) keys q ((rest.0 behind).0), (rest.0 behind).1)
+      ],
+      λ both. elim (Contains-append_cases (k ∷ []) keys q both.0) [
+        | inl first ↦ Contains-append_left (k ∷ []) (filter test keys) q first
+        | inr behind ↦ Contains-append_right (k ∷ []) (filter test keys) q (rest.1 (behind, both.1))
+      ],
+    )
+    by false e rest = (
+      λ there. (Contains-append_right (k ∷ []) keys q ((rest.0 there).0), (rest.0 there).1),
+      λ both. elim (Contains-append_cases (k ∷ []) keys q both.0) [
+        | inl first ↦ let passes = both.1 in let no = subst (λ x. test x ≡ false) (only k q first) e in cc
+        | inr behind ↦ rest.1 (behind, both.1)
+      ],
+    )
+
+-- of the keys of a table that are in something, those that pass a test which only such keys pass
+pub passing_members : {V : Type 0} (test : List (List ℕ) → Bool) (table : Pairs V) (InIt : List (List ℕ) → Type 0) (old new : List (List (List ℕ))) → new ≡ filter test old
+    → ((q : List (List ℕ)) → Contains old q ↔ (InIt q × IsTrue (has_key table q)))
+    → ((q : List (List ℕ)) → IsTrue (test q) → IsTrue (has_key table q))
+    → (q : List (List ℕ)) → Contains new q ↔ (InIt q × IsTrue (test q))
+passing_members test table InIt old new kept members has q = (
+  λ there.
+      let both = (passing test old q).0 (subst (λ l. Contains l q) kept there) in
+      (((members q).0 both.0).0, both.1),
+  λ both. subst (λ l. Contains l q) (sym kept) ((passing test old q).1 ((members q).1 (both.0, has q both.1), both.1)),
 )

@@ -3,12 +3,12 @@ use Rattle.std.proofs.Common.{◌≡◌, ◌∙◌, ℕ, Bool, true, false, cond
 use Rattle.std.specs.Cmp.Lexicographic.{lists_ties, pointwise, slice_cmp, texts_ties}
 use Rattle.std.specs.List.{list_any}
 use Rattle.std.specs.Map.{lookup}
-use Rattle.std.specs.Option.{is_some}
+use Rattle.std.specs.Option.{is_some, option_and_then}
 use Rattle.std.specs.Ordering.{nat_cmp}
 use Rattle.document_keys.specs.KeySet.{is_key}
 use Rattle.document_keys.specs.Names.{IsKey}
-use Rattle.document_keys.proofs.Exact.{key_is}
-use Rattle.key_table.specs.Table.{AreInOrder, Pairs, has_key, value_at}
+use Rattle.document_keys.proofs.Exact.{key_is, key_same}
+use Rattle.key_table.specs.Table.{AreInOrder, Pairs, Puts, has_key, value_at}
 
 -- the test of a table by hash, segment for segment, is that of the order
 pub same_test : pointwise (pointwise nat_eq) ≡ is_key
@@ -19,12 +19,9 @@ module _ {V : Type 0} where
   pub found : (table : Pairs V) (key : List (List ℕ)) → lookup (pointwise (pointwise nat_eq) key) table ≡ value_at table key
   found table key = ap (λ test. lookup (test key) table) same_test
 
-  pub absent : (table : Pairs V) (key : List (List ℕ)) → is_some (lookup (pointwise (pointwise nat_eq) key) table) ≡ false → value_at table key ≡ None
-  absent table key is = by (value_at table key) (ap is_some (sym (found table key)) ∙ is)
-    where
-      by : (o : Option V) → is_some o ≡ false → o ≡ None
-      by None e = refl
-      by (Some x) e = cc
+  none_of : (o : Option V) → is_some o ≡ false → o ≡ None
+  none_of None e = refl
+  none_of (Some x) e = cc
 
   module _ (old new : Pairs V) (key : List (List ℕ)) (w : Option V) where
     -- one key has the value w, or none, and every other the one that it had
@@ -65,3 +62,25 @@ module _ {V : Type 0} where
       of_documents = λ q there. were.of_documents q (subst (λ o. IsTrue (is_some o)) (is q) there);
       same = λ q. were.same q ∙ ap is_some (sym (is q));
     }
+
+  -- what a change at one key shows to those who read the values through f
+  module _ (old new : Pairs V) (key : List (List ℕ)) (w : V) (puts : Puts key (Some w) old new) where
+    pub put_there : value_at new key ≡ Some w
+    put_there = puts key ∙ ap (λ b. cond b (Some w) (value_at old key)) (key_same key key refl)
+
+    pub keys_stay : (q : List (List ℕ)) → IsTrue (has_key old q) → IsTrue (has_key new q)
+    keys_stay q had = by (is_key key q) refl
+      where
+        by : (b : Bool) → is_key key q ≡ b → IsTrue (has_key new q)
+        by true e = ap is_some (puts q ∙ ap (λ b. cond b (Some w) (value_at old q)) e)
+        by false e = ap is_some (puts q ∙ ap (λ b. cond b (Some w) (value_at old q)) e) ∙ had
+
+    -- a value that shows nothing, where none was
+    pub shows_nothing : {W : Type 0} (f : V → Option W) → f w ≡ None → has_key old key ≡ false → (q : List (List ℕ)) → option_and_then f (value_at new q) ≡ option_and_then f (value_at old q)
+    shows_nothing f nothing none q = by (is_key key q) refl
+      where
+        by : (b : Bool) → is_key key q ≡ b → option_and_then f (value_at new q) ≡ option_and_then f (value_at old q)
+        by true e =
+            let none_there : value_at old q ≡ None = none_of (value_at old q) (subst (λ k. has_key old k ≡ false) (key_is key q e) none) in
+            ap (option_and_then f) (puts q ∙ ap (λ b. cond b (Some w) (value_at old q)) e) ∙ nothing ∙ sym (ap (option_and_then f) none_there)
+        by false e = ap (option_and_then f) (puts q ∙ ap (λ b. cond b (Some w) (value_at old q)) e)

@@ -11,7 +11,9 @@ loop-key-init g c =
 pub loop-key-preserved-in_ok-push : goal.loop-key-preserved-in_ok-push
 loop-key-preserved-in_ok-push g c =
     let step : c.loop-key.key-iterator ≡ c.in-Some.key.now ∷ c.next.new.self = c.in-Some.ensures.steps in
-    taken c.args.collection.now c.into_iter-key-iterator.result c.in-Some.key.now c.next.new.self c.loop-key.key-iterator c.loop-key.keys.items step c.loop-key.invariant c.push.new.self.items (c.in_ok-push.ensures.items ∙ ap (λ k. c.loop-key.keys.items ++ k ∷ []) c.in_ok-copy.ensures) (c.is_in.ensures.0 c.if-is_in.true)
+    let push : c.push.new.self.items ≡ c.loop-key.keys.items ++ c.in_ok-copy.field-0 ∷ [] = c.in_ok-push.ensures.items in
+    let pushed : c.push.new.self.items ≡ c.loop-key.keys.items ++ c.in-Some.key.now ∷ [] = push ∙ ap (λ k. c.loop-key.keys.items ++ k ∷ []) c.in_ok-copy.ensures in
+    taken c.args.collection.now c.into_iter-key-iterator.result c.in-Some.key.now c.next.new.self c.loop-key.key-iterator c.loop-key.keys.items step c.loop-key.invariant c.push.new.self.items pushed (c.is_in.ensures.0 c.if-is_in.true)
 
 pub loop-key-preserved : goal.loop-key-preserved
 loop-key-preserved g c =
