@@ -1,9 +1,10 @@
 -- what a table counts after a change at one key
-use Rattle.std.proofs.Common.{◌≡◌, ◌∙◌, ◌+◌, ℕ, Bool, true, false, cond, IsTrue, List, Option, Some, None, Ordering, Less, Equal, Greater, refl, sym, ap, subst, add-zero}
+use Rattle.std.proofs.Common.{◌≡◌, ◌∙◌, ◌+◌, ℕ, Bool, true, false, cond, IsTrue, List, Option, Some, None, Ordering, Less, Equal, Greater, nat_eq, refl, sym, ap, subst, add-zero}
 use Rattle.std.specs.FinMap.{slice_cmp-IsAntisymmetric, nat_cmp-IsAntisymmetric}
 use Rattle.std.specs.Cmp.{tied_itself}
-use Rattle.std.specs.Cmp.Lexicographic.{lists_total, nat_list_cmp_total}
-use Rattle.std.specs.Ordering.{is_eq}
+use Rattle.std.specs.Cmp.Lexicographic.{lists_ties, lists_total, nat_list_cmp_total, pointwise, slice_cmp, texts_ties}
+use Rattle.std.specs.Map.{lookup}
+use Rattle.std.specs.Ordering.{is_eq, nat_cmp}
 use Rattle.std.specs.Option.{is_some, unwrap_or, IsSome}
 use Rattle.document_keys.specs.KeySet.{is_key}
 
@@ -15,6 +16,30 @@ is_equal Greater e = cc
 -- two keys that tie are the same
 pub one_key : (key other : List (List ℕ)) → is_key key other ≡ true → key ≡ other
 one_key key other e = slice_cmp-IsAntisymmetric (slice_cmp-IsAntisymmetric nat_cmp-IsAntisymmetric) key other (is_equal _ e)
+
+-- the test of a table by hash, segment for segment, is that of the order
+same_test : pointwise (pointwise nat_eq) ≡ is_key
+same_test = λ i key other. lists_ties (slice_cmp nat_cmp) texts_ties key other i
+
+-- the place of a key
+abbrev pub place_of : List (List (List ℕ) × ℕ) → List (List ℕ) → Option ℕ
+place_of counts key = lookup (is_key key) counts
+
+-- what a table by hash finds is the key's place
+pub found : (counts : List (List (List ℕ) × ℕ)) (key : List (List ℕ)) → lookup (pointwise (pointwise nat_eq) key) counts ≡ place_of counts key
+found counts key = ap (λ test. lookup (test key) counts) same_test
+
+-- a change at one key
+pub changed : (old new : List (List (List ℕ) × ℕ)) (key : List (List ℕ)) (w : Option ℕ) (q : List (List ℕ)) → lookup (pointwise (pointwise nat_eq) q) new ≡ cond (pointwise (pointwise nat_eq) key q) w (lookup (pointwise (pointwise nat_eq) q) old) → place_of new q ≡ cond (is_key key q) w (place_of old q)
+changed old new key w q is = subst (λ test. lookup (test q) new ≡ cond (test key q) w (lookup (test q) old)) same_test is
+
+-- one change at a key after another there
+pub changed_twice : (old middle new : List (List (List ℕ) × ℕ)) (key : List (List ℕ)) (v w : Option ℕ) (q : List (List ℕ)) → place_of middle q ≡ cond (is_key key q) v (place_of old q) → place_of new q ≡ cond (is_key key q) w (place_of middle q) → place_of new q ≡ cond (is_key key q) w (place_of old q)
+changed_twice old middle new key v w q first second = second ∙ ap (λ o. cond (is_key key q) w o) first ∙ last (is_key key q)
+  where
+    last : (b : Bool) → cond b w (cond b v (place_of old q)) ≡ cond b w (place_of old q)
+    last true = refl
+    last false = refl
 
 module _ (old new : List (List ℕ) → Option ℕ) (key q : List (List ℕ)) where
   -- a place of no count

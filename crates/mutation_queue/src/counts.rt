@@ -7,13 +7,13 @@ use crate::written::written_key;
 use document_keys::{DocumentKey, NoMemory};
 use mutations::Write;
 use std::alloc::Global;
-use std::collections::BTreeMap;
+use std::collections::HashMap;
 use std::marker::Model;
 
 /// How many writes name each key. Contracts see the table of its counts.
 #[derive(Debug, Drop)]
 pub(crate) struct KeyCounts {
-    counts: BTreeMap<DocumentKey, u64>,
+    counts: HashMap<DocumentKey, u64>,
 }
 
 impl Model for KeyCounts {
@@ -30,7 +30,7 @@ impl KeyCounts {
         ensures { result ≡ [] }
     {
         KeyCounts {
-            counts: BTreeMap::new(alloc),
+            counts: HashMap::new(alloc),
         }
     }
 
@@ -48,10 +48,7 @@ impl KeyCounts {
     pub(crate) fn has(&self, key: &DocumentKey) -> bool
         ensures { IsTrue result ↔ (0 < count_of self.now key.now) }
     {
-        match self.counts.get(key) {
-            Some(count) => *count > 0,
-            None => false,
-        }
+        self.count(key) > 0
     }
 
     /// Makes a place for the key, which isn't counted there yet.
@@ -90,14 +87,14 @@ impl KeyCounts {
         ensures { (q : List (List ℕ)) → count_of self.old q
             ≡ count_of self.new q + (if is_key key.now q then 1 else 0) }
     {
-        if self.counts.get(key).copied() == Some(1) {
-            self.counts.remove(key);
-            return;
-        }
         let Some(count) = self.counts.get_mut(key) else {
             return;
         };
-        *count -= 1;
+        if *count > 1 {
+            *count -= 1;
+            return;
+        }
+        self.counts.remove(key);
     }
 
     /// Makes a place for the key of each write.

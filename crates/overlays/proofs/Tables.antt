@@ -1,42 +1,14 @@
--- what a table holds after a change at one key
-use Rattle.std.proofs.Common.{◌≡◌, ◌∙◌, ℕ, Bool, true, false, cond, IsTrue, List, Option, Some, None, refl, sym, ap, subst}
-use Rattle.std.specs.Map.{lookup}
-use Rattle.std.specs.Option.{is_some, option_and_then}
-use Rattle.document_keys.specs.KeySet.{is_key}
-use Rattle.document_keys.specs.Names.{IsKey}
-use Rattle.mutation_queue.proofs.Tables.{one_key}
+-- what the places of a table show
+use Rattle.std.proofs.Common.{List, ℕ, IsTrue, Option, Some, None, refl}
+use Rattle.std.specs.Option.{is_some, option_and_then, unwrap_or}
+use Rattle.key_table.specs.Table.{value_at}
 use Rattle.overlays.specs.declared.slot.Slot.{Slot}
-use Rattle.overlays.specs.declared.slot.Slot.TheVariants.{Reserved}
-use Rattle.overlays.specs.Table.{HasKeysOnly, Table, laid}
+use Rattle.overlays.specs.Table.{Table, has_place, laid, shown}
 
--- the place of a key
-abbrev pub place_of : Table → List (List ℕ) → Option Slot
-place_of table key = lookup (is_key key) table
-
--- what has a place after a change at one key is the key of a document
-pub only_keys : (old new : Table) (key : List (List ℕ)) (w : Option Slot) → ((q : List (List ℕ)) → place_of new q ≡ cond (is_key key q) w (place_of old q)) → (IsTrue (is_some w) → IsKey key) → HasKeysOnly old → HasKeysOnly new
-only_keys old new key w is of_key were q there = by (is_key key q) refl
+-- a key that shows a document of its overlay has a place
+pub has_from_shown : (table : Table) (key : List (List ℕ)) → IsTrue (is_some (shown table key None)) → IsTrue (has_place table key)
+has_from_shown table key some = by (value_at table key) some
   where
-    by : (b : Bool) → is_key key q ≡ b → IsKey q
-    by true e = subst IsKey (one_key key q e) (of_key (subst (λ o. IsTrue (is_some o)) (is q ∙ ap (λ b. cond b w (place_of old q)) e) there))
-    by false e = were q (subst (λ o. IsTrue (is_some o)) (is q ∙ ap (λ b. cond b w (place_of old q)) e) there)
-
-module _ (old new : List (List ℕ) → Option Slot) (key q : List (List ℕ)) (w : Slot) (is : new q ≡ cond (is_key key q) (Some w) (old q)) where
-  -- every place stays
-  pub still : IsTrue (is_some (old q)) → IsTrue (is_some (new q))
-  still had = by (is_key key q) refl
-    where
-      by : (b : Bool) → is_key key q ≡ b → IsTrue (is_some (new q))
-      by true e = subst (λ o. IsTrue (is_some o)) (sym (is ∙ ap (λ b. cond b (Some w) (old q)) e)) refl
-      by false e = subst (λ o. IsTrue (is_some o)) (sym (is ∙ ap (λ b. cond b (Some w) (old q)) e)) had
-
-  -- a place where none was, for no overlay yet
-  pub placed : w ≡ Reserved → old key ≡ None → option_and_then laid (new q) ≡ option_and_then laid (old q)
-  placed reserved none = by (is_key key q) refl
-    where
-      by : (b : Bool) → is_key key q ≡ b → option_and_then laid (new q) ≡ option_and_then laid (old q)
-      by true e =
-          let none_there : old q ≡ None = subst (λ k. old k ≡ None) (one_key key q e) none in
-          let here : new q ≡ Some Reserved = is ∙ ap (λ b. cond b (Some w) (old q)) e ∙ ap Some reserved in
-          ap (option_and_then laid) here ∙ ap (option_and_then laid) (sym none_there)
-      by false e = ap (option_and_then laid) (is ∙ ap (λ b. cond b (Some w) (old q)) e)
+    by : (o : Option Slot) → IsTrue (is_some (unwrap_or (option_and_then laid o) None)) → IsTrue (is_some o)
+    by None some = some
+    by (Some slot) some = refl

@@ -1,4 +1,3 @@
 pub mod Lent
 pub mod LocalDocument
-pub mod Ranges
 pub mod Table

@@ -4,7 +4,6 @@ use Rattle.std.specs.Coded.{Coded, coded×, coded_list, coded_ℕ}
 use Rattle.std.specs.List.{All}
 use Rattle.std.specs.Map.{lookup}
 use Rattle.document_keys.specs.KeySet.{is_key}
-use Rattle.document_keys.specs.Names.{IsKey}
 use Rattle.value_model.specs.declared.document.Document.{Document}
 use Rattle.mutations.specs.declared.batch.Batch.{Batch}
 use Rattle.mutations.specs.Effect.{IsOfFieldsOnly}
@@ -12,7 +11,7 @@ use Rattle.overlays.specs.contracts.slot.Slot as slot
 use Rattle.overlays.specs.declared.slot.Slot.{Slot}
 use Rattle.overlays.specs.declared.slot.Slot.TheVariants.{Reserved, Laid}
 
--- the places of the table by key, ascending: each is made for an overlay, or holds one
+-- the places of the table by key, in an order that is left open: each is made for an overlay, or holds one
 abbrev pub Table : Type 0
 Table = List (List (List ℕ) × Slot)
 
@@ -24,10 +23,6 @@ abbrev pub laid : Slot → Option (Option Document)
 laid Reserved = None
 laid (Laid document) = Some document
 
--- the document of the overlay that a place holds
-abbrev pub document_in : Slot → Option Document
-document_in slot = option_and_then (λ found. found) (laid slot)
-
 -- the overlay of a key: its document, or that there is none
 abbrev pub overlay_of : Table → List (List ℕ) → Option (Option Document)
 overlay_of table key = option_and_then laid (lookup (is_key key) table)
@@ -35,10 +30,6 @@ overlay_of table key = option_and_then laid (lookup (is_key key) table)
 -- the table has a place for the key's overlay
 abbrev pub has_place : Table → List (List ℕ) → Bool
 has_place table key = is_some (lookup (is_key key) table)
-
--- what has a place is the key of a document
-abbrev pub HasKeysOnly : Table → Type 0
-HasKeysOnly table = (key : List (List ℕ)) → IsTrue (has_place table key) → IsKey key
 
 -- the document of a key that has this one without an overlay
 abbrev pub shown : Table → List (List ℕ) → Option Document → Option Document

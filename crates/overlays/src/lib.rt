@@ -6,7 +6,6 @@
 //! place; `set` cannot fail then. `is_of_fields` and `are_of_fields` test what is asked of the batches.
 #![tactic(auto)]
 
-mod below;
 mod laying;
 mod overlays;
 mod slot;

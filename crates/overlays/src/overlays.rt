@@ -1,19 +1,19 @@
-ghost use Rattle.std.specs.Prelude.{◌≡◌, ◌↔◌, ℕ, List, Some, None, IsTrue, IsOk, OnOk, IfOk, option_map};
+ghost use Rattle.std.specs.Prelude.{◌≡◌, ◌↔◌, ℕ, List, Some, None, IsTrue, IsOk, OnOk, IfOk, is_some, option_map};
 ghost use Rattle.std.specs.List.{All, AllPairs, Contains};
 ghost use Rattle.std.specs.Option.{ForSome, IsSome};
 ghost use Rattle.document_keys.specs.Order.{PathBefore};
 ghost use Rattle.value_model.specs.Documents.{IsIn};
 ghost use Rattle.overlays.specs.Lent.{known, lent_document, with_more};
 ghost use Rattle.overlays.specs.LocalDocument.{after_batch, local_document};
-ghost use Rattle.overlays.specs.Table.{Changes, IsBatchOfFields, KeepsOtherPlaces, KeepsPlaces, SameOverlays, document_in, has_place, overlay_of, shown};
+ghost use Rattle.overlays.specs.Table.{Changes, IsBatchOfFields, KeepsOtherPlaces, KeepsPlaces, SameOverlays};
+ghost use Rattle.overlays.specs.Table.{has_place, overlay_of, shown};
 
-use crate::below::{is_below, least_key};
 use crate::laying::{all_laid_on, base, laid_on};
 use crate::slot::Slot;
 use document_keys::{CollectionPath, DocumentKey, NoMemory};
+use key_table::KeyTable;
 use mutations::Batch;
 use std::alloc::Global;
-use std::collections::BTreeMap;
 use std::marker::Model;
 use value_model::{Document, Entry, Fields, Timestamp};
 
@@ -28,20 +28,18 @@ pub struct Overlay {
 /// by `overlay_of`, and beside it the room for more, by `has_place`.
 #[derive(Debug, Drop)]
 pub struct Overlays {
-    slots: BTreeMap<DocumentKey, Slot>,
+    slots: KeyTable<Slot>,
     alloc: Global,
 }
 
 impl Model for Overlays {
-    ghost use Rattle.overlays.specs.Table.{HasKeysOnly, Table, table_code};
+    ghost use Rattle.overlays.specs.Table.{Table, table_code};
 
     ghost Value = { Table };
 
     ghost coded = { table_code };
 
-    ghost view = { λ overlays. overlays.slots.entries };
-
-    ghost invariant = { λ overlays. HasKeysOnly overlays.slots.entries };
+    ghost view = { λ overlays. overlays.slots };
 }
 
 /// The fields and the update time of the entry's document.
@@ -54,20 +52,13 @@ fn lent<'a>(entry: Option<&'a Entry>) -> Option<(&'a Fields, Option<Timestamp>)>
     }
 }
 
-/// Whether the key is that of a document of the collection.
-fn is_listed(collection: &CollectionPath, key: &DocumentKey, slot: &Slot) -> bool
-    ensures { IsTrue result ↔ (IsIn collection.now key.now × IsSome (document_in slot.now)) }
-{
-    key.is_in(collection) && matches!(slot, Slot::Laid(Some(_)))
-}
-
 impl Overlays {
     /// No overlay. It takes no memory yet.
     pub fn new(alloc: Global) -> Overlays
         ensures { (key : List (List ℕ)) → overlay_of result key ≡ None }
     {
         Overlays {
-            slots: BTreeMap::new(alloc),
+            slots: KeyTable::new(alloc),
             alloc,
         }
     }
@@ -150,10 +141,9 @@ impl Overlays {
         ensures kept { IsTrue (has_place self.old key.now) → IsOk result }
         ensures places { KeepsPlaces self.old self.new }
     {
-        // what it says of the key is the invariant of the table
-        let _count = key.len();
-        if !self.slots.contains_key(key) {
-            self.slots.insert(key.copy(self.alloc)?, Slot::Reserved)?;
+        if !self.slots.has(key) {
+            let key = key.copy(self.alloc)?;
+            self.slots.insert(self.alloc, key, Slot::Reserved)?;
         }
         Ok(())
     }
@@ -164,10 +154,8 @@ impl Overlays {
         ensures done { Changes overlay.key (Some overlay.document) self.old self.new }
         ensures places { KeepsPlaces self.old self.new }
     {
-        let Some(slot) = self.slots.get_mut(&overlay.key) else {
-            return;
-        };
-        *slot = Slot::Laid(overlay.document);
+        let Overlay { key, document } = overlay;
+        self.slots.set(&key, Slot::Laid(document));
     }
 
     /// Takes the key's overlay away, if there is one, and its place.
@@ -207,6 +195,13 @@ impl Overlays {
         }
     }
 
+    /// Whether the key has an overlay that is a document.
+    fn has_document(&self, key: &DocumentKey) -> bool
+        ensures { result ≡ is_some (shown self.now key.now None) }
+    {
+        matches!(self.slots.get(key), Some(Slot::Laid(Some(_))))
+    }
+
     /// The keys of the collection's documents among those that have an overlay, ascending. It looks at the places below
     /// the collection's path alone.
     ///
@@ -221,16 +216,8 @@ impl Overlays {
         ensures members { IfOk result (λ keys. (key : List (List ℕ)) →
             Contains keys.items key ↔ (IsIn collection.now key × IsSome (shown self.now key None))) }
     {
-        let least = least_key(alloc, collection)?;
-        let mut keys = Vec::new(alloc);
-        for (key, slot) in self.slots.range(&least..) {
-            if !is_below(collection, key) {
-                return Ok(keys);
-            }
-            if is_listed(collection, key, slot) {
-                keys.push(key.copy(alloc)?)?;
-            }
-        }
+        let mut keys = self.slots.keys_in(alloc, collection)?;
+        keys.retain(|key| self.has_document(key));
         Ok(keys)
     }
 }

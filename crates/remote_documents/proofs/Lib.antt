@@ -1,4 +1,3 @@
 pub mod Listing
 pub mod Maps
-pub mod Ranges
 pub mod Tables

@@ -8,14 +8,13 @@ use Rattle.std.specs.List.{filter_map}
 use Rattle.std.specs.Map.{lookup}
 use Rattle.std.specs.Ordering.{nat_cmp}
 use Rattle.document_keys.specs.KeySet.{is_key}
-use Rattle.document_keys.specs.Names.{IsKey}
 use Rattle.value_model.specs.declared.document.Entry.{Entry}
 use Rattle.value_model.specs.declared.document.Seal.{Seal}
 use Rattle.remote_documents.specs.contracts.slot.Slot as slot
 use Rattle.remote_documents.specs.declared.slot.Slot.{Slot}
 use Rattle.remote_documents.specs.declared.slot.Slot.TheVariants.{Reserved, Held}
 
--- the places of the table by key, ascending: each is made for an entry, or holds one
+-- the places of the table by key, in an order that is left open: each is made for an entry, or holds one
 abbrev pub Table : Type 0
 Table = List (List (List ℕ) × Slot)
 
@@ -46,10 +45,6 @@ IsMapOf table = (key : List (List ℕ)) → map.get (entries_in table) key ≡ e
 -- the table has a place for the key's entry
 abbrev pub has_place : Table → List (List ℕ) → Bool
 has_place table key = is_some (lookup (is_key key) table)
-
--- what has a place is the key of a document
-abbrev pub HasKeysOnly : Table → Type 0
-HasKeysOnly table = (key : List (List ℕ)) → IsTrue (has_place table key) → IsKey key
 
 -- no entry changes
 abbrev pub SameEntries : Table → Table → Type 0

@@ -2,10 +2,9 @@
 //!
 //! `RemoteDocuments` holds an `Entry` and a `Seal` by key. Contracts see a finite map from keys to these pairs
 //! (`specs/Table.antt`), and beside it the room for more: `reserve` makes a place for a key, and a `put` of a key that has a
-//! place cannot be refused. A look-up lends; the keys of a collection are read off the order of the keys (`below.rt`).
+//! place cannot be refused. A look-up lends. The places stand in a `KeyTable`, which lists the keys of a collection in order.
 #![tactic(auto)]
 
-mod below;
 mod slot;
 mod table;
 

@@ -1,16 +1,15 @@
-ghost use Rattle.std.specs.Prelude.{◌≡◌, ◌↔◌, ℕ, List, Some, None, IsTrue, IsOk, OnOk, OnErr, IfOk, option_map};
+ghost use Rattle.std.specs.Prelude.{◌≡◌, ◌↔◌, ℕ, List, Some, None, IsTrue, IsOk, OnOk, OnErr, IfOk, is_some, option_map};
 ghost use Rattle.std.specs.List.{AllPairs, Contains};
 ghost use Rattle.std.specs.Option.{IsSome};
 ghost use Rattle.document_keys.specs.Order.{PathBefore};
 ghost use Rattle.value_model.specs.Documents.{IsIn};
 ghost use Rattle.remote_documents.specs.Table.{Changes, IsMapOf, KeepsOtherPlaces, KeepsPlaces, SameEntries};
-ghost use Rattle.remote_documents.specs.Table.{entry_of, has_place, held};
+ghost use Rattle.remote_documents.specs.Table.{entry_of, has_place};
 
-use crate::below::{is_below, least_key};
 use crate::slot::Slot;
 use document_keys::{CollectionPath, DocumentKey, KeySet, NoMemory};
+use key_table::KeyTable;
 use std::alloc::Global;
-use std::collections::BTreeMap;
 use std::marker::Model;
 use value_model::{Entry, Seal};
 
@@ -18,34 +17,18 @@ use value_model::{Entry, Seal};
 /// beside it the room for more, by `has_place`.
 #[derive(Debug, Drop)]
 pub struct RemoteDocuments {
-    slots: BTreeMap<DocumentKey, Slot>,
+    slots: KeyTable<Slot>,
     alloc: Global,
 }
 
 impl Model for RemoteDocuments {
-    ghost use Rattle.remote_documents.specs.Table.{HasKeysOnly, Table, table_code};
+    ghost use Rattle.remote_documents.specs.Table.{Table, table_code};
 
     ghost Value = { Table };
 
     ghost coded = { table_code };
 
-    ghost view = { λ documents. documents.slots.entries };
-
-    ghost invariant = { λ documents. HasKeysOnly documents.slots.entries };
-}
-
-/// Whether the place holds an entry.
-fn is_held(slot: &Slot) -> bool
-    ensures { IsTrue result ↔ IsSome (held slot.now) }
-{
-    matches!(slot, Slot::Held(_, _))
-}
-
-/// Whether the key is that of a document of the collection, and has an entry.
-fn is_listed(collection: &CollectionPath, key: &DocumentKey, slot: &Slot) -> bool
-    ensures { IsTrue result ↔ (IsIn collection.now key.now × IsSome (held slot.now)) }
-{
-    key.is_in(collection) && is_held(slot)
+    ghost view = { λ documents. documents.slots };
 }
 
 impl RemoteDocuments {
@@ -54,7 +37,7 @@ impl RemoteDocuments {
         ensures { (key : List (List ℕ)) → entry_of result key ≡ None }
     {
         RemoteDocuments {
-            slots: BTreeMap::new(alloc),
+            slots: KeyTable::new(alloc),
             alloc,
         }
     }
@@ -63,7 +46,7 @@ impl RemoteDocuments {
     pub fn is_map(&self)
         ensures { IsMapOf self.now }
     {
-        let _slots = self.slots.iter();
+        self.slots.has_each_key_once();
     }
 
     /// The entry of the key and its seal, lent; `None` exactly where there is no entry.
@@ -86,10 +69,9 @@ impl RemoteDocuments {
         ensures kept { IsTrue (has_place self.old key.now) → IsOk result }
         ensures places { KeepsPlaces self.old self.new }
     {
-        // what it says of the key is the invariant of the table
-        let _count = key.len();
-        if !self.slots.contains_key(key) {
-            self.slots.insert(key.copy(self.alloc)?, Slot::Reserved)?;
+        if !self.slots.has(key) {
+            let key = key.copy(self.alloc)?;
+            self.slots.insert(self.alloc, key, Slot::Reserved)?;
         }
         Ok(())
     }
@@ -100,10 +82,7 @@ impl RemoteDocuments {
         ensures done { Changes key.now (Some (entry, seal)) self.old self.new }
         ensures places { KeepsPlaces self.old self.new }
     {
-        let Some(slot) = self.slots.get_mut(key) else {
-            return;
-        };
-        *slot = Slot::Held(entry, seal);
+        self.slots.set(key, Slot::Held(entry, seal));
     }
 
     /// Puts the entry with its seal in place of the key's old one.
@@ -112,7 +91,7 @@ impl RemoteDocuments {
     /// `NoMemory`, never where there is a place for the key: no entry has changed then.
     pub fn put(
         &mut self,
-        _alloc: Global,
+        alloc: Global,
         key: DocumentKey,
         entry: Entry,
         seal: Seal,
@@ -122,9 +101,7 @@ impl RemoteDocuments {
         ensures kept { IsTrue (has_place self.old key) → IsOk result }
         ensures places { KeepsPlaces self.old self.new }
     {
-        // what it says of the key is the invariant of the table
-        let _size = key.len();
-        self.slots.insert(key, Slot::Held(entry, seal))?;
+        self.slots.insert(alloc, key, Slot::Held(entry, seal))?;
         Ok(())
     }
 
@@ -134,6 +111,13 @@ impl RemoteDocuments {
         ensures places { KeepsOtherPlaces key.now self.old self.new }
     {
         self.slots.remove(key);
+    }
+
+    /// Whether the key has an entry.
+    fn has_entry(&self, key: &DocumentKey) -> bool
+        ensures { result ≡ is_some (entry_of self.now key.now) }
+    {
+        matches!(self.slots.get(key), Some(Slot::Held(_, _)))
     }
 
     /// The keys of the collection's documents among those that have an entry, ascending. It looks at the places below the
@@ -150,16 +134,8 @@ impl RemoteDocuments {
         ensures members { IfOk result (λ keys. (key : List (List ℕ)) →
             Contains keys.items key ↔ (IsIn collection.now key × IsSome (entry_of self.now key))) }
     {
-        let least = least_key(alloc, collection)?;
-        let mut keys = Vec::new(alloc);
-        for (key, slot) in self.slots.range(&least..) {
-            if !is_below(collection, key) {
-                return Ok(keys);
-            }
-            if is_listed(collection, key, slot) {
-                keys.push(key.copy(alloc)?)?;
-            }
-        }
+        let mut keys = self.slots.keys_in(alloc, collection)?;
+        keys.retain(|key| self.has_entry(key));
         Ok(keys)
     }
 
@@ -170,9 +146,10 @@ impl RemoteDocuments {
     pub fn keys(&self, alloc: Global) -> Result<KeySet, NoMemory>
         ensures { IfOk result (λ keys. (key : List (List ℕ)) → Contains keys key ↔ IsSome (entry_of self.now key)) }
     {
+        let places = self.slots.keys(alloc)?;
         let mut keys = KeySet::new(alloc);
-        for (key, slot) in self.slots.iter() {
-            if is_held(slot) {
+        for key in places.as_slice() {
+            if self.has_entry(key) {
                 keys.insert(alloc, key.copy(alloc)?)?;
             }
         }

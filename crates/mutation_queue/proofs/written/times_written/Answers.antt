@@ -1,7 +1,6 @@
-use Rattle.std.proofs.Common.{◌≡◌, ◌∙◌, ◌+◌, ℕ, Bool, cond, refl, sym, ap, subst, arith}
+use Rattle.std.proofs.Common.{◌≡◌, ◌∙◌, ℕ, Bool, cond, refl, sym, ap, arith}
 use Rattle.document_keys.specs.KeySet.{is_key}
-use Rattle.mutation_queue.specs.Counts.{times}
-use Rattle.mutation_queue.specs.Queue.{keys_of, written_key}
+use Rattle.mutation_queue.specs.Queue.{written_key}
 use Rattle.std.proofs.lemmas.List.{take_all}
 use Rattle.mutation_queue.proofs.Counting.{times_more}
 use Rattle.mutation_queue.proofs.written.times_written.Goals as goal

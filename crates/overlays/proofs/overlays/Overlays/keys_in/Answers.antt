@@ -1,37 +1,24 @@
-use Rattle.std.proofs.Common.{◌≡◌, ◌∙◌, ◌++◌, ◌∷◌, [], ap}
-use Rattle.overlays.proofs.Listing.{all_left, ascending_paths, none_ahead, none_at_end, none_left, passed, taken}
-use Rattle.overlays.proofs.Ranges.{part_is}
+use Rattle.std.proofs.Common.{◌≡◌, List, ℕ, IsTrue, None, rules, sym, subst}
+use Rattle.std.specs.List.{AllPairs, filter}
+use Rattle.std.specs.Option.{is_some}
+use Rattle.std.proofs.lemmas.Fn.{filter_same}
+use Rattle.std.proofs.lemmas.List.Kept.{AllPairs-filter}
+use Rattle.document_keys.specs.Order.{PathBefore}
+use Rattle.value_model.specs.Documents.{IsIn}
+use Rattle.key_table.proofs.Listing.{passing_members}
+use Rattle.overlays.specs.Table.{has_place, shown}
+use Rattle.overlays.proofs.Tables.{has_from_shown}
 use Rattle.overlays.proofs.overlays.Overlays.keys_in.Goals as goal
 
-pub loop-key-preserved-in_ok-push : goal.loop-key-preserved-in_ok-push
-loop-key-preserved-in_ok-push c =
-    let step : c.loop-key.key-iterator ≡ (c.in-Some.key.now, c.in-Some.slot.now) ∷ c.next.new.self = c.in-Some.ensures.steps in
-    taken c.args.collection.now c.into_iter-key-iterator.result c.in-Some.key.now c.in-Some.slot.now c.next.new.self c.loop-key.key-iterator c.loop-key.keys.items step c.loop-key.invariant c.push.new.self.items (c.in_ok-push.ensures.items ∙ ap (λ k. c.loop-key.keys.items ++ k ∷ []) c.in_ok-copy.ensures) (c.is_listed.ensures.0 c.if-is_listed.true)
-
-pub loop-key-preserved : goal.loop-key-preserved
-loop-key-preserved c =
-    let step : c.loop-key.key-iterator ≡ (c.in-Some.key.now, c.in-Some.slot.now) ∷ c.next.new.self = c.in-Some.ensures.steps in
-    passed c.args.collection.now c.into_iter-key-iterator.result c.in-Some.key.now c.in-Some.slot.now c.next.new.self c.loop-key.key-iterator c.loop-key.keys.items step c.loop-key.invariant (λ it. let yes_it_is = c.is_listed.ensures.1 it in let no_it_is = c.if-is_listed.false in cc)
-
-pub loop-key-init : goal.loop-key-init
-loop-key-init c =
-    let whole = part_is c.args.collection.now c.in_ok-least.least c.self.inside.slots.entries c.range-key-items.result c.into_iter-key-iterator.result c.in_ok-least.ensures (c.range-key-items.ensures.between tt) c.into_iter-key-iterator.ensures.into_iter_gives in
-    all_left c.args.collection.now c.self.inside.slots.entries c.into_iter-key-iterator.result c.new-keys.result.items whole c.new-keys.ensures.items c.range-key-items.ensures.ordered
-
-pub returns-then-not-is_below-clause-ascending : goal.returns-then-not-is_below-clause-ascending
-returns-then-not-is_below-clause-ascending c = ascending_paths c.loop-key.keys.items c.loop-key.invariant.ascending
-
-pub returns-then-not-is_below-clause-members : goal.returns-then-not-is_below-clause-members
-returns-then-not-is_below-clause-members c =
-    let step : c.loop-key.key-iterator ≡ (c.in-Some.key.now, c.in-Some.slot.now) ∷ c.next.new.self = c.in-Some.ensures.steps in
-    let whole = part_is c.args.collection.now c.in_ok-least.least c.self.inside.slots.entries c.range-key-items.result c.into_iter-key-iterator.result c.in_ok-least.ensures (c.range-key-items.ensures.between tt) c.into_iter-key-iterator.ensures.into_iter_gives in
-    let none = none_ahead c.args.collection.now c.into_iter-key-iterator.result c.in-Some.key.now c.in-Some.slot.now c.next.new.self c.loop-key.key-iterator c.loop-key.keys.items step c.loop-key.invariant (λ below. let yes_it_is = c.is_below.ensures.1 below in let no_it_is = c.if-not-is_below.true in cc) in
-    λ q. rw (← c.self.view_is) (none_left c.self.inside.slots c.into_iter-key-iterator.result c.loop-key.key-iterator c.range-key-items.ensures.ordered c.self.invariant whole none c.loop-key.invariant q)
-
 pub returns-clause-ascending : goal.returns-clause-ascending
-returns-clause-ascending c = ascending_paths c.loop-key.keys.items c.loop-key.invariant.ascending
+returns-clause-ascending c =
+    let test = λ (q : List (List ℕ)). is_some (shown c.args.self.now q None) in
+    let kept : c.retain.new.self.items ≡ filter test c.in_ok-keys.keys.items = filter_same _ test _ (λ x b f' called. search rules) c.in_ok-keys.keys.items c.retain.new.self.items c.retain.ensures.filtered in
+    subst (AllPairs PathBefore) (sym kept) (AllPairs-filter PathBefore test c.in_ok-keys.keys.items c.in_ok-keys.ensures.ascending)
 
 pub returns-clause-members : goal.returns-clause-members
 returns-clause-members c =
-    let whole = part_is c.args.collection.now c.in_ok-least.least c.self.inside.slots.entries c.range-key-items.result c.into_iter-key-iterator.result c.in_ok-least.ensures (c.range-key-items.ensures.between tt) c.into_iter-key-iterator.ensures.into_iter_gives in
-    λ q. rw (← c.self.view_is) (none_left c.self.inside.slots c.into_iter-key-iterator.result c.loop-key.key-iterator c.range-key-items.ensures.ordered c.self.invariant whole (none_at_end c.args.collection.now c.loop-key.key-iterator c.in-None.ensures.steps.0) c.loop-key.invariant q)
+    let test = λ (q : List (List ℕ)). is_some (shown c.args.self.now q None) in
+    let kept : c.retain.new.self.items ≡ filter test c.in_ok-keys.keys.items = filter_same _ test _ (λ x b f' called. search rules) c.in_ok-keys.keys.items c.retain.new.self.items c.retain.ensures.filtered in
+    passing_members test c.self.inside.slots (IsIn c.args.collection.now) c.in_ok-keys.keys.items c.retain.new.self.items kept c.in_ok-keys.ensures.members
+    (λ q some. subst (λ t. IsTrue (has_place t q)) (sym c.self.view_is) (has_from_shown c.args.self.now q some))

@@ -1,18 +1,30 @@
-use Rattle.std.proofs.Common.{◌≡◌, ◌∙◌, ◌∷◌, subst}
+use Rattle.std.proofs.Common.{◌∙◌, ◌↔◌, ◌+◌, List, ℕ, IsTrue, [], take, refl, sym, subst}
+use Rattle.std.specs.List.{Contains}
+use Rattle.std.proofs.lemmas.List.{take_all}
 use Rattle.document_keys.specs.KeySet.{Inserts}
-use Rattle.remote_documents.proofs.Listing.{all_gathered, gathered, left_out}
+use Rattle.remote_documents.specs.Table.{has_place}
+use Rattle.remote_documents.proofs.Listing.{AreHeld, all_held, gathered, left_out, none_yet}
 use Rattle.remote_documents.proofs.table.RemoteDocuments.keys.Goals as goal
+use Rattle.remote_documents.proofs.table.RemoteDocuments.keys.Goals.{then-has_entry+in_ok-copy+in_ok-insert, else-has_entry}
 
-pub loop-key-preserved-in_ok-insert : goal.loop-key-preserved-in_ok-insert
-loop-key-preserved-in_ok-insert c =
-    let step : c.loop-key.key-iterator ≡ (c.in-Some.key.now, c.in-Some.slot.now) ∷ c.next.new.self = c.in-Some.ensures.steps in
-    gathered c.into_iter-key-iterator.result c.in-Some.key.now c.in-Some.slot.now c.next.new.self c.loop-key.key-iterator c.loop-key.keys step c.loop-key.invariant c.insert.new.self
-    (subst (λ k. Inserts k c.loop-key.keys c.insert.new.self) c.in_ok-copy.ensures c.in_ok-insert.ensures.done) (c.is_held.ensures.0 c.if-is_held.true)
+pub loop-key-init : goal.loop-key-init
+loop-key-init c = none_yet c.args.self.now [] c.new-keys.result c.new-keys.ensures refl
 
 pub loop-key-preserved : goal.loop-key-preserved
 loop-key-preserved c =
-    let step : c.loop-key.key-iterator ≡ (c.in-Some.key.now, c.in-Some.slot.now) ∷ c.next.new.self = c.in-Some.ensures.steps in
-    left_out c.into_iter-key-iterator.result c.in-Some.key.now c.in-Some.slot.now c.next.new.self c.loop-key.key-iterator c.loop-key.keys step c.loop-key.invariant (λ it. let yes_it_is = c.is_held.ensures.1 it in let no_it_is = c.if-is_held.false in cc)
+    let table = c.args.self.now in
+    let all = c.as_slice-key-items.result.now in
+    let key = c.key-item.result in
+    elim c.if-has_entry.branch [
+      | then-has_entry+in_ok-copy+in_ok-insert w ↦ subst (AreHeld table (take (c.loop-key.key-index + 1) all)) (sym w.keys-is)
+          (gathered table all c.loop-key.keys c.loop-key.key-index key c.loop-key-test.true c.key-item.is c.loop-key.invariant w.insert.new.self
+          (subst (λ k. Inserts k c.loop-key.keys w.insert.new.self) w.in_ok-copy.ensures w.in_ok-insert.ensures.done) (sym c.has_entry.ensures ∙ w.if-has_entry.true))
+      | else-has_entry w ↦ subst (AreHeld table (take (c.loop-key.key-index + 1) all)) (sym w.keys-is)
+          (left_out table all c.loop-key.keys c.loop-key.key-index key c.loop-key-test.true c.key-item.is c.loop-key.invariant (λ some. let has = c.has_entry.ensures ∙ some in let no_entry = w.if-has_entry.false in cc))
+    ]
 
 pub returns : goal.returns
-returns c = λ q. rw (← c.self.view_is) (all_gathered c.self.inside.slots c.into_iter-key-iterator.result c.loop-key.key-iterator c.iter-key-items.ensures.ordered (c.into_iter-key-iterator.ensures.into_iter_gives ∙ c.iter-key-items.ensures.rest) c.in-None.ensures.steps.0 c.loop-key.invariant q)
+returns c =
+    let whole = take_all c.loop-key.key-index c.as_slice-key-items.result.now c.loop-key-test.false ∙ c.as_slice-key-items.ensures in
+    let places = λ (q : List (List ℕ)). subst (λ t. Contains c.in_ok-places.places q ↔ IsTrue (has_place t q)) c.self.view_is (c.in_ok-places.ensures q) in
+    all_held c.args.self.now c.in_ok-places.places c.loop-key.keys places (subst (λ l. AreHeld c.args.self.now l c.loop-key.keys) whole c.loop-key.invariant)

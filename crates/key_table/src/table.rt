@@ -1,0 +1,165 @@
+ghost use Rattle.std.specs.Prelude.{◌≡◌, ◌↔◌, ℕ, List, [], Some, None, IsTrue, IsOk, OnOk, OnErr, IfOk, option_map};
+ghost use Rattle.std.specs.List.{AllPairs, Contains};
+ghost use Rattle.document_keys.specs.Order.{PathBefore};
+ghost use Rattle.value_model.specs.Documents.{IsIn};
+ghost use Rattle.key_table.specs.Table.{HasEachKeyOnce, Puts, SameValues, has_key, value_at};
+
+use crate::below::{is_below, least_key};
+use document_keys::{CollectionPath, DocumentKey, KeySet, NoMemory};
+use std::alloc::Global;
+use std::collections::{BTreeSet, HashMap};
+use std::marker::Model;
+
+/// A table by document key. Contracts see the list of its pairs, which no clause gives an order.
+#[derive(Debug, Drop)]
+pub struct KeyTable<V> {
+    places: HashMap<DocumentKey, V>,
+    order: BTreeSet<DocumentKey>,
+}
+
+impl<V> Model for KeyTable<V> {
+    ghost use Rattle.std.specs.Coded.{coded×, coded_list, coded_ℕ};
+    ghost use Rattle.key_table.specs.Table.{AreInOrder, Pairs};
+
+    ghost Value = { Pairs V };
+
+    ghost coded = { coded_list (coded× (coded_list (coded_list coded_ℕ)) V.code) };
+
+    ghost view = { λ table. table.places.entries };
+
+    ghost invariant = { λ table. AreInOrder table.places.entries table.order.keys };
+}
+
+impl<V> KeyTable<V> {
+    /// The empty table. It takes no memory yet.
+    pub fn new(alloc: Global) -> KeyTable<V>
+        ensures { result ≡ [] }
+    {
+        KeyTable {
+            places: HashMap::new(alloc),
+            order: BTreeSet::new(alloc),
+        }
+    }
+
+    /// Whether the table has the key.
+    pub fn has(&self, key: &DocumentKey) -> bool
+        ensures { result ≡ has_key self.now key.now }
+    {
+        self.places.contains_key(key)
+    }
+
+    /// The value at the key, lent; `None` exactly where the table hasn't the key.
+    pub fn get(&self, key: &DocumentKey) -> Option<&V>
+        ensures { option_map (λ value. value.now) result ≡ value_at self.now key.now }
+    {
+        self.places.get(key)
+    }
+
+    /// Puts the value in place of the key's old one. It takes no memory.
+    pub fn set(&mut self, key: &DocumentKey, value: V)
+    where
+        V: Drop,
+        requires { IsTrue (has_key self.old key.now) }
+        ensures { Puts key.now (Some value) self.old self.new }
+    {
+        let Some(place) = self.places.get_mut(key) else {
+            return;
+        };
+        *place = value;
+    }
+
+    /// Puts a key that isn't there into the table, with its value.
+    fn add(&mut self, alloc: Global, key: DocumentKey, value: V) -> Result<(), NoMemory>
+    where
+        V: Drop,
+        requires { value_at self.old key ≡ None }
+        ensures done { OnOk result (Puts key (Some value) self.old self.new) }
+        ensures undone { OnErr result (SameValues self.old self.new) }
+    {
+        // what it says of the key is the invariant of the table
+        let _count = key.len();
+        let ordered = key.copy(alloc)?;
+        self.places.reserve(1)?;
+        self.order.insert(ordered)?;
+        let Ok(_) = self.places.insert(key, value) else {
+            unreachable!();
+        };
+        Ok(())
+    }
+
+    /// Puts the value in place of the key's old one, or the key into the table with it.
+    ///
+    /// # Errors
+    /// `NoMemory`, never where the table has the key: no value has changed then.
+    pub fn insert(&mut self, alloc: Global, key: DocumentKey, value: V) -> Result<(), NoMemory>
+    where
+        V: Drop,
+        ensures done { OnOk result (Puts key (Some value) self.old self.new) }
+        ensures undone { OnErr result (SameValues self.old self.new) }
+        ensures kept { IsTrue (has_key self.old key) → IsOk result }
+    {
+        if let Some(place) = self.places.get_mut(&key) {
+            *place = value;
+            return Ok(());
+        }
+        self.add(alloc, key, value)
+    }
+
+    /// Takes the key out of the table, and gives its value; `None` exactly where the table hasn't the key.
+    pub fn remove(&mut self, key: &DocumentKey) -> Option<V>
+        ensures value { result ≡ value_at self.old key.now }
+        ensures done { Puts key.now None self.old self.new }
+    {
+        let value = self.places.remove(key)?;
+        self.order.remove(key);
+        Some(value)
+    }
+
+    /// No key stands twice. It does nothing.
+    pub fn has_each_key_once(&self)
+        ensures { HasEachKeyOnce self.now }
+    {
+        let _places = self.places.iter();
+    }
+
+    /// The keys of the collection's documents, ascending. It looks at the keys below the collection's path alone.
+    ///
+    /// # Errors
+    /// `NoMemory`
+    pub fn keys_in(
+        &self,
+        alloc: Global,
+        collection: &CollectionPath,
+    ) -> Result<Vec<DocumentKey>, NoMemory>
+        ensures ascending { IfOk result (λ keys. AllPairs PathBefore keys.items) }
+        ensures members { IfOk result (λ keys. (key : List (List ℕ)) →
+            Contains keys.items key ↔ (IsIn collection.now key × IsTrue (has_key self.now key))) }
+    {
+        let least = least_key(alloc, collection)?;
+        let mut keys = Vec::new(alloc);
+        for key in self.order.range(&least..) {
+            if !is_below(collection, key) {
+                return Ok(keys);
+            }
+            if key.is_in(collection) {
+                keys.push(key.copy(alloc)?)?;
+            }
+        }
+        Ok(keys)
+    }
+
+    /// All keys.
+    ///
+    /// # Errors
+    /// `NoMemory`
+    pub fn keys(&self, alloc: Global) -> Result<KeySet, NoMemory>
+        ensures { IfOk result (λ keys. (key : List (List ℕ)) →
+            Contains keys key ↔ IsTrue (has_key self.now key)) }
+    {
+        let mut keys = KeySet::with_capacity(alloc, self.order.len())?;
+        for key in self.order.iter() {
+            keys.insert(alloc, key.copy(alloc)?)?;
+        }
+        Ok(keys)
+    }
+}
