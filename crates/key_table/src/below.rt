@@ -1,7 +1,7 @@
 //! Where the documents of a collection stand among all keys in their order.
 
-ghost use Rattle.std.specs.Prelude.{◌≡◌, ◌↔◌, IsTrue, IfOk, OnOk};
-ghost use Rattle.document_keys.specs.Names.{IsCollection, IsSegment};
+ghost use Rattle.std.specs.Prelude.{◌≡◌, ◌↔◌, IsTrue, IfOk};
+ghost use Rattle.document_keys.specs.Names.{IsSegment};
 ghost use Rattle.key_table.specs.Ranges.{IsBelow, least_in};
 
 use document_keys::{CollectionPath, DocumentKey, NameFault, NoMemory, Segment};
@@ -40,21 +40,6 @@ fn segment_of(alloc: Global, text: &str) -> Result<Segment, NoMemory>
     }
 }
 
-/// The segments of the path.
-fn segments_of(alloc: Global, path: &CollectionPath) -> Result<Vec<Segment>, NoMemory>
-    ensures segments { IfOk result (λ segments. segments.items ≡ path.now) }
-    ensures path { OnOk result (IsCollection path.now) }
-{
-    let mut segments = Vec::new(alloc);
-    for index in 0..path.len() {
-        let Some(text) = path.segment(index) else {
-            unreachable!();
-        };
-        segments.push(segment_of(alloc, text)?)?;
-    }
-    Ok(segments)
-}
-
 /// The least key that a document of the collection can have.
 ///
 /// # Errors
@@ -62,10 +47,6 @@ fn segments_of(alloc: Global, path: &CollectionPath) -> Result<Vec<Segment>, NoM
 pub(crate) fn least_key(alloc: Global, collection: &CollectionPath) -> Result<DocumentKey, NoMemory>
     ensures { IfOk result (λ key. key ≡ least_in collection.now) }
 {
-    let mut segments = segments_of(alloc, collection)?;
-    segments.push(segment_of(alloc, LEAST_ID)?)?;
-    let Some(key) = DocumentKey::from_segments(segments) else {
-        unreachable!();
-    };
-    Ok(key)
+    let id = segment_of(alloc, LEAST_ID)?;
+    DocumentKey::inside(alloc, collection, &id)
 }
