@@ -211,6 +211,9 @@ impl Listeners {
         ensures only { AddsConcernedOnly self.now key.now ids.old ids.new }
         ensures each { OnOk result (HasAllConcerned self.now key.now ids.new) }
     {
+        if self.listeners.is_empty() {
+            return Ok(());
+        }
         let least = least_key(alloc, &key.parent(alloc)?)?;
         add_concerned(&self.listeners, self.indexes.places.at(key), key, ids)?;
         add_concerned(&self.listeners, self.indexes.places.at(&least), key, ids)
