@@ -1,16 +1,16 @@
 -- what a state lends of its tables
-use Rattle.std.proofs.Common.{◌≡◌, ◌∙◌, ◌↔◌, ◌⊎◌, ◌||◌, inl, inr, zero, suc, ℕ, ◌&&◌, T, Bool, true, false, not, cond, is_some, IsTrue, List, [], ◌∷◌, map, Option, Some, None, Ordering, Less, Equal, Greater, refl, sym, ap, subst, arith}
+use Rattle.std.proofs.Common.{◌≡◌, ◌∙◌, ◌↔◌, ◌⊎◌, ◌||◌, inl, inr, ℕ, ◌&&◌, T, Bool, true, false, not, cond, is_some, IsTrue, List, [], ◌∷◌, map, Option, Some, None, Ordering, Less, Equal, Greater, refl, sym, ap, subst}
 use Rattle.std.specs.FinMap as finite
 use Rattle.std.specs.FinMap.Entries.{below_all}
 use Rattle.std.specs.List.{Contains, filter}
 use Rattle.std.specs.Option.{IsSome, option_map, unwrap_or}
 use Rattle.std.specs.Ordering.{is_lt, is_eq}
-use Rattle.std.proofs.lemmas.List.Elements.{Contains-append_cases, Contains-append_right}
 use Rattle.document_keys.specs.KeySet.{is_key}
 use Rattle.value_model.specs.declared.document.DocState.TheVariants as stands
 use Rattle.value_model.specs.declared.document.Document.{Document}
 use Rattle.value_model.specs.declared.document.Entry.{Entry}
 use Rattle.value_model.specs.declared.document.Seal.{Seal}
+use Rattle.key_table.proofs.Listing.{passing}
 use Rattle.mutation_queue.specs.Queue.{named_keys}
 use Rattle.mutation_queue.proofs.Tables.{one_key}
 use Rattle.overlays.specs.LocalDocument.{base_of}
@@ -22,10 +22,6 @@ use Rattle.durable_state.specs.State.{State}
 use Rattle.durable_state.specs.Tables.{AreLaid}
 use Rattle.durable_state.proofs.Laid.{among-append, among_in, in_among, not_so}
 use Rattle.durable_state.proofs.Local.{documents_local, unnamed_document}
-
-only : (k q : List (List ℕ)) → Contains (k ∷ []) q → k ≡ q
-only k q (zero, below, is) = is
-only k q (suc i, below, is) = absurd (omega arith)
 
 -- a test that holds exactly where it is among them
 test_is : (b : Bool) (keys : List (List (List ℕ))) (q : List (List ℕ)) → IsTrue b ↔ Contains keys q → is_among keys q ≡ b
@@ -115,33 +111,6 @@ plain_is s q found named is = is ∙ sym (ap (λ b. not b && is_some (base_of (e
 
 pub not_plain : (s : State) (q : List (List ℕ)) → is_named s q ≡ true → false ≡ is_plain s q
 not_plain s q named = sym (ap (λ b. not b && is_some (base_of (entry_of s q))) named)
-
--- the keys that pass a test
-passing : (test : List (List ℕ) → Bool) (xs : List (List (List ℕ))) (k : List (List ℕ)) → Contains (filter test xs) k ↔ (Contains xs k × (test k ≡ true))
-passing test [] k = (λ has. absurd (omega (arith, has.1)), λ has. absurd (omega (arith, has.0.1)))
-passing test (x ∷ xs) k = by (test x) refl (passing test xs k)
-  where
-    cases : (ys : List (List (List ℕ))) → Contains (x ∷ ys) k → (x ≡ k) ⊎ Contains ys k
-    cases ys has = elim (Contains-append_cases (x ∷ []) ys k has) [ inl here ↦ inl (only x k here) | inr later ↦ inr later ]
-
-    by : (b : Bool) → test x ≡ b → Contains (filter test xs) k ↔ (Contains xs k × (test k ≡ true)) → Contains (cond b (x ∷ filter test xs) (filter test xs)) k ↔ (Contains (x ∷ xs) k × (test k ≡ true))
-    by true so rest = (
-      λ has. elim (cases (filter test xs) has) [
-        | inl e ↦ ((0, omega arith, e), ap test (sym e) ∙ so)
-        | inr later ↦ let both = rest.0 later in (Contains-append_right (x ∷ []) xs k both.0, both.1)
-      ],
-      λ both. elim (cases xs both.0) [
-        | inl e ↦ (0, omega arith, e)
-        | inr later ↦ Contains-append_right (x ∷ []) (filter test xs) k (rest.1 (later, both.1))
-      ],
-    )
-    by false so rest = (
-      λ has. let both = rest.0 has in (Contains-append_right (x ∷ []) xs k both.0, both.1),
-      λ both. elim (cases xs both.0) [
-        | inl e ↦ absurd (let never = sym so ∙ ap test e ∙ both.1 in cc)
-        | inr later ↦ rest.1 (later, both.1)
-      ],
-    )
 
 plain_so : (s : State) (q : List (List ℕ)) → is_plain s q ≡ true → (is_named s q ≡ false) × IsSome (base_of (entry_of s q))
 plain_so s q so = by (is_named s q) refl (base_of (entry_of s q)) refl so
