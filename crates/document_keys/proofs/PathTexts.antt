@@ -1,15 +1,17 @@
 -- texts of paths, cut at each `/`: their parts one after another, and the order of the parts by the bytes of the text
-use Rattle.std.proofs.Common.{◌≡◌, ◌≢◌, ◌∙◌, ◌↔◌, ℕ, zero, suc, ◌<◌, ◌+◌, ◌-◌, Bool, true, false, not, cond, IsTrue, is_some, nat_eq, Ordering, Less, Equal, Greater, Option, Some, None, MatchOption, Bor, List, [], ◌∷◌, ◌++◌, length, min, take, drop, get_or, inl, inr, refl, sym, ap, subst, append-nil, append_assoc, arith}
+use Rattle.std.proofs.Common.{◌≤◌, ◌≡◌, ◌≢◌, ◌∙◌, ◌↔◌, ℕ, zero, suc, ◌<◌, ◌+◌, ◌-◌, Bool, true, false, not, cond, IsTrue, is_some, nat_eq, Ordering, Less, Equal, Greater, Option, Some, None, MatchOption, Bor, List, [], ◌∷◌, ◌++◌, length, min, take, drop, get_or, inl, inr, refl, sym, ap, subst, append-nil, append_assoc, arith}
 use Rattle.std.specs.Bool.{◌==◌}
 use Rattle.std.specs.Cmp.{nat_cmp_total, tied_itself}
 use Rattle.std.specs.Cmp.Lexicographic.{pointwise, bytes_decides, slice_cmp}
+use Rattle.std.specs.Int.{from_be_bytes, to_be_bytes, w64}
 use Rattle.std.specs.List.{All, onto_first, slice_get}
 use Rattle.std.specs.Ordering.{MatchOrdering, nat_cmp, ordering_then}
-use Rattle.std.proofs.lemmas.Bool.{ne_eqb}
+use Rattle.std.proofs.lemmas.Bool.{cases_lt, eq-eqb, ne_eqb}
 use Rattle.std.proofs.lemmas.Bool.Decides.{eqb_tells}
 use native.Mathlib.Numerals.{unary_clauses}
 use Rattle.std.proofs.lemmas.Cmp.{ranked}
-use Rattle.std.proofs.lemmas.List.{append_cancel_left, drop_more, length-append, length-drop, take-append-drop, take_more}
+use Rattle.std.proofs.lemmas.List.{get_or-take, get_or_past, append_cancel_left, drop_more, length-append, length-drop, length-take, take-append-drop, take_more}
+use Rattle.std.proofs.lemmas.Nat.{be_bytes_8}
 use Rattle.std.proofs.lemmas.List.Elements.{All-cons, All-head, All-same, All-tail}
 use Rattle.std.proofs.lemmas.List.Splits.{length-slice_split, slice_split-cons_no, slice_split-cons_yes}
 use Rattle.document_keys.specs.Names.{IsSegment, parts_of, path_text, relative_path}
@@ -189,6 +191,30 @@ pub order_at : (xs ys : List ℕ) (i : ℕ) → i < length xs → i < length ys 
 order_at xs ys i one two differ =
     (λ k. order_of (drop_more xs i 0 one k) (drop_more ys i 0 two k))
     ∙ ap (λ t. cond t (order_of (drop (i + 1) xs) (drop (i + 1) ys)) (byte_order (get_or xs i 0) (get_or ys i 0))) (ne_eqb _ _ differ)
+
+abbrev pub IsBytes : List ℕ → Type 0
+IsBytes bytes = (i : ℕ) → get_or bytes i 0 < 256
+
+IsBytes-take : (n : ℕ) (bytes : List ℕ) → IsBytes bytes → IsBytes (take n bytes)
+IsBytes-take n bytes h i =
+    elim (cases_lt i n) [
+      | inl lt ↦ rw (get_or-take n bytes i 0 lt) (h i)
+      | inr le ↦ rw (get_or_past (take n bytes) i 0 (omega (arith, length-take n bytes))) (omega arith)
+    ]
+
+-- a word and what follows it
+pub word_read : (bytes front rest : List ℕ) (n : ℕ) → IsBytes bytes → n ≡ from_be_bytes w64 front → front ≡ take 8 bytes → rest ≡ drop 8 bytes → 8 ≤ length bytes → to_be_bytes w64 n ++ rest ≡ bytes
+word_read bytes front rest n fits read front-is rest-is long =
+    let word : to_be_bytes w64 n ≡ take 8 bytes = be_bytes_8 (take 8 bytes) n (omega (arith, length-take 8 bytes)) (IsBytes-take 8 bytes fits) (read ∙ ap (from_be_bytes w64) front-is) in
+    (λ i. word i ++ rest-is i) ∙ take-append-drop 8 bytes
+
+-- what the two have in common at their fronts
+pub order_front : (same xs ys : List ℕ) → order_of (same ++ xs) (same ++ ys) ≡ order_of xs ys
+order_front [] xs ys = refl
+order_front (x ∷ same) xs ys = ap (λ t. cond t (order_of (same ++ xs) (same ++ ys)) (byte_order x x)) (eq-eqb x x refl) ∙ order_front same xs ys
+
+pub order_behind : {whole other : List ℕ} (xs ys : List ℕ) → (same : List ℕ) × (whole ≡ same ++ xs) × (other ≡ same ++ ys) → order_of xs ys ≡ slice_cmp texts_cmp (parts_of whole) (parts_of other)
+order_behind {whole} {other} xs ys split = sym (order_front split.0 xs ys) ∙ (λ i. order_of (sym split.1 i) (sym split.2 i)) ∙ order_of_parts whole other
 
 -- one text ends
 pub order_end : (xs ys : List ℕ) (i : ℕ) (o : Ordering) → o ≡ nat_cmp (length xs) (length ys) → i ≡ min (length xs) (length ys) → order_of (drop i xs) (drop i ys) ≡ o

@@ -1,8 +1,9 @@
 //! Names: what documents are called, and how those names are written (`projects/{p}/databases/{d}/documents/{path}`).
 //!
 //! A `Database` is the root of names. A `DocumentKey` and a `CollectionPath` are lists of `Segment`s, read under a root and
-//! printed under it; a `FieldPath` is a list of field names. A `KeySet` holds keys in their order. `Text` and `Sequence`
-//! are a text and a list of its own, which contracts see as plain lists. Readers name the first fault of a text
+//! printed under it; a `KeyBuilder` puts a key together segment by segment. A `FieldPath` is a list of field names. A `KeySet`
+//! and a `PathSet` hold keys and field paths in their order. `Text` and `Sequence` are a text and a list of its own, which
+//! contracts see as plain lists. Readers name the first fault of a text
 //! (`NameFault`, `FieldFault`). The order of all of them is by the first part that differs, a front first.
 #![tactic(auto)]
 

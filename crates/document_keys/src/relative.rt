@@ -2,6 +2,7 @@
 
 ghost use Rattle.std.specs.Prelude.{◌≡◌, ◌≢◌, ◌↔◌, ◌<◌, IsTrue, IfOk, IfErr, OnOk, IfSome, MatchOption, option_map, List, ℕ, [], ◌++◌, ◌∷◌, length};
 ghost use Rattle.std.specs.Cmp.Lexicographic.{slice_cmp};
+ghost use Rattle.std.specs.Int.{to_be_bytes, w64};
 ghost use Rattle.std.specs.List.{All, slice_get};
 ghost use Rattle.std.specs.Ordering.{nat_cmp};
 ghost use Rattle.std.specs.String.{string_bytes};
@@ -110,11 +111,41 @@ fn compare_bytes(left: u8, right: u8) -> Ordering
     left.cmp(&right)
 }
 
+/// A word of eight bytes and what follows it, where there are so many.
+fn word(bytes: &[u8]) -> Option<(u64, &[u8])>
+    ensures word { IfSome result (λ x. to_be_bytes w64 x.0 ++ x.1.now ≡ bytes.now) }
+    ensures shorter { IfSome result (λ x. length x.1.now < length bytes.now) }
+{
+    let (front, rest) = bytes.split_first_chunk::<8>()?;
+    Some((u64::from_be_bytes(*front), rest))
+}
+
+/// The two without the words that they have in common at their fronts.
+fn after_same_words<'a>(left: &'a [u8], right: &'a [u8]) -> (&'a [u8], &'a [u8])
+    ensures { (same : List ℕ) × (left.now ≡ same ++ result.0.now) × (right.now ≡ same ++ result.1.now) }
+{
+    let mut one = left;
+    let mut other = right;
+    loop {
+        let Some((word_of_one, behind)) = word(one) else {
+            return (one, other);
+        };
+        let Some((word_of_other, beyond)) = word(other) else {
+            return (one, other);
+        };
+        if word_of_one != word_of_other {
+            return (one, other);
+        }
+        one = behind;
+        other = beyond;
+    }
+}
+
 /// The order of paths by their parts. It looks for the first byte that differs: a part that ends there comes first.
 pub(crate) fn compare_paths(left: &str, right: &str) -> Ordering
     ensures { result ≡ slice_cmp (slice_cmp nat_cmp) (parts_of left.now) (parts_of right.now) }
 {
-    let (left, right) = (left.as_bytes(), right.as_bytes());
+    let (left, right) = after_same_words(left.as_bytes(), right.as_bytes());
     let least = left.len().min(right.len());
     for i in 0..least {
         if left[i] != right[i] {

@@ -3,8 +3,7 @@
 //! What is put into a `json::Writer` are the tokens of the tree that `json_model` says is printed
 //! (`specs/Puts.antt`), so that the text is that tree's. `put_value` puts a value and `put_fields` the
 //! fields of a document; `put_document` puts a document, and `put_members` what stands in its braces,
-//! for a line that has a member more. Where memory is wanting some first tokens may have been put, and
-//! the writer is of no use.
+//! for a line that has a member more. Where memory is wanting nothing is said of the writer.
 #![tactic(auto)]
 
 mod document;

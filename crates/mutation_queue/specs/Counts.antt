@@ -1,5 +1,5 @@
 -- How often keys stand in a list, and a table that counts them.
-use Rattle.std.specs.Prelude.{◌≡◌, ℕ, List, Bool, count_by, is_some, unwrap_or, IsTrue}
+use Rattle.std.specs.Prelude.{◌≡◌, ◌<◌, ℕ, List, Bool, false, count_by, is_some, unwrap_or, IsTrue}
 use Rattle.std.specs.Map.{lookup}
 use Rattle.document_keys.specs.KeySet.{is_key}
 
@@ -26,3 +26,11 @@ SameCounts old new = (key : List (List ℕ)) → count_of new key ≡ count_of o
 -- every place stays
 abbrev pub KeepsPlaces : Counts → Counts → Type 0
 KeepsPlaces old new = (key : List (List ℕ)) → IsTrue (has_place old key) → IsTrue (has_place new key)
+
+-- every place stays, but those of these keys
+abbrev pub KeepsOtherPlaces : List (List (List ℕ)) → Counts → Counts → Type 0
+KeepsOtherPlaces keys old new = (key : List (List ℕ)) → times key keys ≡ 0 → IsTrue (has_place old key) → IsTrue (has_place new key)
+
+-- of these keys those that aren't counted any more have no place
+abbrev pub FreesPlaces : List (List (List ℕ)) → Counts → Type 0
+FreesPlaces keys counts = (key : List (List ℕ)) → 0 < times key keys → count_of counts key ≡ 0 → has_place counts key ≡ false

@@ -1,6 +1,6 @@
-ghost use Rattle.std.specs.Prelude.{◌≡◌, ◌↔◌, ◌+◌, ◌<◌, ◌≤◌, ◌^◌, ℕ, List, [], length, IsTrue, IsOk, OnOk, if◌then◌else◌};
+ghost use Rattle.std.specs.Prelude.{◌≡◌, ◌↔◌, ◌+◌, ◌<◌, ◌≤◌, ◌^◌, ℕ, List, [], length, false, IsTrue, IsOk, OnOk, if◌then◌else◌};
 ghost use Rattle.document_keys.specs.KeySet.{is_key};
-ghost use Rattle.mutation_queue.specs.Counts.{KeepsPlaces, SameCounts, count_of, has_place, times};
+ghost use Rattle.mutation_queue.specs.Counts.{FreesPlaces, KeepsOtherPlaces, KeepsPlaces, SameCounts, count_of, has_place, times};
 ghost use Rattle.mutation_queue.specs.Queue.{HavePlaces, keys_of};
 
 use crate::written::written_key;
@@ -51,7 +51,7 @@ impl KeyCounts {
         self.count(key) > 0
     }
 
-    /// Makes a place for the key, which isn't counted there yet.
+    /// Makes a place for the key where it has none. No count changes.
     ///
     /// # Errors
     /// `NoMemory`
@@ -84,8 +84,11 @@ impl KeyCounts {
     /// Counts the key once less. A key that isn't counted any more has no place.
     pub(crate) fn lower(&mut self, key: &DocumentKey)
         requires { 0 < count_of self.old key.now }
-        ensures { (q : List (List ℕ)) → count_of self.old q
+        ensures counts { (q : List (List ℕ)) → count_of self.old q
             ≡ count_of self.new q + (if is_key key.now q then 1 else 0) }
+        ensures places { (q : List (List ℕ)) → is_key key.now q ≡ false
+            → has_place self.new q ≡ has_place self.old q }
+        ensures gone { count_of self.new key.now ≡ 0 → has_place self.new key.now ≡ false }
     {
         let Some(count) = self.counts.get_mut(key) else {
             return;
@@ -129,8 +132,10 @@ impl KeyCounts {
     /// Counts the key of each write once less.
     pub(crate) fn lower_all(&mut self, writes: &[Write])
         requires { (q : List (List ℕ)) → times q (keys_of writes.now) ≤ count_of self.old q }
-        ensures { (q : List (List ℕ)) → count_of self.old q
+        ensures counts { (q : List (List ℕ)) → count_of self.old q
             ≡ count_of self.new q + times q (keys_of writes.now) }
+        ensures places { KeepsOtherPlaces (keys_of writes.now) self.old self.new }
+        ensures gone { FreesPlaces (keys_of writes.now) self.new }
     {
         for write in writes {
             self.lower(written_key(write));

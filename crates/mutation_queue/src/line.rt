@@ -85,7 +85,8 @@ impl Line {
 
     /// Throws out those that have left, if they are more than those that wait.
     fn close_up(&mut self)
-        ensures { self.new.batches ≡ self.old.batches }
+        ensures same { self.new.batches ≡ self.old.batches }
+        ensures spare { self.old.spare ≤ self.new.spare }
     {
         let waiting = self.batches.len() - self.left;
         if self.left > waiting {
@@ -97,7 +98,8 @@ impl Line {
 
     /// Takes the first batch out, or nothing where none waits.
     pub(crate) fn take_first(&mut self, alloc: Global) -> Option<Batch>
-        ensures { TakesFirst self.old.batches result self.new.batches }
+        ensures taken { TakesFirst self.old.batches result self.new.batches }
+        ensures spare { self.old.spare ≤ self.new.spare }
     {
         if self.left == self.batches.len() {
             return None;

@@ -1,5 +1,6 @@
-ghost use Rattle.std.specs.Prelude.{◌≡◌, ◌↔◌, [], ◌∷◌, ◌++◌, drop, length, IsTrue, IsOk, OnOk, OnErr, option_map};
+ghost use Rattle.std.specs.Prelude.{◌≡◌, ◌↔◌, ◌≤◌, [], ◌∷◌, ◌++◌, drop, take, length, IsTrue, IsOk, OnOk, OnErr, option_map};
 ghost use Rattle.std.specs.List.{Contains, slice_get};
+ghost use Rattle.mutation_queue.specs.Counts.{FreesPlaces, KeepsOtherPlaces};
 ghost use Rattle.mutation_queue.specs.Line.{TakesFirst};
 ghost use Rattle.mutation_queue.specs.Queue.{HasRoom, KeepsRoom, named_keys};
 
@@ -106,9 +107,13 @@ impl MutationQueue {
         self.line.as_slice().get(index as usize)
     }
 
-    /// Takes the first batch out; `None` exactly where there is none. Room that was made may be gone then.
+    /// Takes the first batch out; `None` exactly where there is none. Room that was made stays, but for the places of keys that
+    /// no pending write names any more.
     pub fn remove_first(&mut self) -> Option<Batch>
-        ensures { TakesFirst self.old.batches result self.new.batches }
+        ensures taken { TakesFirst self.old.batches result self.new.batches }
+        ensures spare { self.old.spare ≤ self.new.spare }
+        ensures places { KeepsOtherPlaces (named_keys (take 1 self.old.batches)) self.old.counts self.new.counts }
+        ensures gone { FreesPlaces (named_keys (take 1 self.old.batches)) self.new.counts }
     {
         let first = self.line.take_first(self.alloc)?;
         let writes = first.writes.as_slice();

@@ -1,4 +1,4 @@
-ghost use Rattle.std.specs.Prelude.{◌≡◌, ◌↔◌, ℕ, List, Some, None, IsTrue, IsOk, OnOk, OnErr, IfOk, is_some, option_map};
+ghost use Rattle.std.specs.Prelude.{◌≡◌, ◌↔◌, ℕ, List, Some, None, false, IsTrue, IsOk, OnOk, OnErr, IfOk, is_some, option_map};
 ghost use Rattle.std.specs.List.{AllPairs, Contains};
 ghost use Rattle.std.specs.Option.{IsSome};
 ghost use Rattle.document_keys.specs.Order.{PathBefore};
@@ -108,6 +108,7 @@ impl RemoteDocuments {
     /// Takes the key's entry away, if there is one, and its place.
     pub fn remove(&mut self, key: &DocumentKey)
         ensures done { Changes key.now None self.old self.new }
+        ensures gone { has_place self.new key.now ≡ false }
         ensures places { KeepsOtherPlaces key.now self.old self.new }
     {
         self.slots.remove(key);

@@ -61,7 +61,7 @@ impl SharedFields {
         }
     }
 
-    /// The fields to change, where nobody else holds them.
+    /// The fields to change; `None` where others may hold them too.
     pub fn alone(&mut self) -> Option<&mut Fields>
         ensures* writes_back { sem 𝓛 (LendsIf shared.the_row fields.the_row self.entry result (λ w. w) self.old) }
         ensures value { IfSome result (λ fields. fields.now ≡ self.old) }
