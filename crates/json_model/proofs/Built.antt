@@ -45,19 +45,13 @@ kind_known name known = by (is_kind (value_member name)) (ap (λ b. is_kind (val
 pub unsupported : (o : Origin) (limit : ℕ) (name : List ℕ) (d : json.Data) → FaultsAt o limit place.Unsupported name d [] → ⊥
 unfolding FaultsAt
 unsupported o limit name json.null h = cc
-unsupported o limit name (json.boolean b) h = cc
-unsupported o limit name (json.number n) h = cc
-unsupported o limit name (json.string t) h = cc
-unsupported o limit name (json.array ds) h = cc
-unsupported o limit name (json.object ms) h = cc
+unsupported o limit name _ h = cc
 
 pub no_other_kind : (o : Origin) (p : Place) (d : json.Data) → is_kind p ≡ true → IsClean o p d → ((kind : Object) → p ≢ place.Object kind) → ((kind : Leaf) → p ≢ place.Leaf kind) → ⊥
 no_other_kind o (place.Object kind) d is clean objects leaves = objects kind refl
-no_other_kind o (place.Series kind) d is clean objects leaves = cc
 no_other_kind o (place.Leaf kind) d is clean objects leaves = leaves kind refl
 no_other_kind o place.Unsupported d is clean objects leaves = unsupported o clean.0 clean.1 d clean.3
-no_other_kind o place.Unknown d is clean objects leaves = cc
-no_other_kind o place.Ignored d is clean objects leaves = cc
+no_other_kind o _ d is clean objects leaves = cc
 
 pub no_other_object : (kind : Object) → is_kind (place.Object kind) ≡ true → kind ≢ object.Array → kind ≢ object.Map → ⊥
 no_other_object object.Array is array map = array refl

@@ -30,19 +30,7 @@ scalar_deep leaf.Time d v s = ap depth s.1.1
 scalar_deep leaf.Text d v s = ap depth s.1.1
 scalar_deep leaf.Bytes d v s = ap depth s.1.1
 scalar_deep leaf.Reference d v s = ap depth s.1.1
-scalar_deep leaf.Name d v s = absurd s
-scalar_deep leaf.Path d v s = absurd s
-scalar_deep leaf.ServerTime d v s = absurd s
-scalar_deep leaf.Id d v s = absurd s
-scalar_deep leaf.Parent d v s = absurd s
-scalar_deep leaf.QueryPath d v s = absurd s
-scalar_deep leaf.Limit d v s = absurd s
-scalar_deep leaf.Descendants d v s = absurd s
-scalar_deep leaf.TargetId d v s = absurd s
-scalar_deep leaf.Count d v s = absurd s
-scalar_deep leaf.Code d v s = absurd s
-scalar_deep leaf.ListenerId d v s = absurd s
-scalar_deep (leaf.Constant which) d v s = absurd s
+scalar_deep _ d v s = absurd s
 
 put_deep : (es : Entries) (name : List ℕ) (v : Data) (limit : ℕ) → entries_depth es ≤ limit → depth v ≤ limit → entries_depth (with_field es name v) ≤ limit
 put_deep [] name v limit all one = omega arith

@@ -52,16 +52,9 @@ fields_digits (json.member n d ms) none = neither _ false none refl
 
 mutual
   pub value_digits : (d : Data) → has_float (printed_value d) ≡ false
-  value_digits null = refl
-  value_digits (boolean b) = refl
-  value_digits (integer z) = refl
-  value_digits (time t) = refl
-  value_digits (pending t) = refl
-  value_digits (text s) = refl
-  value_digits (bytes s) = refl
-  value_digits (reference r) = refl
   value_digits (array ds) = neither _ false (values_digits (printed_items ds) (items_digits ds)) refl
   value_digits (map ms) = neither _ false (fields_digits (printed_members ms) (members_digits ms)) refl
+  value_digits _ = refl
 
   items_digits : (ds : Items) → items_have_float (printed_items ds) ≡ false
   items_digits no_items = refl

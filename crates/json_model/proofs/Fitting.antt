@@ -25,23 +25,19 @@ use Rattle.json_model.proofs.Sound.{nothing_first, nothing_last, no_missing, sou
 
 flat_fits : (o : Origin) (p : Place) (name : List ℕ) (d : Json) → FlatFaults o p name d [] → FitsFlat o p d
 flat_fits o (place.Leaf kind) name d h = leaf_fits o.root kind name d h
-flat_fits o (place.Object kind) name d h = cc
-flat_fits o (place.Series kind) name d h = cc
-flat_fits o place.Unsupported name d h = cc
 flat_fits o place.Unknown name d h = by o.side h
   where
     by : (side : Side) → [] ≡ unknown_faults side name → side ≡ Backend
     by Caller e = cc
     by Backend e = refl
 flat_fits o place.Ignored name d h = tt
+flat_fits o _ name d h = cc
 
 fits_flat : (o : Origin) (p : Place) (name : List ℕ) (d : Json) → FitsFlat o p d → FlatFaults o p name d []
 fits_flat o (place.Leaf kind) name d h = fits_leaf o.root kind name d h
-fits_flat o (place.Object kind) name d h = absurd h
-fits_flat o (place.Series kind) name d h = absurd h
-fits_flat o place.Unsupported name d h = absurd h
 fits_flat o place.Unknown name d h = ap (λ side. unknown_faults side name) (sym h)
 fits_flat o place.Ignored name d h = refl
+fits_flat o _ name d h = absurd h
 
 -- ---- tests and the faults that they stand for
 
@@ -103,25 +99,14 @@ mutual
   unfolding Fits FaultsAt
 
   pub clean_fits : (o : Origin) (limit : ℕ) (p : Place) (name : List ℕ) (d : Json) → FaultsAt o limit p name d [] → Fits o limit p d
-  clean_fits o limit p name null h = flat_fits o p name null h
-  clean_fits o limit p name (boolean b) h = flat_fits o p name (boolean b) h
-  clean_fits o limit p name (number n) h = flat_fits o p name (number n) h
-  clean_fits o limit p name (string t) h = flat_fits o p name (string t) h
   clean_fits o limit (place.Series kind) name (array ds) h = let inside = sound_list o limit kind name ds h in (own_only kind name ds inside.0, items_fit o limit kind name ds inside.1)
-  clean_fits o limit (place.Object kind) name (array ds) h = flat_fits o (place.Object kind) name (array ds) h
-  clean_fits o limit (place.Leaf kind) name (array ds) h = flat_fits o (place.Leaf kind) name (array ds) h
-  clean_fits o limit place.Unsupported name (array ds) h = flat_fits o place.Unsupported name (array ds) h
-  clean_fits o limit place.Unknown name (array ds) h = flat_fits o place.Unknown name (array ds) h
-  clean_fits o limit place.Ignored name (array ds) h = tt
   clean_fits o limit (place.Object kind) name (an_object ms) h =
       let inside = sound o limit kind name ms h in
       let own = own_choice kind name ms inside.own in
       record { chooses = own.0; no_vector = own.1; levels = inside.levels; takes = inside.takes; room = inside.room; inside = members_fit o (levels_inside kind (limit - inside.levels)) (refined kind ms) (required (refined kind ms)) ms inside.inside }
-  clean_fits o limit (place.Series kind) name (an_object ms) h = flat_fits o (place.Series kind) name (an_object ms) h
-  clean_fits o limit (place.Leaf kind) name (an_object ms) h = flat_fits o (place.Leaf kind) name (an_object ms) h
-  clean_fits o limit place.Unsupported name (an_object ms) h = flat_fits o place.Unsupported name (an_object ms) h
-  clean_fits o limit place.Unknown name (an_object ms) h = flat_fits o place.Unknown name (an_object ms) h
-  clean_fits o limit place.Ignored name (an_object ms) h = tt
+  clean_fits o limit p name (array ds) h = flat_fits o p name (array ds) h
+  clean_fits o limit p name (an_object ms) h = flat_fits o p name (an_object ms) h
+  clean_fits o limit p name d h = flat_fits o p name d h
 
   items_fit : (o : Origin) (limit : ℕ) (kind : Series) (name : List ℕ) (ds : Items) → ItemsFaults o limit kind name ds [] → ItemsFit o limit kind ds
   items_fit o limit kind name no_items h = tt
@@ -138,24 +123,13 @@ mutual
   unfolding Fits FaultsAt
 
   pub fits_clean : (o : Origin) (limit : ℕ) (p : Place) (name : List ℕ) (d : Json) → Fits o limit p d → FaultsAt o limit p name d []
-  fits_clean o limit p name null h = fits_flat o p name null h
-  fits_clean o limit p name (boolean b) h = fits_flat o p name (boolean b) h
-  fits_clean o limit p name (number n) h = fits_flat o p name (number n) h
-  fits_clean o limit p name (string t) h = fits_flat o p name (string t) h
   fits_clean o limit (place.Series kind) name (array ds) h = no_own_faults (own_list_faults kind name ds) (ItemsFaults o limit kind name ds) (only_own kind name ds h.0) (fit_items o limit kind name ds h.1)
-  fits_clean o limit (place.Object kind) name (array ds) h = absurd h
-  fits_clean o limit (place.Leaf kind) name (array ds) h = fits_flat o (place.Leaf kind) name (array ds) h
-  fits_clean o limit place.Unsupported name (array ds) h = absurd h
-  fits_clean o limit place.Unknown name (array ds) h = fits_flat o place.Unknown name (array ds) h
-  fits_clean o limit place.Ignored name (array ds) h = refl
   fits_clean o limit (place.Object kind) name (an_object ms) h =
       no_own_faults (own_faults kind name ms) (InLevels (refined kind ms) ms limit (λ inner. MembersFaults o (levels_inside kind inner) (refined kind ms) (required (refined kind ms)) ms)) (choice_own kind name ms h.chooses h.no_vector)
       (record { levels = h.levels; takes = h.takes; inside = []; are = fit_members o (levels_inside kind (limit - h.levels)) (refined kind ms) (required (refined kind ms)) ms h.inside; is = ap (λ (l : List JsonFault). l ++ []) (sym (none_deep limit h.levels h.room)) })
-  fits_clean o limit (place.Series kind) name (an_object ms) h = absurd h
-  fits_clean o limit (place.Leaf kind) name (an_object ms) h = fits_flat o (place.Leaf kind) name (an_object ms) h
-  fits_clean o limit place.Unsupported name (an_object ms) h = absurd h
-  fits_clean o limit place.Unknown name (an_object ms) h = fits_flat o place.Unknown name (an_object ms) h
-  fits_clean o limit place.Ignored name (an_object ms) h = refl
+  fits_clean o limit p name (array ds) h = fits_flat o p name (array ds) h
+  fits_clean o limit p name (an_object ms) h = fits_flat o p name (an_object ms) h
+  fits_clean o limit p name d h = fits_flat o p name d h
 
   fit_items : (o : Origin) (limit : ℕ) (kind : Series) (name : List ℕ) (ds : Items) → ItemsFit o limit kind ds → ItemsFaults o limit kind name ds []
   fit_items o limit kind name no_items h = refl

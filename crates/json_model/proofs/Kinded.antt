@@ -31,11 +31,7 @@ unless_test Fact fault holds (Err e) yes_then then_yes is = is
 
 pub text_at : (d : Json) (text : List ℕ) → Some text ≡ as_str d → d ≡ string text
 text_at (string t) text same = let q : t ≡ text = cc in ap string q
-text_at null text same = cc
-text_at (boolean b) text same = cc
-text_at (number n) text same = cc
-text_at (array ds) text same = cc
-text_at (object ms) text same = cc
+text_at _ text same = cc
 
 -- two readings of one text
 pub same_text : (d : Json) (a b : List ℕ) → Some a ≡ as_str d → d ≡ string b → a ≡ b
@@ -43,19 +39,11 @@ same_text d a b is at = let e : Some a ≡ Some b = is ∙ ap as_str at in cc
 
 pub is_boolean : (d : Json) → is_some (as_bool d) ≡ true → (is : Bool) × (d ≡ boolean is)
 is_boolean (boolean b) yes_is = (b, refl)
-is_boolean null yes_is = cc
-is_boolean (number n) yes_is = cc
-is_boolean (string t) yes_is = cc
-is_boolean (array ds) yes_is = cc
-is_boolean (object ms) yes_is = cc
+is_boolean _ yes_is = cc
 
 pub is_text : (d : Json) → is_some (as_str d) ≡ true → IsText d
 is_text (string t) yes_is = (t, refl)
-is_text null yes_is = cc
-is_text (boolean b) yes_is = cc
-is_text (number n) yes_is = cc
-is_text (array ds) yes_is = cc
-is_text (object ms) yes_is = cc
+is_text _ yes_is = cc
 
 -- what a reader found, or that there is nothing to find
 pub some_then : {A : Type 0} (Fact : A → Type 0) (found : Option A) → MatchOption found ((a : A) → Fact a → ⊥) Fact → is_some found ≡ true → (a : A) × Fact a

@@ -130,19 +130,7 @@ scalar_once leaf.Reference d v w s t =
     let one = s.1.0 in
     let two = t.1.0 in
     s.1.1 ∙ ap reference (reference_once one.0 s.0 t.0 one.1.1 (subst (λ c. SpellsReference c t.0) (same_text d two.0 one.0 two.1.0 one.1.0) two.1.1)) ∙ sym t.1.1
-scalar_once leaf.Name d v w s t = absurd s
-scalar_once leaf.Path d v w s t = absurd s
-scalar_once leaf.ServerTime d v w s t = absurd s
-scalar_once leaf.Id d v w s t = absurd s
-scalar_once leaf.Parent d v w s t = absurd s
-scalar_once leaf.QueryPath d v w s t = absurd s
-scalar_once leaf.Limit d v w s t = absurd s
-scalar_once leaf.Descendants d v w s t = absurd s
-scalar_once leaf.TargetId d v w s t = absurd s
-scalar_once leaf.Count d v w s t = absurd s
-scalar_once leaf.Code d v w s t = absurd s
-scalar_once leaf.ListenerId d v w s t = absurd s
-scalar_once (leaf.Constant which) d v w s t = absurd s
+scalar_once _ d v w s t = absurd s
 
 -- ---- trees
 

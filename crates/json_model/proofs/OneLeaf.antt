@@ -1,5 +1,5 @@
 -- A leaf has one list of faults, and what a reader answers of a leaf without faults is no fault of it.
-use Rattle.std.proofs.Common.{◌≡◌, ◌≢◌, ◌∙◌, inl, inr, ℕ, ◌<◌, List, [], ◌∷◌, length, Some, None, codes, Bool, true, false, nat_lt, IsTrue, refl, sym, ap, subst, arith}
+use Rattle.std.proofs.Common.{rules, ◌≡◌, ◌≢◌, ◌∙◌, inl, inr, ℕ, ◌<◌, List, [], ◌∷◌, length, Some, None, codes, Bool, true, false, nat_lt, IsTrue, refl, sym, ap, subst, arith}
 use Rattle.std.specs.List.{Contains, slice_index_or}
 use Rattle.std.proofs.lemmas.List.Elements.{All-contains, All-weaker}
 use borrow.Author.Tests.{ltb-true, ltb-false}
@@ -38,19 +38,9 @@ unless_one Fact fault a b (inr x) (inr y) = x.1 ∙ sym y.1
 -- ---- names
 
 field_fault_one : (name : List ℕ) (f g : NamingFault) → HasFieldFault name f → HasFieldFault name g → f ≡ g
-field_fault_one name WrongRoot g x y = absurd x
-field_fault_one name BadSegment g x y = absurd x
-field_fault_one name OddLength g x y = absurd x
-field_fault_one name BadPath WrongRoot x y = absurd y
-field_fault_one name BadPath BadSegment x y = absurd y
-field_fault_one name BadPath OddLength x y = absurd y
-field_fault_one name BadPath BadPath x y = refl
 field_fault_one name BadPath ReservedField x y = absurd (x y.0)
-field_fault_one name ReservedField WrongRoot x y = absurd y
-field_fault_one name ReservedField BadSegment x y = absurd y
-field_fault_one name ReservedField OddLength x y = absurd y
 field_fault_one name ReservedField BadPath x y = absurd (y x.0)
-field_fault_one name ReservedField ReservedField x y = refl
+field_fault_one name _ _ x y = search rules
 
 naming_one : (Fact : Type 0) (Has : NamingFault → Type 0) (text : List ℕ) → ((f : NamingFault) → Fact → Has f → ⊥) → ((f g : NamingFault) → Has f → Has g → f ≡ g) → IsOne (NamingFaults Fact Has text)
 naming_one Fact Has text none one a b (inl x) (inl y) = x.1 ∙ sym y.1
@@ -61,9 +51,7 @@ naming_one Fact Has text none one a b (inr (f, x, is)) (inr (g, y, also)) = is �
 field_none : (name : List ℕ) (f : NamingFault) → IsFieldName name → HasFieldFault name f → ⊥
 field_none name BadPath is has = has is.long
 field_none name ReservedField is has = is.free has.1
-field_none name WrongRoot is has = has
-field_none name BadSegment is has = has
-field_none name OddLength is has = has
+field_none name _ is has = has
 
 pub field_name_one : (name : List ℕ) → IsOne (FieldNameFaults name)
 field_name_one name a b x y = naming_one _ _ name (field_none name) (field_fault_one name) a b x y
@@ -135,19 +123,9 @@ document_text_one root text a b x y =
 -- ---- paths
 
 path_fault_one : (text : List ℕ) (f g : NamingFault) → HasFieldPathFault text f → HasFieldPathFault text g → f ≡ g
-path_fault_one text BadPath BadPath x y = refl
 path_fault_one text BadPath ReservedField x y = absurd (x y.0 y.1 y.2)
 path_fault_one text ReservedField BadPath x y = absurd (y x.0 x.1 x.2)
-path_fault_one text ReservedField ReservedField x y = refl
-path_fault_one text WrongRoot g x y = absurd x
-path_fault_one text BadSegment g x y = absurd x
-path_fault_one text OddLength g x y = absurd x
-path_fault_one text BadPath WrongRoot x y = absurd y
-path_fault_one text BadPath BadSegment x y = absurd y
-path_fault_one text BadPath OddLength x y = absurd y
-path_fault_one text ReservedField WrongRoot x y = absurd y
-path_fault_one text ReservedField BadSegment x y = absurd y
-path_fault_one text ReservedField OddLength x y = absurd y
+path_fault_one text _ _ x y = search rules
 
 path_none : (text : List ℕ) (f : NamingFault) → IsFieldPathText text → HasFieldPathFault text f → ⊥
 path_none text BadPath (names, is) has = has names is.spelled (All-weaker IsFieldName HasNameLength (λ n one. one.long) names is.fields)
@@ -165,19 +143,9 @@ path_one text a _ (few never x) (too_many many) = absurd (never many)
 path_one text a b (few never x) (few nor y) = naming_one _ _ text (path_none text) (path_fault_one text) a b x y
 
 query_fault_one : (text : List ℕ) (f g : NamingFault) → HasQueryPathFault text f → HasQueryPathFault text g → f ≡ g
-query_fault_one text BadPath BadPath x y = refl
 query_fault_one text BadPath ReservedField x y = absurd (x y.0 y.1 y.2)
 query_fault_one text ReservedField BadPath x y = absurd (y x.0 x.1 x.2)
-query_fault_one text ReservedField ReservedField x y = refl
-query_fault_one text WrongRoot g x y = absurd x
-query_fault_one text BadSegment g x y = absurd x
-query_fault_one text OddLength g x y = absurd x
-query_fault_one text BadPath WrongRoot x y = absurd y
-query_fault_one text BadPath BadSegment x y = absurd y
-query_fault_one text BadPath OddLength x y = absurd y
-query_fault_one text ReservedField WrongRoot x y = absurd y
-query_fault_one text ReservedField BadSegment x y = absurd y
-query_fault_one text ReservedField OddLength x y = absurd y
+query_fault_one text _ _ x y = search rules
 
 query_none : (text : List ℕ) (f : NamingFault) → IsQueryPathText text → HasQueryPathFault text f → ⊥
 query_none text BadPath (names, is) has = has names is.spelled is.path.long

@@ -29,12 +29,8 @@ one_array (one ∷ []) h =
 
 as_value : (o : Origin) (limit : ℕ) (d : Json) → Fits o limit (place.Object object.ListOperand) d → Fits o limit (place.Object object.Value) d
 unfolding Fits
-as_value o limit null h = absurd h
-as_value o limit (boolean b) h = absurd h
-as_value o limit (number n) h = absurd h
-as_value o limit (string t) h = absurd h
-as_value o limit (array ds) h = absurd h
 as_value o limit (an_object ms) h = record { chooses = one_array (chosen object.Value ms) h.chooses; no_vector = refl; levels = h.levels; takes = h.takes; room = h.room; inside = h.inside }
+as_value o limit _ h = absurd h
 
 pub operand_value : (o : Origin) (d : Json) → IsClean o (place.Object object.ListOperand) d → IsClean o (place.Object object.Value) d
 operand_value o d (limit, name, room, clean) =

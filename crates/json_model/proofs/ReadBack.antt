@@ -117,15 +117,7 @@ untyped ms names = ap (λ o. has_type (option_and_then as_object o)) (given_one 
 
 printed_some : (v : Data) → is_null (printed_value v) ≡ false
 printed_some null = refl
-printed_some (boolean b) = refl
-printed_some (integer z) = refl
-printed_some (time t) = refl
-printed_some (pending t) = refl
-printed_some (text s) = refl
-printed_some (bytes s) = refl
-printed_some (reference r) = refl
-printed_some (array ds) = refl
-printed_some (map ms) = refl
+printed_some _ = refl
 
 items_back : (ds : Items) → items_of (list_of ds) ≡ ds
 items_back no_items = refl

@@ -53,21 +53,13 @@ levels_few _ left room = room
 
 pub object_there : (o : Origin) (limit : ℕ) (kind : Object) (name : List ℕ) (d : Json) → FaultsAt o limit (place.Object kind) name d [] → None ≡ as_object d → ⊥
 unfolding FaultsAt
-object_there o limit kind name null h none = cc
-object_there o limit kind name (boolean b) h none = cc
-object_there o limit kind name (number n) h none = cc
-object_there o limit kind name (string t) h none = cc
-object_there o limit kind name (array ds) h none = cc
 object_there o limit kind name (an_object ms) h none = cc
+object_there o limit kind name _ h none = cc
 
 pub list_there : (o : Origin) (limit : ℕ) (kind : Series) (name : List ℕ) (d : Json) → FaultsAt o limit (place.Series kind) name d [] → None ≡ as_array d → ⊥
 unfolding FaultsAt
-list_there o limit kind name null h none = cc
-list_there o limit kind name (boolean b) h none = cc
-list_there o limit kind name (number n) h none = cc
-list_there o limit kind name (string t) h none = cc
 list_there o limit kind name (array ds) h none = cc
-list_there o limit kind name (an_object ms) h none = cc
+list_there o limit kind name _ h none = cc
 
 -- what an object without faults has inside, in the levels that are left
 pub record Sound (o : Origin) (limit : ℕ) (kind : Object) (name : List ℕ) (ms : Members) : Type 0 where
@@ -184,26 +176,6 @@ ascending (one ∷ (two ∷ others)) = is_lt (slice_cmp nat_cmp one two) && asce
 
 required_ascending : (kind : Object) → ascending (required kind) ≡ true
 required_ascending object.WriteLine = refl
-required_ascending object.GetLine = refl
-required_ascending object.ListenLine = refl
-required_ascending object.OpenLine = refl
-required_ascending object.CloseLine = refl
-required_ascending object.TimerLine = refl
-required_ascending object.Update = refl
-required_ascending object.Transform = refl
-required_ascending object.ArrayTransform = refl
-required_ascending object.Documents = refl
-required_ascending object.Query = refl
-required_ascending object.Selector = refl
-required_ascending object.Order = refl
-required_ascending object.Field = refl
-required_ascending object.CompositeFilter = refl
-required_ascending object.FieldFilter = refl
-required_ascending object.ListFilter = refl
-required_ascending object.UnaryFilter = refl
-required_ascending object.DocumentChange = refl
-required_ascending object.Document = refl
-required_ascending object.DocumentDelete = refl
 required_ascending _ = refl
 
 both_true : (a b : Bool) → (a && b) ≡ true → (a ≡ true) × (b ≡ true)
@@ -216,8 +188,7 @@ either_true false b h = inr (refl, h)
 
 less_is : (order : Ordering) → is_lt order ≡ true → order ≡ Less
 less_is Less h = refl
-less_is Equal h = cc
-less_is Greater h = cc
+less_is _ h = cc
 
 ascending_tail : (one : List ℕ) (others : List (List ℕ)) → ascending (one ∷ others) ≡ true → ascending others ≡ true
 ascending_tail one [] h = refl

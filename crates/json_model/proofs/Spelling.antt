@@ -1,5 +1,5 @@
 -- A tree without faults spells what is to stand there.
-use Rattle.std.proofs.Common.{◌≡◌, ◌⊎◌, ℕ, ◌-◌, List, [], ◌∷◌, Bool, true, false, not, ◌&&◌, cond, codes, Option, Some, None, refl, sym, ap, subst, inl, inr, ◌∙◌, Ordering, Less, Equal, Greater}
+use Rattle.std.proofs.Common.{rules, ◌≡◌, ◌⊎◌, ℕ, ◌-◌, List, [], ◌∷◌, Bool, true, false, not, ◌&&◌, cond, codes, Option, Some, None, refl, sym, ap, subst, inl, inr, ◌∙◌, Ordering, Less, Equal, Greater}
 use Rattle.std.specs.Ordering.{nat_cmp, match_ordering}
 use Rattle.std.specs.Cmp.Lexicographic.{slice_cmp}
 use Rattle.document_keys.proofs.Order.{texts_compute}
@@ -54,19 +54,7 @@ leaf_spelled o leaf.Time d f is = (time f.1.1.0, (f.1.1.0, ((f.0, (f.1.0, f.1.1.
 leaf_spelled o leaf.Text d f is = (text f.0, (f.0, (f.1, refl)))
 leaf_spelled o leaf.Bytes d f is = (bytes f.1.1.0, (f.1.1.0, ((f.0, (f.1.0, f.1.1.1)), refl)))
 leaf_spelled o leaf.Reference d f is = (reference f.1.1.0, (f.1.1.0, ((f.0, (f.1.0, f.1.1.1)), refl)))
-leaf_spelled o leaf.Name d f is = cc
-leaf_spelled o leaf.Path d f is = cc
-leaf_spelled o leaf.ServerTime d f is = cc
-leaf_spelled o leaf.Id d f is = cc
-leaf_spelled o leaf.Parent d f is = cc
-leaf_spelled o leaf.QueryPath d f is = cc
-leaf_spelled o leaf.Limit d f is = cc
-leaf_spelled o leaf.Descendants d f is = cc
-leaf_spelled o leaf.TargetId d f is = cc
-leaf_spelled o leaf.Count d f is = cc
-leaf_spelled o leaf.Code d f is = cc
-leaf_spelled o leaf.ListenerId d f is = cc
-leaf_spelled o (leaf.Constant which) d f is = cc
+leaf_spelled o _ d f is = cc
 
 -- a member, by its name
 named_spelled : (kind : Object) (ms : json.Members) (k : List ℕ) (d : json.Data) → AllSpelled kind ms → get_member k ms ≡ Some d → is_null d ≡ false → Spelled (member_place kind k) d
@@ -111,12 +99,9 @@ one_of (x ∷ y ∷ l) is = cc
 kind_spelled : (p : Place) (d : json.Data) → is_kind p ≡ true → Spelled p d → (v : Data) × SpellsKind p d v
 kind_spelled (place.Object object.Array) d is s = s
 kind_spelled (place.Object object.Map) d is s = s
-kind_spelled (place.Object _) d is s = cc
-kind_spelled (place.Series kind) d is s = cc
 kind_spelled (place.Leaf kind) d is s = let found = s is in (found.0, as_scalar found.1)
 kind_spelled place.Unsupported d is s = absurd s
-kind_spelled place.Unknown d is s = cc
-kind_spelled place.Ignored d is s = cc
+kind_spelled _ d is s = cc
 
 value_of : (ms : json.Members) → lacks_choice object.Value ms ≡ false → AllSpelled object.Value ms → (v : Data) × SpellsValue (json.object ms) v
 value_of ms chooses all =
@@ -168,12 +153,8 @@ object_spelled object.Fields ms chooses all = (ms, (refl, fields_in ms all))
 object_spelled _ ms chooses all = tt
 
 flat_spelled : (o : Origin) (p : Place) (d : json.Data) → FitsFlat o p d → Spelled p d
-flat_spelled o (place.Object kind) d h = absurd h
-flat_spelled o (place.Series kind) d h = absurd h
 flat_spelled o (place.Leaf kind) d h = leaf_spelled o kind d h
-flat_spelled o place.Unsupported d h = absurd h
-flat_spelled o place.Unknown d h = tt
-flat_spelled o place.Ignored d h = tt
+flat_spelled o _ d h = search rules
 
 list_spelled : (kind : Series) (ds : json.Items) → ((item_place kind ≡ place.Object object.Value) → (vs : List Data) × SpellsItems ds vs) → Spelled (place.Series kind) (json.array ds)
 list_spelled series.Values ds items = let found = items refl in (found.0, a_list ds (json.array ds) refl found.1)
@@ -183,22 +164,11 @@ mutual
   unfolding Fits
 
   fits_spelled : (o : Origin) (limit : ℕ) (p : Place) (d : json.Data) → Fits o limit p d → Spelled p d
-  fits_spelled o limit p json.null h = flat_spelled o p json.null h
-  fits_spelled o limit p (json.boolean b) h = flat_spelled o p (json.boolean b) h
-  fits_spelled o limit p (json.number n) h = flat_spelled o p (json.number n) h
-  fits_spelled o limit p (json.string t) h = flat_spelled o p (json.string t) h
   fits_spelled o limit (place.Series kind) (json.array ds) h = list_spelled kind ds (λ is. items_spelled o limit kind ds is h.1)
-  fits_spelled o limit (place.Object kind) (json.array ds) h = absurd h
-  fits_spelled o limit (place.Leaf kind) (json.array ds) h = leaf_spelled o kind (json.array ds) h
-  fits_spelled o limit place.Unsupported (json.array ds) h = absurd h
-  fits_spelled o limit place.Unknown (json.array ds) h = tt
-  fits_spelled o limit place.Ignored (json.array ds) h = tt
   fits_spelled o limit (place.Object kind) (json.object ms) h = object_spelled kind ms h.chooses (members_spelled o (levels_inside kind (limit - h.levels)) (refined kind ms) (required (refined kind ms)) ms h.inside)
-  fits_spelled o limit (place.Series kind) (json.object ms) h = absurd h
-  fits_spelled o limit (place.Leaf kind) (json.object ms) h = leaf_spelled o kind (json.object ms) h
-  fits_spelled o limit place.Unsupported (json.object ms) h = absurd h
-  fits_spelled o limit place.Unknown (json.object ms) h = tt
-  fits_spelled o limit place.Ignored (json.object ms) h = tt
+  fits_spelled o limit p (json.array ds) h = flat_spelled o p (json.array ds) h
+  fits_spelled o limit p (json.object ms) h = flat_spelled o p (json.object ms) h
+  fits_spelled o limit p d h = flat_spelled o p d h
 
   items_spelled : (o : Origin) (limit : ℕ) (kind : Series) (ds : json.Items) → item_place kind ≡ place.Object object.Value → ItemsFit o limit kind ds → (vs : List Data) × SpellsItems ds vs
   items_spelled o limit kind json.no_items is h = ([], no_item)

@@ -13,19 +13,11 @@ use Rattle.json_model.specs.Members.{given, unless_null, is_null, chosen, is_cho
 
 pub object_at : (d : Tree) (ms : Members) → Some ms ≡ as_object d → d ≡ object ms
 object_at (object ns) ms is = let e : ns ≡ ms = cc in ap object e
-object_at null ms is = cc
-object_at (boolean b) ms is = cc
-object_at (number n) ms is = cc
-object_at (string t) ms is = cc
-object_at (array ds) ms is = cc
+object_at _ ms is = cc
 
 pub array_at : (d : Tree) (ds : Items) → Some ds ≡ as_array d → d ≡ array ds
 array_at (array es) ds is = let e : es ≡ ds = cc in ap array e
-array_at null ds is = cc
-array_at (boolean b) ds is = cc
-array_at (number n) ds is = cc
-array_at (string t) ds is = cc
-array_at (object ms) ds is = cc
+array_at _ ds is = cc
 
 pub object_depth : (d : Tree) (ms : Members) → Some ms ≡ as_object d → depth d ≡ suc (members_depth ms)
 object_depth d ms is = ap depth (object_at d ms is)
@@ -83,8 +75,4 @@ entry_depth (x ∷ done) rest e = let more = entry_depth done rest e in omega ar
 -- the test for null
 pub null_test : (d : Tree) → is_null d ≡ is_some (as_null d)
 null_test null = refl
-null_test (boolean b) = refl
-null_test (number n) = refl
-null_test (string t) = refl
-null_test (array ds) = refl
-null_test (object ms) = refl
+null_test _ = refl
