@@ -1,5 +1,5 @@
 -- Leaves without faults are what is to stand there, and the other way round.
-use Rattle.std.proofs.Common.{◌≡◌, ◌≢◌, ℕ, ◌<◌, List, [], ◌∷◌, length, Bool, true, false, refl, sym, ap, inl, inr, ◌∙◌, arith}
+use Rattle.std.proofs.Common.{rules, ◌≡◌, ◌≢◌, ℕ, ◌<◌, List, [], ◌∷◌, length, Bool, true, false, refl, sym, ap, inl, inr, ◌∙◌, arith}
 use Rattle.std.proofs.lemmas.List.{length-append}
 use Rattle.std.specs.Bool.{if◌then◌else◌}
 use Rattle.document_keys.specs.Names.{Root, path_text, name_text, documents_text}
@@ -15,7 +15,7 @@ use Rattle.json_model.specs.declared.fault.NamingFault.{NamingFault}
 use Rattle.json_model.specs.Clean.{IsClean}
 use Rattle.json_model.specs.Constants.{is_constant, is_untaken}
 use Rattle.json_model.specs.Faults.{FaultsAt}
-use Rattle.json_model.specs.Leaves.{Unless, NamingFaults, InText, in_text, PathFaults, QueryPathFaults, ParentFaults, IsParentText, IsQueryPathText, few, HasManyNames, IsTextOf, IsFieldPathText, constant_faults, descendants_faults, FitsLeaf, LeafFaults}
+use Rattle.json_model.specs.Leaves.{Unless, NamingFaults, InText, in_text, PathFaults, QueryPathFaults, ParentFaults, IsParentText, IsQueryPathText, few, HasManyNames, IsTextOf, IsFieldPathText, constant_faults, descendants_faults, FitsLeaf, is_of_text, FitsText, LeafFaults}
 use Rattle.json_model.specs.Origin.{Origin}
 
 -- the faults of a leaf are those of the tree
@@ -73,6 +73,14 @@ leaf_fits root _ name d h = fine _ _ h
 -- what a reader of leaves knows
 pub clean_leaf : (o : Origin) (kind : Leaf) (d : Json) → IsClean o (place.Leaf kind) d → FitsLeaf o.root kind d
 clean_leaf o kind d (limit, name, room, h) = leaf_fits o.root kind name d (leaf_faults o limit kind name d [] h)
+
+-- and of those that are texts of which a fact holds
+pub clean_text : (o : Origin) (kind : Leaf) (d : Json) → IsClean o (place.Leaf kind) d → is_of_text kind ≡ true → IsTextOf (FitsText o.root kind) d
+clean_text o kind d clean is = by o.root kind (clean_leaf o kind d clean) is
+  where
+    by : (root : Root) (k : Leaf) → FitsLeaf root k d → is_of_text k ≡ true → IsTextOf (FitsText root k) d
+    by root leaf.Time h texts = h
+    by root _ h texts = search rules
 
 pub not_many : (text : List ℕ) → IsFieldPathText text → HasManyNames text → ⊥
 not_many text (names, is) (others, spelled, many) =
