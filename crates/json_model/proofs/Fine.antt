@@ -1,8 +1,9 @@
 -- Leaves without faults are what is to stand there, and the other way round.
-use Rattle.std.proofs.Common.{rules, ◌≡◌, ◌≢◌, ℕ, ◌<◌, List, [], ◌∷◌, length, Bool, true, false, refl, sym, ap, inl, inr, ◌∙◌, arith}
+use Rattle.std.proofs.Common.{rules, ◌≡◌, ◌≢◌, ℕ, ◌<◌, ◌≤◌, List, [], ◌∷◌, length, Bool, true, false, refl, sym, ap, inl, inr, ◌∙◌, arith}
 use Rattle.std.proofs.lemmas.List.{length-append}
 use Rattle.std.specs.Bool.{if◌then◌else◌}
 use Rattle.document_keys.specs.Names.{Root, path_text, name_text, documents_text}
+use Rattle.document_keys.specs.Paths.{SpellsPath}
 use Rattle.document_keys.proofs.Spelled.{spells_one}
 use Rattle.serde_json.specs.Data.{Data as Json, null, boolean, number, string, array, object as an_object}
 use Rattle.json_model.specs.declared.place.Place.TheVariants as place
@@ -15,7 +16,7 @@ use Rattle.json_model.specs.declared.fault.NamingFault.{NamingFault}
 use Rattle.json_model.specs.Clean.{IsClean}
 use Rattle.json_model.specs.Constants.{is_constant, is_untaken}
 use Rattle.json_model.specs.Faults.{FaultsAt}
-use Rattle.json_model.specs.Leaves.{Unless, NamingFaults, InText, in_text, PathFaults, QueryPathFaults, ParentFaults, IsParentText, IsQueryPathText, few, HasManyNames, IsTextOf, IsFieldPathText, constant_faults, descendants_faults, FitsLeaf, is_of_text, FitsText, LeafFaults}
+use Rattle.json_model.specs.Leaves.{Unless, NamingFaults, InText, in_text, PathFaults, QueryPathFaults, ParentFaults, IsParentText, IsQueryPathText, few, HasManyNames, max_names, IsTextOf, IsFieldPathText, constant_faults, descendants_faults, FitsLeaf, is_of_text, FitsText, LeafFaults}
 use Rattle.json_model.specs.Origin.{Origin}
 
 -- the faults of a leaf are those of the tree
@@ -82,17 +83,9 @@ clean_text o kind d clean is = by o.root kind (clean_leaf o kind d clean) is
     by root leaf.Time h texts = h
     by root _ h texts = search rules
 
-pub not_many : (text : List ℕ) → IsFieldPathText text → HasManyNames text → ⊥
-not_many text (names, is) (others, spelled, many) =
-    let same = ap length (spells_one text names others is.spelled spelled) in
-    let few = is.few in
-    absurd (omega arith)
-
-pub not_many_in_query : (text : List ℕ) → IsQueryPathText text → HasManyNames text → ⊥
-not_many_in_query text (names, is) (others, spelled, many) =
-    let same = ap length (spells_one text names others is.spelled spelled) in
-    let few = is.few in
-    absurd (omega arith)
+-- a path of few names isn't one of many
+pub not_many : (text : List ℕ) (names : List (List ℕ)) → SpellsPath text names → length names ≤ max_names → HasManyNames text → ⊥
+not_many text names is short (others, spelled, many) = let same = ap length (spells_one text names others is spelled) in absurd (omega arith)
 
 -- a document's name is longer than that of the root's `documents`
 pub longer : (root : Root) (key : List (List ℕ)) → 0 < length key → name_text root key ≢ documents_text root
@@ -111,10 +104,10 @@ fits_leaf root leaf.Time name d (text, (is, h)) = in_text text [] is (inl (h, re
 fits_leaf root leaf.Bytes name d (text, (is, h)) = in_text text [] is (inl (h, refl))
 fits_leaf root leaf.Reference name d (text, (is, h)) = in_text text [] is (inl (h, refl))
 fits_leaf root leaf.Name name d (text, (is, h)) = in_text text [] is (inl (h, refl))
-fits_leaf root leaf.Path name d (text, (is, h)) = in_text text [] is (few (not_many text h) (inl (h, refl)))
+fits_leaf root leaf.Path name d (text, (is, h)) = in_text text [] is (few (not_many text h.0 h.1.spelled h.1.few) (inl (h, refl)))
 fits_leaf root leaf.Id name d (text, (is, h)) = in_text text [] is (inl (h, refl))
 fits_leaf root leaf.Parent name d (text, (is, h)) = in_text text [] is (parent_faults root text h)
-fits_leaf root leaf.QueryPath name d (text, (is, h)) = in_text text [] is (few (not_many_in_query text h) (inl (h, refl)))
+fits_leaf root leaf.QueryPath name d (text, (is, h)) = in_text text [] is (few (not_many text h.0 h.1.spelled h.1.few) (inl (h, refl)))
 fits_leaf root leaf.Descendants name d h = ap (descendants_faults name) (sym h)
 fits_leaf root (leaf.Constant which) name d (text, (is, h)) = in_text text [] is (ap (λ b. if b then [] else if is_untaken which text then json_fault.Unsupported text ∷ [] else json_fault.BadShape name ∷ []) (sym h))
 fits_leaf root _ name d h = inl (h, refl)
