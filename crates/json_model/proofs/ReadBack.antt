@@ -28,72 +28,41 @@ use Rattle.json_model.specs.Faults.{FieldsFaults, max_nesting}
 use Rattle.json_model.specs.Fits.{Fits, ItemsFit, MembersFit}
 use Rattle.json_model.specs.Grammar.{SpellsValue, of_kind, SpellsKind, as_scalar, as_array as by_array, as_map as by_map, SpellsList, no_list, a_list, SpellsItems, no_item, an_item, SpellsMap, no_map, a_map, SpellsMembers, no_member, a_member, SpellsFields}
 use Rattle.json_model.specs.Members.{is_vector, has_type, is_null, is_left_out, chosen, is_one_known, given, unless_null}
-use Rattle.json_model.specs.Numbers.{as_text as by_text}
+use Rattle.json_model.specs.Numbers.{SpellsWhole, as_text as by_text}
 use Rattle.json_model.specs.Origin.{Origin}
 use Rattle.json_model.specs.Places.{value_member, value_rows, is_unknown}
 use Rattle.json_model.specs.Printed.{printed_value, printed_items, printed_members, printed_fields, values_tree, fields_tree}
-use Rattle.json_model.specs.References.{root_of}
+use Rattle.json_model.specs.References.{SpellsReference, root_of}
 use Rattle.json_model.specs.Trees.{one}
 use Rattle.json_model.proofs.Fitting.{fits_clean}
 use Rattle.json_model.proofs.Stored.{entries_back}
 
--- a value of one kind
-one_chosen : (name : List ℕ) (inner : json.Data) (p : Place) → value_member name ≡ p → is_unknown p ≡ false → is_left_out p inner ≡ false → chosen object.Value (json.member name inner json.no_members) ≡ (name, inner) ∷ []
-one_chosen name inner p at told kept =
-    ap (λ q. cond (not (is_unknown q) && not (is_left_out q inner)) ((name, inner) ∷ []) []) at ∙ (λ i. cond (not (told i) && not (kept i)) ((name, inner) ∷ []) [])
-
-spelled_one : (name : List ℕ) (inner : json.Data) (v : Data) (p : Place) → value_member name ≡ p → is_unknown p ≡ false → is_left_out p inner ≡ false → SpellsKind p inner v → SpellsValue (one name inner) v
-spelled_one name inner v p at told kept kind = of_kind (json.member name inner json.no_members) name inner refl (one_chosen name inner p at told kept) (subst (λ q. SpellsKind q inner v) (sym at) kind)
-
 all_levels : (limit : ℕ) → limit ≡ limit - 0
 all_levels limit = omega arith
 
-fits_one : (o : Origin) (limit : ℕ) (name : List ℕ) (inner : json.Data) (p : Place) → value_member name ≡ p → is_unknown p ≡ false → is_left_out p inner ≡ false → Fits o limit p inner → Fits o limit (place.Object object.Value) (one name inner)
+-- a tree that spells the value, and is of the form where there are levels enough
+record Back (tree : json.Data) (v : Data) : Type 0 where
+  spelled : SpellsValue tree v
+  fit : (o : Origin) (limit : ℕ) → depth v ≤ limit → Fits o limit (place.Object object.Value) tree
+
+-- a value of one kind
+one_back : (name : List ℕ) (inner : json.Data) (v : Data) (p : Place) → value_member name ≡ p → is_unknown p ≡ false → is_left_out p inner ≡ false → SpellsKind p inner v
+    → ((o : Origin) (limit : ℕ) → depth v ≤ limit → Fits o limit p inner) → Back (one name inner) v
 unfolding Fits
-fits_one o limit name inner p at told kept fits = record {
-  chooses = ap (λ l. not (is_one_known object.Value l)) (one_chosen name inner p at told kept) ∙ ap (λ q. not (not (is_unknown q))) at ∙ ap (λ b. not (not b)) told;
-  no_vector = refl;
-  levels = 0;
-  takes = refl;
-  room = omega arith;
-  inside = (refl, inr (ap (λ q. is_left_out q inner) at ∙ kept, (tt, subst (λ q. Fits o (limit - 0) q inner) (sym at) (subst (λ n. Fits o n p inner) (all_levels limit) fits))), refl);
-}
-
-at_null : value_member (codes "nullValue") ≡ place.Leaf leaf.Null
-unfolding value_rows
-at_null = refl
-
-at_boolean : value_member (codes "booleanValue") ≡ place.Leaf leaf.Boolean
-unfolding value_rows
-at_boolean = refl
-
-at_integer : value_member (codes "integerValue") ≡ place.Leaf leaf.Integer
-unfolding value_rows
-at_integer = refl
-
-at_time : value_member (codes "timestampValue") ≡ place.Leaf leaf.Time
-unfolding value_rows
-at_time = refl
-
-at_text : value_member (codes "stringValue") ≡ place.Leaf leaf.Text
-unfolding value_rows
-at_text = refl
-
-at_bytes : value_member (codes "bytesValue") ≡ place.Leaf leaf.Bytes
-unfolding value_rows
-at_bytes = refl
-
-at_reference : value_member (codes "referenceValue") ≡ place.Leaf leaf.Reference
-unfolding value_rows
-at_reference = refl
-
-at_array : value_member (codes "arrayValue") ≡ place.Object object.Array
-unfolding value_rows
-at_array = refl
-
-at_map : value_member (codes "mapValue") ≡ place.Object object.Map
-unfolding value_rows
-at_map = refl
+one_back name inner v p at told kept kind fit =
+    let only : chosen object.Value (json.member name inner json.no_members) ≡ (name, inner) ∷ [] =
+        ap (λ q. cond (not (is_unknown q) && not (is_left_out q inner)) ((name, inner) ∷ []) []) at ∙ (λ i. cond (not (told i) && not (kept i)) ((name, inner) ∷ []) []) in
+    record {
+      spelled = of_kind (json.member name inner json.no_members) name inner refl only (subst (λ q. SpellsKind q inner v) (sym at) kind);
+      fit = λ o limit deep. record {
+        chooses = ap (λ l. not (is_one_known object.Value l)) only ∙ ap (λ q. not (not (is_unknown q))) at ∙ ap (λ b. not (not b)) told;
+        no_vector = refl;
+        levels = 0;
+        takes = refl;
+        room = omega arith;
+        inside = (refl, inr (ap (λ q. is_left_out q inner) at ∙ kept, (tt, subst (λ q. Fits o (limit - 0) q inner) (sym at) (subst (λ n. Fits o n p inner) (all_levels limit) (fit o limit deep)))), refl);
+      };
+    }
 
 same_text : (xs : List ℕ) → slice_cmp nat_cmp xs xs ≡ Equal
 same_text xs = tied_itself nat_list_cmp_total xs
@@ -103,9 +72,8 @@ given_one name inner some = ap (λ o. option_and_then unless_null (match_orderin
 
 -- no field has a reserved name
 unless_same : (n : List ℕ) (o : Ordering) (e : json.Data) (rest : Option json.Data) → slice_cmp nat_cmp (codes "__type__") n ≡ o → IsFieldName n → rest ≡ None → match_ordering o rest (Some e) rest ≡ None
-unless_same n Less e rest is names none = none
 unless_same n Equal e rest is names none = absurd (names.free (codes "type", sym (texts_compute.exact (codes "__type__") n is)))
-unless_same n Greater e rest is names none = none
+unless_same n _ e rest is names none = none
 
 no_type : (ms : Members) → All IsFieldName (keys_of (entries_of ms)) → get_member (codes "__type__") (printed_members ms) ≡ None
 no_type no_members names = refl
@@ -168,8 +136,7 @@ fields_some (json.member n d ms) = refl
 array_back : (ds : Items) → SpellsItems (printed_items ds) (list_of ds) → SpellsKind (place.Object object.Array) (values_tree (printed_items ds)) (array ds)
 array_back no_items items = by_array json.no_members [] refl no_list refl
 array_back (item d ds) items =
-    by_array (json.member (codes "values") (json.array (printed_items (item d ds))) json.no_members) (list_of (item d ds)) refl
-    (subst (λ g. SpellsList g (list_of (item d ds))) (sym (given_one (codes "values") _ refl)) (a_list (printed_items (item d ds)) _ refl items)) (ap array (sym (items_back (item d ds))))
+    by_array (json.member (codes "values") (json.array (printed_items (item d ds))) json.no_members) (list_of (item d ds)) refl (a_list (printed_items (item d ds)) _ refl items) (ap array (sym (items_back (item d ds))))
 
 array_fits : (o : Origin) (limit : ℕ) (ds : Items) → depth (array ds) ≤ limit → ItemsFit o (limit - 1) series.Values (printed_items ds) → Fits o limit (place.Object object.Array) (values_tree (printed_items ds))
 unfolding Fits
@@ -179,9 +146,8 @@ array_fits o limit (item d ds) deep items = record { chooses = refl; no_vector =
 map_back : (ms : Members) → SpellsMembers (printed_members ms) [] (entries_of ms) → SpellsKind (place.Object object.Map) (fields_tree (printed_members ms)) (map ms)
 map_back no_members members = by_map json.no_members [] refl no_map refl
 map_back (member n d ms) members =
-    by_map (json.member (codes "fields") (json.object (printed_members (member n d ms))) json.no_members) (entries_of (member n d ms)) refl
-    (subst (λ g. SpellsMap g (entries_of (member n d ms))) (sym (given_one (codes "fields") (json.object (printed_members (member n d ms))) refl)) (a_map (printed_members (member n d ms)) (json.object (printed_members (member n d ms))) refl members))
-    (ap map (sym (members_back (member n d ms))))
+    let tree = json.object (printed_members (member n d ms)) in
+    by_map (json.member (codes "fields") tree json.no_members) (entries_of (member n d ms)) refl (a_map (printed_members (member n d ms)) tree refl members) (ap map (sym (members_back (member n d ms))))
 
 fields_fit : (o : Origin) (limit : ℕ) (ms : json.Members) → MembersFit o limit object.Fields [] ms → Fits o limit (place.Object object.Fields) (json.object ms)
 unfolding Fits
@@ -199,27 +165,39 @@ map_fits o limit (member n d ms) deep names members = record {
   inside = (refl, inr (refl, (tt, fields_fit o (limit - 1) (printed_members (member n d ms)) members)), refl);
 }
 
--- ---- what it spells
+-- ---- values
 
 mutual
-  value_back : TimesReadBack → (v : Data) → IsStorable v → SpellsValue (printed_value v) v
-  value_back times null s = spelled_one (codes "nullValue") json.null null (place.Leaf leaf.Null) at_null refl refl (as_scalar (inl refl, refl))
-  value_back times (boolean b) s = spelled_one (codes "booleanValue") (json.boolean b) (boolean b) (place.Leaf leaf.Boolean) at_boolean refl refl (as_scalar (b, (refl, refl)))
-  value_back times (integer z) s = spelled_one (codes "integerValue") (json.string (signed_decimal z)) (integer z) (place.Leaf leaf.Integer) at_integer refl refl (as_scalar (z, (by_text (signed_decimal z) refl (record { fits = s; is = inl refl }), refl)))
-  value_back times (time t) s = spelled_one (codes "timestampValue") (json.string (time_text t)) (time t) (place.Leaf leaf.Time) at_time refl refl (as_scalar (t, ((time_text t, (refl, times t s)), refl)))
+  unfolding Fits value_rows
+
+  value_back : TimesReadBack → (v : Data) → IsStorable v → Back (printed_value v) v
+  value_back times null s = one_back (codes "nullValue") _ _ (place.Leaf leaf.Null) refl refl refl (as_scalar (inl refl, refl)) (λ o limit deep. inl refl)
+  value_back times (boolean b) s = one_back (codes "booleanValue") _ _ (place.Leaf leaf.Boolean) refl refl refl (as_scalar (b, (refl, refl))) (λ o limit deep. (b, refl))
+  value_back times (integer z) s =
+      let whole : SpellsWhole (json.string (signed_decimal z)) z = by_text (signed_decimal z) refl (record { fits = s; is = inl refl }) in
+      one_back (codes "integerValue") _ _ (place.Leaf leaf.Integer) refl refl refl (as_scalar (z, (whole, refl))) (λ o limit deep. (z, whole))
+  value_back times (time t) s = one_back (codes "timestampValue") _ _ (place.Leaf leaf.Time) refl refl refl (as_scalar (t, ((time_text t, (refl, times t s)), refl))) (λ o limit deep. (time_text t, (refl, (t, times t s))))
   value_back times (pending t) s = absurd s
-  value_back times (text content) s = spelled_one (codes "stringValue") (json.string content) (text content) (place.Leaf leaf.Text) at_text refl refl (as_scalar (content, (refl, refl)))
-  value_back times (bytes content) s = spelled_one (codes "bytesValue") (json.string (printed_bytes content)) (bytes content) (place.Leaf leaf.Bytes) at_bytes refl refl (as_scalar (content, ((printed_bytes content, (refl, bytes_spelled content s)), refl)))
+  value_back times (text content) s = one_back (codes "stringValue") _ _ (place.Leaf leaf.Text) refl refl refl (as_scalar (content, (refl, refl))) (λ o limit deep. (content, refl))
+  value_back times (bytes content) s =
+      let is = bytes_spelled content s in
+      one_back (codes "bytesValue") _ _ (place.Leaf leaf.Bytes) refl refl refl (as_scalar (content, ((printed_bytes content, (refl, is)), refl))) (λ o limit deep. (printed_bytes content, (refl, (content, is))))
   value_back times (reference r) s =
-      spelled_one (codes "referenceValue") (json.string (name_text (root_of r) r.key)) (reference r) (place.Leaf leaf.Reference) at_reference refl refl
-      (as_scalar (r, ((name_text (root_of r) r.key, (refl, record { database = record { project = s.project.sound; name = s.database.sound }; names = s.key.sound; is = refl })), refl)))
-  value_back times (array ds) s = spelled_one (codes "arrayValue") (values_tree (printed_items ds)) (array ds) (place.Object object.Array) at_array refl (values_some (printed_items ds)) (array_back ds (items_spelled times ds s.0))
+      let is : SpellsReference (name_text (root_of r) r.key) r = record { database = record { project = s.project.sound; name = s.database.sound }; names = s.key.sound; is = refl } in
+      one_back (codes "referenceValue") _ _ (place.Leaf leaf.Reference) refl refl refl (as_scalar (r, ((name_text (root_of r) r.key, (refl, is)), refl))) (λ o limit deep. (name_text (root_of r) r.key, (refl, (r, is))))
+  value_back times (array ds) s =
+      one_back (codes "arrayValue") _ _ (place.Object object.Array) refl refl (values_some (printed_items ds)) (array_back ds (items_spelled times ds s.0)) (λ o limit deep. array_fits o limit ds deep (items_fit times o (limit - 1) ds s.0 (omega arith)))
   value_back times (map ms) s =
-      spelled_one (codes "mapValue") (fields_tree (printed_members ms)) (map ms) (place.Object object.Map) at_map refl (fields_some (printed_members ms)) (map_back ms (members_spelled times ms s.1 [] s.0.sound.ascending))
+      one_back (codes "mapValue") _ _ (place.Object object.Map) refl refl (fields_some (printed_members ms)) (map_back ms (members_spelled times ms s.1 [] s.0.sound.ascending))
+      (λ o limit deep. map_fits o limit ms deep s.0.sound.names (members_fit times o (limit - 1) ms s.1 (omega arith) s.0.sound.names))
 
   pub items_spelled : TimesReadBack → (ds : Items) → AreStorableItems ds → SpellsItems (printed_items ds) (list_of ds)
   items_spelled times no_items s = no_item
-  items_spelled times (item d ds) s = an_item (value_back times d s.0) (items_spelled times ds s.1)
+  items_spelled times (item d ds) s = an_item (value_back times d s.0).spelled (items_spelled times ds s.1)
+
+  pub items_fit : TimesReadBack → (o : Origin) (limit : ℕ) (ds : Items) → AreStorableItems ds → items_depth ds ≤ limit → ItemsFit o limit series.Values (printed_items ds)
+  items_fit times o limit no_items s deep = tt
+  items_fit times o limit (item d ds) s deep = ((value_back times d s.0).fit o limit (omega arith), items_fit times o limit ds s.1 (omega arith))
 
   members_spelled : TimesReadBack → (ms : Members) → AreStorableMembers ms → (start : Entries) → AllPairs TextBefore (keys_of (start ++ entries_of ms)) → SpellsMembers (printed_members ms) start (start ++ entries_of ms)
   members_spelled times no_members s start pairs = subst (SpellsMembers json.no_members start) (sym (append-nil start)) no_member
@@ -227,36 +205,12 @@ mutual
       let put = put_end start (entries_of ms) n d pairs in
       let joined = append_assoc start ((n, d) ∷ []) (entries_of ms) in
       let rest = members_spelled times ms s.1 (start ++ (n, d) ∷ []) (subst (λ l. AllPairs TextBefore (keys_of l)) (sym joined) pairs) in
-      a_member d (printed_some d) (value_back times d s.0) (subst (λ l. SpellsMembers (printed_members ms) l (start ++ (n, d) ∷ entries_of ms)) (sym put) (subst (SpellsMembers (printed_members ms) (start ++ (n, d) ∷ [])) joined rest))
-
--- ---- that it is of the form
-
-mutual
-  unfolding Fits
-
-  value_fits : TimesReadBack → (o : Origin) (limit : ℕ) (v : Data) → IsStorable v → depth v ≤ limit → Fits o limit (place.Object object.Value) (printed_value v)
-  value_fits times o limit null s deep = fits_one o limit (codes "nullValue") json.null (place.Leaf leaf.Null) at_null refl refl (inl refl)
-  value_fits times o limit (boolean b) s deep = fits_one o limit (codes "booleanValue") (json.boolean b) (place.Leaf leaf.Boolean) at_boolean refl refl (b, refl)
-  value_fits times o limit (integer z) s deep = fits_one o limit (codes "integerValue") (json.string (signed_decimal z)) (place.Leaf leaf.Integer) at_integer refl refl (z, by_text (signed_decimal z) refl (record { fits = s; is = inl refl }))
-  value_fits times o limit (time t) s deep = fits_one o limit (codes "timestampValue") (json.string (time_text t)) (place.Leaf leaf.Time) at_time refl refl (time_text t, (refl, (t, times t s)))
-  value_fits times o limit (pending t) s deep = absurd s
-  value_fits times o limit (text content) s deep = fits_one o limit (codes "stringValue") (json.string content) (place.Leaf leaf.Text) at_text refl refl (content, refl)
-  value_fits times o limit (bytes content) s deep = fits_one o limit (codes "bytesValue") (json.string (printed_bytes content)) (place.Leaf leaf.Bytes) at_bytes refl refl (printed_bytes content, (refl, (content, bytes_spelled content s)))
-  value_fits times o limit (reference r) s deep =
-      fits_one o limit (codes "referenceValue") (json.string (name_text (root_of r) r.key)) (place.Leaf leaf.Reference) at_reference refl refl
-      (name_text (root_of r) r.key, (refl, (r, record { database = record { project = s.project.sound; name = s.database.sound }; names = s.key.sound; is = refl })))
-  value_fits times o limit (array ds) s deep = fits_one o limit (codes "arrayValue") (values_tree (printed_items ds)) (place.Object object.Array) at_array refl (values_some (printed_items ds)) (array_fits o limit ds deep (items_fit times o (limit - 1) ds s.0 (omega arith)))
-  value_fits times o limit (map ms) s deep =
-      fits_one o limit (codes "mapValue") (fields_tree (printed_members ms)) (place.Object object.Map) at_map refl (fields_some (printed_members ms)) (map_fits o limit ms deep s.0.sound.names (members_fit times o (limit - 1) ms s.1 (omega arith) s.0.sound.names))
-
-  pub items_fit : TimesReadBack → (o : Origin) (limit : ℕ) (ds : Items) → AreStorableItems ds → items_depth ds ≤ limit → ItemsFit o limit series.Values (printed_items ds)
-  items_fit times o limit no_items s deep = tt
-  items_fit times o limit (item d ds) s deep = (value_fits times o limit d s.0 (omega arith), items_fit times o limit ds s.1 (omega arith))
+      a_member d (printed_some d) (value_back times d s.0).spelled (subst (λ l. SpellsMembers (printed_members ms) l (start ++ (n, d) ∷ entries_of ms)) (sym put) (subst (SpellsMembers (printed_members ms) (start ++ (n, d) ∷ [])) joined rest))
 
   members_fit : TimesReadBack → (o : Origin) (limit : ℕ) (ms : Members) → AreStorableMembers ms → members_depth ms ≤ limit → All IsFieldName (keys_of (entries_of ms)) → MembersFit o limit object.Fields [] (printed_members ms)
   members_fit times o limit no_members s deep names = refl
   members_fit times o limit (member n d ms) s deep names =
-      (refl, inr (printed_some d, (All-head IsFieldName n (keys_of (entries_of ms)) names, value_fits times o limit d s.0 (omega arith))), members_fit times o limit ms s.1 (omega arith) (All-tail IsFieldName n (keys_of (entries_of ms)) names))
+      (refl, inr (printed_some d, (All-head IsFieldName n (keys_of (entries_of ms)) names, (value_back times d s.0).fit o limit (omega arith))), members_fit times o limit ms s.1 (omega arith) (All-tail IsFieldName n (keys_of (entries_of ms)) names))
 
 -- fields that can be stored
 pub fields_spelled : TimesReadBack → (es : Entries) → AreStorable es → SpellsFields (printed_fields es) es
