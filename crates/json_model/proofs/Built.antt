@@ -2,6 +2,7 @@
 use Rattle.std.proofs.Common.{◌≡◌, ◌≢◌, ℕ, zero, suc, ◌+◌, ◌-◌, ◌<◌, ◌≤◌, List, [], ◌∷◌, ◌++◌, length, take, get_or, String, Bool, true, false, ◌||◌, codes, Some, None, refl, sym, ap, subst, inl, inr, ◌∙◌, arith}
 use Rattle.std.specs.String.{string_bytes}
 use Rattle.std.specs.declared.alloc.Global.{Global}
+use Rattle.std.proofs.lemmas.Bool.{or_cases}
 use Rattle.std.proofs.lemmas.List.{take_more}
 use Rattle.std.proofs.Math.Seq.{take-length}
 use Rattle.document_keys.specs.Paths.{IsFieldName}
@@ -31,16 +32,9 @@ use Rattle.json_model.proofs.Trees.{object_at, array_at}
 
 -- ---- a value
 
-known_kind : (name : List ℕ) → (is_kind (value_member name) || is_unknown (value_member name)) ≡ true
-unfolding value_rows
-known_kind name = every_row (λ p. is_kind p || is_unknown p) value_rows name refl refl
-
 pub kind_known : (name : List ℕ) → is_unknown (value_member name) ≡ false → is_kind (value_member name) ≡ true
-kind_known name known = by (is_kind (value_member name)) (ap (λ b. is_kind (value_member name) || b) (sym known) ∙ known_kind name)
-  where
-    by : (b : Bool) → (b || false) ≡ true → b ≡ true
-    by true h = refl
-    by false h = h
+unfolding value_rows
+kind_known name known = elim (or_cases _ _ (every_row (λ p. is_kind p || is_unknown p) value_rows name refl refl)) [ inl is ↦ is | inr unknown ↦ let e = sym unknown ∙ known in cc ]
 
 pub unsupported : (o : Origin) (limit : ℕ) (name : List ℕ) (d : json.Data) → FaultsAt o limit place.Unsupported name d [] → ⊥
 unfolding FaultsAt

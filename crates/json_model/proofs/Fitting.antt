@@ -19,7 +19,7 @@ use Rattle.json_model.specs.Origin.{Origin}
 use Rattle.json_model.specs.Places.{member_place, item_place, required}
 use Rattle.json_model.proofs.Built.{named}
 use Rattle.json_model.proofs.Fine.{leaf_fits, fits_leaf}
-use Rattle.json_model.proofs.Sound.{nothing_first, nothing_last, no_missing, sound, sound_list, first_of, end_of}
+use Rattle.json_model.proofs.Sound.{nothing_first, nothing_last, no_missing, untold, sound, sound_list, first_of, end_of}
 
 -- ---- what isn't looked into
 
@@ -41,7 +41,7 @@ fits_flat o _ name d h = absurd h
 
 -- ---- tests and the faults that they stand for
 
-own_choice : (kind : Object) (name : List ℕ) (ms : Members) → own_faults kind name ms ≡ [] → (lacks_choice kind ms ≡ false) × (is_vector_map kind ms ≡ false)
+pub own_choice : (kind : Object) (name : List ℕ) (ms : Members) → own_faults kind name ms ≡ [] → (lacks_choice kind ms ≡ false) × (is_vector_map kind ms ≡ false)
 own_choice kind name ms none = by (lacks_choice kind ms) (is_vector_map kind ms) none
   where
     by : (b c : Bool) → (if b then json_fault.BadShape name ∷ [] else if c then json_fault.Unsupported (codes "vectorValue") ∷ [] else []) ≡ [] → (b ≡ false) × (c ≡ false)
@@ -53,11 +53,7 @@ choice_own : (kind : Object) (name : List ℕ) (ms : Members) → lacks_choice k
 choice_own kind name ms chooses plain = λ i. if chooses i then json_fault.BadShape name ∷ [] else if plain i then json_fault.Unsupported (codes "vectorValue") ∷ [] else []
 
 pub own_only : (kind : Series) (name : List ℕ) (ds : Items) → own_list_faults kind name ds ≡ [] → lacks_only kind ds ≡ false
-own_only kind name ds none = by (lacks_only kind ds) none
-  where
-    by : (b : Bool) → (if b then json_fault.BadShape name ∷ [] else []) ≡ [] → b ≡ false
-    by true h = cc
-    by false h = refl
+own_only kind name ds none = untold (lacks_only kind ds) (json_fault.BadShape name) none
 
 only_own : (kind : Series) (name : List ℕ) (ds : Items) → lacks_only kind ds ≡ false → own_list_faults kind name ds ≡ []
 only_own kind name ds only = ap (λ (b : Bool). if b then json_fault.BadShape name ∷ [] else []) only

@@ -7,7 +7,9 @@ use Rattle.std.specs.Ordering.{nat_cmp, match_ordering, ordering_reverse}
 use Rattle.std.specs.Option.{option_and_then}
 use Rattle.std.specs.Cmp.Lexicographic.{slice_cmp}
 use Rattle.std.proofs.lemmas.Cmp.{nat_list_cmp_total, tied_itself}
-use Rattle.std.proofs.lemmas.List.Elements.{All-head, All-tail}
+use Rattle.std.proofs.lemmas.Bool.{cases_lt}
+use Rattle.std.proofs.lemmas.List.{get_or_past}
+use Rattle.std.proofs.lemmas.List.Elements.{All-head, All-tail, All-get_or}
 use Rattle.serde_json.specs.Data as json
 use Rattle.serde_json.specs.Find.{as_object, get_member}
 use Rattle.document_keys.specs.Names.{name_text}
@@ -35,7 +37,8 @@ use Rattle.json_model.specs.Printed.{printed_value, printed_items, printed_membe
 use Rattle.json_model.specs.References.{SpellsReference, root_of}
 use Rattle.json_model.specs.Trees.{one}
 use Rattle.json_model.proofs.Fitting.{fits_clean}
-use Rattle.json_model.proofs.Stored.{entries_back}
+use Rattle.value_model.proofs.Parts.{items_list, entries_members, members_entries}
+use Rattle.value_model.proofs.Places.{compared_below}
 
 all_levels : (limit : ℕ) → limit ≡ limit - 0
 all_levels limit = omega arith
@@ -87,22 +90,11 @@ printed_some : (v : Data) → is_null (printed_value v) ≡ false
 printed_some null = refl
 printed_some _ = refl
 
-items_back : (ds : Items) → items_of (list_of ds) ≡ ds
-items_back no_items = refl
-items_back (item d ds) = ap (λ l. item d l) (items_back ds)
-
-members_back : (ms : Members) → members_of (entries_of ms) ≡ ms
-members_back no_members = refl
-members_back (member n d ms) = ap (λ l. member n d l) (members_back ms)
-
 -- a name that comes after all others goes last
-after_less : (k l : List ℕ) → TextBefore l k → slice_cmp nat_cmp k l ≡ Greater
-after_less k l before = nat_list_cmp_total.antisymm k l ∙ ap ordering_reverse (texts_compute.less l k before)
-
 put_end : (es rest : Entries) (n : List ℕ) (v : Data) → AllPairs TextBefore (keys_of (es ++ (n, v) ∷ rest)) → with_field es n v ≡ es ++ (n, v) ∷ []
 put_end [] rest n v pairs = refl
 put_end (e ∷ es) rest n v pairs =
-    rw (after_less n e.0 (first es pairs)) (ap (λ l. e ∷ l) (put_end es rest n v (λ i j d less within. pairs (suc i) (suc j) d (omega arith) (omega arith))))
+    rw (compared_below e.0 n (first es pairs)) (ap (λ l. e ∷ l) (put_end es rest n v (λ i j d less within. pairs (suc i) (suc j) d (omega arith) (omega arith))))
   where
     at : (fs : Entries) → get_or (keys_of (fs ++ (n, v) ∷ rest)) (length fs) n ≡ n
     at [] = refl
@@ -115,13 +107,8 @@ put_end (e ∷ es) rest n v pairs =
     first : (fs : Entries) → AllPairs TextBefore (keys_of (e ∷ (fs ++ (n, v) ∷ rest))) → TextBefore e.0 n
     first fs all = let more = long fs in subst (TextBefore e.0) (at fs) (all 0 (suc (length fs)) n (omega arith) (omega arith))
 
-byte_at : (s : List ℕ) → All (λ byte. byte < 256) s → (i : ℕ) → get_or s i 0 < 256
-byte_at [] all i = omega arith
-byte_at (x ∷ s) all zero = All-head (λ byte. byte < 256) x s all
-byte_at (x ∷ s) all (suc i) = byte_at s (All-tail (λ byte. byte < 256) x s all) i
-
 bytes_spelled : (s : List ℕ) → AreStorableBytes s → SpellsBytes (printed_bytes s) s
-bytes_spelled s are = record { each = byte_at s are.each; is = inl refl }
+bytes_spelled s are = record { each = λ i. elim (cases_lt i (length s)) [ inl within ↦ All-get_or (λ byte. byte < 256) s i 0 within are.each | inr past ↦ rw (get_or_past s i 0 past) (omega arith) ]; is = inl refl }
 
 values_some : (ds : json.Items) → is_null (values_tree ds) ≡ false
 values_some json.no_items = refl
@@ -136,7 +123,7 @@ fields_some (json.member n d ms) = refl
 array_back : (ds : Items) → SpellsItems (printed_items ds) (list_of ds) → SpellsKind (place.Object object.Array) (values_tree (printed_items ds)) (array ds)
 array_back no_items items = by_array json.no_members [] refl no_list refl
 array_back (item d ds) items =
-    by_array (json.member (codes "values") (json.array (printed_items (item d ds))) json.no_members) (list_of (item d ds)) refl (a_list (printed_items (item d ds)) _ refl items) (ap array (sym (items_back (item d ds))))
+    by_array (json.member (codes "values") (json.array (printed_items (item d ds))) json.no_members) (list_of (item d ds)) refl (a_list (printed_items (item d ds)) _ refl items) (ap array (sym (items_list (item d ds))))
 
 array_fits : (o : Origin) (limit : ℕ) (ds : Items) → depth (array ds) ≤ limit → ItemsFit o (limit - 1) series.Values (printed_items ds) → Fits o limit (place.Object object.Array) (values_tree (printed_items ds))
 unfolding Fits
@@ -147,7 +134,7 @@ map_back : (ms : Members) → SpellsMembers (printed_members ms) [] (entries_of 
 map_back no_members members = by_map json.no_members [] refl no_map refl
 map_back (member n d ms) members =
     let tree = json.object (printed_members (member n d ms)) in
-    by_map (json.member (codes "fields") tree json.no_members) (entries_of (member n d ms)) refl (a_map (printed_members (member n d ms)) tree refl members) (ap map (sym (members_back (member n d ms))))
+    by_map (json.member (codes "fields") tree json.no_members) (entries_of (member n d ms)) refl (a_map (printed_members (member n d ms)) tree refl members) (ap map (sym (members_entries (member n d ms))))
 
 fields_fit : (o : Origin) (limit : ℕ) (ms : json.Members) → MembersFit o limit object.Fields [] ms → Fits o limit (place.Object object.Fields) (json.object ms)
 unfolding Fits
@@ -217,13 +204,13 @@ pub fields_spelled : TimesReadBack → (es : Entries) → AreStorable es → Spe
 fields_spelled times es s = record {
   members = printed_members (members_of es);
   is = refl;
-  spelled = subst (SpellsMembers (printed_members (members_of es)) []) (entries_back es)
-      (members_spelled times (members_of es) s.1 [] (subst (λ l. AllPairs TextBefore (keys_of l)) (sym (entries_back es)) s.0.sound.ascending));
+  spelled = subst (SpellsMembers (printed_members (members_of es)) []) (entries_members es)
+      (members_spelled times (members_of es) s.1 [] (subst (λ l. AllPairs TextBefore (keys_of l)) (sym (entries_members es)) s.0.sound.ascending));
 }
 
 pub printed_fits : TimesReadBack → (o : Origin) (limit : ℕ) (es : Entries) → AreStorable es → entries_depth es ≤ limit → Fits o limit (place.Object object.Fields) (printed_fields es)
 printed_fits times o limit es s deep =
-    fields_fit o limit (printed_members (members_of es)) (members_fit times o limit (members_of es) s.1 deep (subst (λ l. All IsFieldName (keys_of l)) (sym (entries_back es)) s.0.sound.names))
+    fields_fit o limit (printed_members (members_of es)) (members_fit times o limit (members_of es) s.1 deep (subst (λ l. All IsFieldName (keys_of l)) (sym (entries_members es)) s.0.sound.names))
 
 pub fields_back : TimesReadBack → (o : Origin) (es : Entries) → AreStorable es → entries_depth es ≤ max_nesting → FieldsFaults o (printed_fields es) [] × SpellsFields (printed_fields es) es
 fields_back times o es s deep = (fits_clean o max_nesting (place.Object object.Fields) (codes "fields") (printed_fields es) (printed_fits times o max_nesting es s deep), fields_spelled times es s)

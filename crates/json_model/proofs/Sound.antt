@@ -6,6 +6,7 @@ use Rattle.std.specs.Option.{option_and_then}
 use Rattle.std.specs.Ordering.{nat_cmp, match_ordering, is_lt}
 use Rattle.std.specs.Str.{bytes_eq}
 use Rattle.std.specs.Cmp.Lexicographic.{slice_cmp}
+use Rattle.std.proofs.lemmas.Bool.{and_parts, and_right, or_cases}
 use Rattle.std.proofs.lemmas.Cmp.{tied_itself}
 use Rattle.std.proofs.lemmas.Slice.Eq.{bytes_eq-Decides}
 use Rattle.document_keys.proofs.Order.{texts_compute}
@@ -69,12 +70,10 @@ pub record Sound (o : Origin) (limit : ℕ) (kind : Object) (name : List ℕ) (m
   pub room : levels ≤ limit
   pub inside : MembersFaults o (levels_inside kind (limit - levels)) (refined kind ms) (required (refined kind ms)) ms []
 
-room_of : (limit levels : ℕ) → depth_faults limit levels ≡ [] → levels ≤ limit
-room_of limit levels e = by (nat_lt limit levels) refl e
-  where
-    by : (b : Bool) → nat_lt limit levels ≡ b → (if b then json_fault.TooDeep ∷ [] else []) ≡ [] → levels ≤ limit
-    by true is same = cc
-    by false is same = ltb-false limit levels is
+-- a test without a fault
+pub untold : {A : Type 0} (b : Bool) (fault : A) → (if b then fault ∷ [] else []) ≡ [] → b ≡ false
+untold true fault none = cc
+untold false fault none = refl
 
 pub sound : (o : Origin) (limit : ℕ) (kind : Object) (name : List ℕ) (ms : Members) → FaultsAt o limit (place.Object kind) name (an_object ms) [] → Sound o limit kind name ms
 unfolding FaultsAt
@@ -85,7 +84,7 @@ sound o limit kind name ms h =
       own = parts.0;
       levels = at.levels;
       takes = at.takes;
-      room = room_of limit at.levels (nothing_first (depth_faults limit at.levels) at.inside at.is);
+      room = ltb-false limit at.levels (untold (nat_lt limit at.levels) json_fault.TooDeep (nothing_first (depth_faults limit at.levels) at.inside at.is));
       inside = subst (MembersFaults o (levels_inside kind (limit - at.levels)) (refined kind ms) (required (refined kind ms)) ms) (nothing_last (depth_faults limit at.levels) at.inside at.is) at.are;
     }
 
@@ -99,11 +98,7 @@ clean_items o kind d ds is (limit, name, room, h) = (limit, name, room, (sound_l
 -- ---- members
 
 pub not_out : (p : Place) (d : Json) → is_null d ≡ false → is_left_out p d ≡ false
-not_out p d some = ap (λ b. not (takes_null p) && b) some ∙ no_and (not (takes_null p))
-  where
-    no_and : (b : Bool) → (b && false) ≡ false
-    no_and true = refl
-    no_and false = refl
+not_out p d some = and_right (not (takes_null p)) (is_null d) some
 
 pub at_clean : (o : Origin) (limit : ℕ) (kind : Object) (k : List ℕ) (d : Json) (faults : List JsonFault) → AtMember kind k d (FaultsAt o limit (member_place kind k) k d) faults → faults ≡ [] → is_left_out (member_place kind k) d ≡ false → OwnName kind k [] × FaultsAt o limit (member_place kind k) k d []
 at_clean o limit kind k d faults (inl out) none some = cc (out.0)
@@ -178,21 +173,13 @@ required_ascending : (kind : Object) → ascending (required kind) ≡ true
 required_ascending object.WriteLine = refl
 required_ascending _ = refl
 
-both_true : (a b : Bool) → (a && b) ≡ true → (a ≡ true) × (b ≡ true)
-both_true true b h = (refl, h)
-both_true false b h = cc
-
-either_true : (a b : Bool) → (a || b) ≡ true → (a ≡ true) ⊎ ((a ≡ false) × (b ≡ true))
-either_true true b h = inl refl
-either_true false b h = inr (refl, h)
-
 less_is : (order : Ordering) → is_lt order ≡ true → order ≡ Less
 less_is Less h = refl
 less_is _ h = cc
 
 ascending_tail : (one : List ℕ) (others : List (List ℕ)) → ascending (one ∷ others) ≡ true → ascending others ≡ true
 ascending_tail one [] h = refl
-ascending_tail one (two ∷ others) h = (both_true _ _ h).1
+ascending_tail one (two ∷ others) h = (and_parts _ _ h).1
 
 same_one : (one k : List ℕ) → bytes_eq one k ≡ true → one ≡ k
 same_one one k is = (bytes_eq-Decides one k).0 is
@@ -201,14 +188,14 @@ same_one one k is = (bytes_eq-Decides one k).0 is
 before_all : (one k : List ℕ) (others : List (List ℕ)) → ascending (one ∷ others) ≡ true → is_among k others ≡ true → slice_cmp nat_cmp one k ≡ Less
 before_all one k [] up among = cc
 before_all one k (two ∷ others) up among =
-    let first = less_is (slice_cmp nat_cmp one two) (both_true _ _ up).0 in
-    elim (either_true (bytes_eq two k) (is_among k others) among) [
+    let first = less_is (slice_cmp nat_cmp one two) (and_parts _ _ up).0 in
+    elim (or_cases (bytes_eq two k) (is_among k others) among) [
       | inl same ↦ subst (λ (t : List ℕ). slice_cmp nat_cmp one t ≡ Less) (same_one two k same) first
-      | inr more ↦ texts_compute.total.trans one two k first (before_all two k others (both_true _ _ up).1 more.1)
+      | inr more ↦ texts_compute.total.trans one two k first (before_all two k others (and_parts _ _ up).1 more)
     ]
 
-unlike : (one k : List ℕ) → slice_cmp nat_cmp one k ≡ Less → one ≡ k → ⊥
-unlike one k less same = let tied = tied_itself texts_compute.total one in let e : slice_cmp nat_cmp one one ≡ Less = subst (λ (t : List ℕ). slice_cmp nat_cmp one t ≡ Less) (sym same) less in cc
+itself : (a b : List ℕ) → a ≡ b → slice_cmp nat_cmp a b ≡ Equal
+itself a b same = subst (λ (t : List ℕ). slice_cmp nat_cmp a t ≡ Equal) same (tied_itself texts_compute.total a)
 
 -- a required name is that of this member, or of one that comes behind it
 module _ (k l : List ℕ) (e : Json) where
@@ -224,21 +211,14 @@ module _ (k l : List ℕ) (e : Json) where
       by Less cmp gone = cc
       by Equal cmp gone =
           let here : one ≡ l = texts_compute.exact one l cmp in
-          elim (either_true (bytes_eq one k) (is_among k others) among) [
-            | inl same ↦ inl (sym here ∙ same_one one k same, there (is_null e) gone)
-            | inr more ↦ inr (λ at. unlike one k (before_all one k others up more.1) (here ∙ at), (more.1, ascending_tail one others up))
+          elim (or_cases (bytes_eq one k) (is_among k others) among) [
+            | inl same ↦ inl (sym here ∙ same_one one k same, untold (is_null e) one gone)
+            | inr more ↦ inr (λ at. let less = before_all one k others up more in let tied = itself one k (here ∙ at) in cc, (more, ascending_tail one others up))
           ]
-        where
-          there : (b : Bool) → (if b then one ∷ [] else []) ≡ [] → b ≡ false
-          there true h = cc
-          there false h = refl
-      by Greater cmp gone = inr (λ at. apart (subst (λ (t : List ℕ). slice_cmp nat_cmp one t ≡ Greater) at cmp), (among, up))
-        where
-          apart : slice_cmp nat_cmp one k ≡ Greater → ⊥
-          apart more = elim (either_true (bytes_eq one k) (is_among k others) among) [
-            | inl same ↦ let tied = tied_itself texts_compute.total one in let h : slice_cmp nat_cmp one one ≡ Greater = subst (λ (t : List ℕ). slice_cmp nat_cmp one t ≡ Greater) (sym (same_one one k same)) more in cc
-            | inr rest ↦ let less = before_all one k others up rest.1 in cc
-          ]
+      by Greater cmp gone = inr (λ at. elim (or_cases (bytes_eq one k) (is_among k others) among) [
+        | inl same ↦ let tied = itself one l (same_one one k same ∙ sym at) in cc
+        | inr rest ↦ let less = subst (λ (t : List ℕ). slice_cmp nat_cmp one t ≡ Less) (sym at) (before_all one k others up rest) in cc
+      ], (among, up))
 
 is_some_given : (found : Option Json) (d : Json) → found ≡ Some d → is_null d ≡ false → IsSome (option_and_then unless_null found)
 is_some_given None d is some = cc
@@ -251,8 +231,8 @@ there_from o limit kind names (member l e ms) k up clean among =
     by (slice_cmp nat_cmp k l) refl (step k l e names up here.none_missed among) (there_from o limit kind (later l names) ms k)
   where
     by : (order : Ordering) → slice_cmp nat_cmp k l ≡ order → Step k l e names → (ascending (later l names) ≡ true → MembersFaults o limit kind (later l names) ms [] → is_among k (later l names) ≡ true → IsSome (given k ms)) → IsSome (option_and_then unless_null (match_ordering order (get_member k ms) (Some e) (get_member k ms)))
-    by Less cmp (inl at) behind = let tied = tied_itself texts_compute.total k in let h : slice_cmp nat_cmp k k ≡ Less = subst (λ (t : List ℕ). slice_cmp nat_cmp k t ≡ Less) at.0 cmp in cc
-    by Greater cmp (inl at) behind = let tied = tied_itself texts_compute.total k in let h : slice_cmp nat_cmp k k ≡ Greater = subst (λ (t : List ℕ). slice_cmp nat_cmp k t ≡ Greater) at.0 cmp in cc
+    by Less cmp (inl at) behind = let tied = itself k l (sym at.0) in cc
+    by Greater cmp (inl at) behind = let tied = itself k l (sym at.0) in cc
     by Equal cmp (inl at) behind = is_some_given (Some e) e refl at.1
     by Less cmp (inr more) behind = behind more.1.1 (first_of o limit kind names l e ms clean).rest more.1.0
     by Greater cmp (inr more) behind = behind more.1.1 (first_of o limit kind names l e ms clean).rest more.1.0

@@ -1,5 +1,6 @@
 -- A tree without faults spells what is to stand there.
 use Rattle.std.proofs.Common.{rules, ◌≡◌, ◌⊎◌, ℕ, ◌-◌, List, [], ◌∷◌, Bool, true, false, not, ◌&&◌, cond, codes, Option, Some, None, refl, sym, ap, subst, inl, inr, ◌∙◌, Ordering, Less, Equal, Greater}
+use Rattle.std.proofs.lemmas.Bool.{and_parts, not-true, not-false}
 use Rattle.std.specs.Ordering.{nat_cmp, match_ordering}
 use Rattle.std.specs.Cmp.Lexicographic.{slice_cmp}
 use Rattle.document_keys.proofs.Order.{texts_compute}
@@ -74,26 +75,17 @@ only_spelled : (ms : json.Members) (k : List ℕ) (d : json.Data) → AllSpelled
 only_spelled json.no_members k d all is = cc
 only_spelled (json.member l e ms) k d all is = by (is_chosen object.Value l e) refl is (only_spelled ms k d all.1)
   where
-    stays : (a b : Bool) → (a && not b) ≡ true → b ≡ false
-    stays true true h = cc
-    stays true false h = refl
-    stays false b h = cc
-
     by : (b : Bool) → is_chosen object.Value l e ≡ b → cond b ((l, e) ∷ chosen object.Value ms) (chosen object.Value ms) ≡ (k, d) ∷ [] → (chosen object.Value ms ≡ (k, d) ∷ [] → Spelled (value_member k) d) → Spelled (value_member k) d
     by false other same behind = behind same
     by true this same behind =
         let pair : (l, e) ≡ (k, d) = cc in
         let names_are : l ≡ k = ap (λ (x : List ℕ × json.Data). x.0) pair in
         let trees : e ≡ d = ap (λ (x : List ℕ × json.Data). x.1) pair in
-        subst (λ n. Spelled (value_member n) d) names_are (subst (λ t. Spelled (value_member l) t) trees (all.0 (stays (not (is_unknown (value_member l))) (is_left_out (value_member l) e) this)))
+        subst (λ n. Spelled (value_member n) d) names_are (subst (λ t. Spelled (value_member l) t) trees (all.0 (not-true _ (and_parts (not (is_unknown (value_member l))) _ this).1)))
 
 one_of : (l : List (List ℕ × json.Data)) → is_one_known object.Value l ≡ true → (k : List ℕ) × ((d : json.Data) × ((l ≡ (k, d) ∷ []) × (is_unknown (value_member k) ≡ false)))
 one_of [] is = cc
-one_of (x ∷ []) is = (x.0, (x.1, (refl, negated (is_unknown (value_member x.0)) is)))
-  where
-    negated : (b : Bool) → not b ≡ true → b ≡ false
-    negated true h = cc
-    negated false h = refl
+one_of (x ∷ []) is = (x.0, (x.1, (refl, not-true _ is)))
 one_of (x ∷ y ∷ l) is = cc
 
 kind_spelled : (p : Place) (d : json.Data) → is_kind p ≡ true → Spelled p d → (v : Data) × SpellsKind p d v
@@ -105,14 +97,9 @@ kind_spelled _ d is s = cc
 
 value_of : (ms : json.Members) → lacks_choice object.Value ms ≡ false → AllSpelled object.Value ms → (v : Data) × SpellsValue (json.object ms) v
 value_of ms chooses all =
-    let only = one_of (chosen object.Value ms) (negated (is_one_known object.Value (chosen object.Value ms)) chooses) in
+    let only = one_of (chosen object.Value ms) (not-false _ chooses) in
     let found = kind_spelled (value_member only.0) only.1.0 (kind_known only.0 only.1.1.1) (only_spelled ms only.0 only.1.0 all only.1.1.0) in
     (found.0, of_kind ms only.0 only.1.0 refl only.1.1.0 found.1)
-  where
-    negated : (b : Bool) → not b ≡ false → b ≡ true
-    negated true h = refl
-    negated false h = cc
-
 array_in : (ms : json.Members) → AllSpelled object.Array ms → (v : Data) × SpellsKind (place.Object object.Array) (json.object ms) v
 array_in ms all = by (given (codes "values") ms) refl
   where
