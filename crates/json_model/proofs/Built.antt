@@ -25,8 +25,9 @@ use Rattle.json_model.specs.Grammar.{SpellsValue, of_kind, SpellsKind, as_array 
 use Rattle.json_model.specs.Members.{is_null, given, chosen, later}
 use Rattle.json_model.specs.Origin.{Origin}
 use Rattle.json_model.specs.Places.{item_place, value_rows, value_member, is_unknown, required}
+use Rattle.json_model.proofs.Among.{Among, each_at, entry_among}
 use Rattle.json_model.proofs.Rows.{every_row}
-use Rattle.json_model.proofs.Sound.{sound, first_of, at_clean, not_out, nothing_first, nothing_last}
+use Rattle.json_model.proofs.Sound.{sound, each_clean, not_out, nothing_first, nothing_last}
 use Rattle.json_model.proofs.Stored.{items_push}
 use Rattle.json_model.proofs.Trees.{object_at, array_at}
 
@@ -99,22 +100,13 @@ pub named : (name : List ℕ) → OwnName object.Fields name [] → IsFieldName 
 named name (inl is) = is.0
 named name (inr bad) = cc (bad.2)
 
-fields_sound : (o : Origin) (limit : ℕ) (names : List (List ℕ)) (done rest : List Entry) (e : Entry) → MembersFaults o limit object.Fields names (members_view (done ++ e ∷ rest)) [] → is_null (view e.1) ≡ false
-    → IsFieldName (string_bytes e.0) × FaultsAt o limit (place.Object object.Value) (string_bytes e.0) (view e.1) []
-fields_sound o limit names [] rest e clean some =
-    let here = first_of o limit object.Fields names (string_bytes e.0) (view e.1) (members_view rest) clean in
-    let at = at_clean o limit object.Fields (string_bytes e.0) (view e.1) [] here.at refl (not_out (place.Object object.Value) (view e.1) some) in
-    (named (string_bytes e.0) at.0, at.1)
-fields_sound o limit names (x ∷ done) rest e clean some =
-    let here = first_of o limit object.Fields names (string_bytes x.0) (view x.1) (members_view (done ++ e ∷ rest)) clean in
-    fields_sound o limit (later (string_bytes x.0) names) done rest e here.rest some
-
 pub field_clean : (o : Origin) (done rest : List Entry) (all : List Entry) (e : Entry) → all ≡ done ++ e ∷ rest → AreClean o object.Fields (members_view all) → is_null (view e.1) ≡ false → IsFieldName (string_bytes e.0) × IsClean o (place.Object object.Value) (view e.1)
 field_clean o done rest all e is (limit, name, room, clean) some =
     let inside = sound o limit object.Fields name (members_view all) clean in
     let left = limit - inside.levels in
-    let here = fields_sound o left (required object.Fields) done rest e (subst (λ (l : List Entry). MembersFaults o left object.Fields (required object.Fields) (members_view l) []) is inside.inside) some in
-    (here.0, (left, string_bytes e.0, omega arith, here.1))
+    let at = subst (λ (l : List Entry). Among (string_bytes e.0) (view e.1) (members_view l)) (sym is) (entry_among done rest e) in
+    let here = each_at _ (members_view all) _ _ (each_clean o left object.Fields (required object.Fields) (members_view all) inside.inside) at (not_out (place.Object object.Value) (view e.1) some) in
+    (named (string_bytes e.0) here.0, (left, string_bytes e.0, omega arith, here.1))
 
 -- ---- fields
 

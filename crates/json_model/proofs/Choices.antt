@@ -12,7 +12,8 @@ use Rattle.json_model.specs.Origin.{Origin}
 use Rattle.json_model.specs.Places.{placed, write_rows, transform_rows, field_filter_rows, member_place, chooses, is_choice, required}
 use Rattle.json_model.proofs.Fitting.{own_choice}
 use Rattle.json_model.proofs.Rows.{every_row}
-use Rattle.json_model.proofs.Sound.{sound, levels_few, first_of, at_clean, not_out}
+use Rattle.json_model.proofs.Among.{each_at, chosen_among}
+use Rattle.json_model.proofs.Sound.{each_clean, sound, levels_few, first_of, at_clean, not_out}
 
 pub choice_there : (o : Origin) (kind : Object) (ms : Members) → AreClean o kind ms → chooses kind ≡ true → is_one_known kind (chosen kind ms) ≡ false → ⊥
 choice_there o kind ms (limit, name, room, clean) must none =
@@ -40,19 +41,9 @@ kept kind ms k d chosen_is =
 
 -- the alternatives of some members are among those of all
 pub chosen_clean : (o : Origin) (limit : ℕ) (kind : Object) (whole : Members) (names : List (List ℕ)) (ms : Members) (k : List ℕ) (d : Json) → MembersFaults o limit (refined kind whole) names ms [] → chosen kind ms ≡ (k, d) ∷ [] → FaultsAt o limit (member_place (refined kind whole) k) k d []
-chosen_clean o limit kind whole names no_members k d clean is = cc
-chosen_clean o limit kind whole names (member l e ms) k d clean is =
-    let here = first_of o limit (refined kind whole) names l e ms clean in
-    by (is_chosen kind l e) refl is (chosen_clean o limit kind whole (later l names) ms k d here.rest)
-  where
-    by : (b : Bool) → is_chosen kind l e ≡ b → cond b ((l, e) ∷ chosen kind ms) (chosen kind ms) ≡ (k, d) ∷ [] → (chosen kind ms ≡ (k, d) ∷ [] → FaultsAt o limit (member_place (refined kind whole) k) k d []) → FaultsAt o limit (member_place (refined kind whole) k) k d []
-    by false other same behind = behind same
-    by true this same behind =
-        let pair : (l, e) ≡ (k, d) = cc in
-        let names_are : l ≡ k = ap (λ (x : List ℕ × Json). x.0) pair in
-        let trees : e ≡ d = ap (λ (x : List ℕ × Json). x.1) pair in
-        let inside = at_clean o limit (refined kind whole) l e [] (first_of o limit (refined kind whole) names l e ms clean).at refl (kept kind whole l e this) in
-        subst (λ n. FaultsAt o limit (member_place (refined kind whole) n) n d []) names_are (subst (λ t. FaultsAt o limit (member_place (refined kind whole) l) l t []) trees inside.1)
+chosen_clean o limit kind whole names ms k d clean is =
+    let at = chosen_among kind ms k d is in
+    (each_at _ ms k d (each_clean o limit (refined kind whole) names ms clean) at.0 (kept kind whole k d at.1)).1
 
 pub choice_clean : (o : Origin) (kind : Object) (ms : Members) (k : List ℕ) (d : Json) → AreClean o kind ms → chosen kind ms ≡ (k, d) ∷ [] → IsClean o (member_place (refined kind ms) k) d
 choice_clean o kind ms k d (limit, name, room, clean) is =
@@ -62,14 +53,7 @@ choice_clean o kind ms k d (limit, name, room, clean) is =
 
 -- what is chosen is one of the alternatives
 pub chosen_choice : (kind : Object) (ms : Members) (k : List ℕ) (d : Json) → chosen kind ms ≡ (k, d) ∷ [] → is_choice kind k ≡ true
-chosen_choice kind no_members k d is = cc
-chosen_choice kind (member l e ms) k d is = by (is_chosen kind l e) refl is (chosen_choice kind ms k d)
-  where
-    by : (b : Bool) → is_chosen kind l e ≡ b → cond b ((l, e) ∷ chosen kind ms) (chosen kind ms) ≡ (k, d) ∷ [] → (chosen kind ms ≡ (k, d) ∷ [] → is_choice kind k ≡ true) → is_choice kind k ≡ true
-    by false other same behind = behind same
-    by true this same behind =
-        let pair : (l, e) ≡ (k, d) = cc in
-        subst (λ n. is_choice kind n ≡ true) (ap (λ (x : List ℕ × Json). x.0) pair) (and_parts (is_choice kind l) _ this).0
+chosen_choice kind ms k d is = (and_parts (is_choice kind k) _ (chosen_among kind ms k d is).1).0
 
 -- the one alternative that is given has this name
 pub only_is : (kind : Object) (ms : Members) (k : List ℕ) (d : Json) → chosen kind ms ≡ (k, d) ∷ [] → only_name (chosen kind ms) ≡ k

@@ -25,6 +25,7 @@ use Rattle.json_model.specs.Clean.{IsClean, AreClean, ItemsAreClean}
 use Rattle.json_model.specs.Faults.{FaultsAt, MembersFaults, ItemsFaults, AtMember, InLevels, OwnOr, Takes, own_faults, own_list_faults, depth_faults, levels_inside, max_nesting, missing, OwnName}
 use Rattle.json_model.specs.Members.{is_null, takes_null, is_left_out, given, unless_null, missed, later, refined}
 use Rattle.json_model.specs.Origin.{Origin}
+use Rattle.json_model.proofs.Among.{OfEach, each_at, found_among}
 use Rattle.json_model.specs.Places.{member_place, required, is_among}
 
 -- ---- lists of faults
@@ -126,21 +127,16 @@ first_of o limit kind names k d ms (first, rest, at, more, none) =
       rest = subst (MembersFaults o limit kind (later k names) ms) (nothing_last first rest (sym both)) more;
     }
 
+-- each member that isn't left out has no fault, nor has its name
+pub each_clean : (o : Origin) (limit : ℕ) (kind : Object) (names : List (List ℕ)) (ms : Members) → MembersFaults o limit kind names ms []
+    → OfEach (λ k d. is_left_out (member_place kind k) d ≡ false → OwnName kind k [] × FaultsAt o limit (member_place kind k) k d []) ms
+each_clean o limit kind names no_members clean = tt
+each_clean o limit kind names (member k d ms) clean =
+    let here = first_of o limit kind names k d ms clean in
+    (at_clean o limit kind k d [] here.at refl, each_clean o limit kind (later k names) ms here.rest)
+
 pub member_clean : (o : Origin) (limit : ℕ) (kind : Object) (names : List (List ℕ)) (ms : Members) (k : List ℕ) (d : Json) → MembersFaults o limit kind names ms [] → get_member k ms ≡ Some d → is_null d ≡ false → FaultsAt o limit (member_place kind k) k d []
-member_clean o limit kind names no_members k d clean is some = cc
-member_clean o limit kind names (member l e ms) k d clean is some =
-    let here = first_of o limit kind names l e ms clean in
-    by (slice_cmp nat_cmp k l) refl is here (member_clean o limit kind (later l names) ms k d here.rest)
-  where
-    by : (order : Ordering) → slice_cmp nat_cmp k l ≡ order → match_ordering order (get_member k ms) (Some e) (get_member k ms) ≡ Some d → First o limit kind names l e ms → (get_member k ms ≡ Some d → is_null d ≡ false → FaultsAt o limit (member_place kind k) k d [])
-        → FaultsAt o limit (member_place kind k) k d []
-    by Less cmp same here behind = behind same some
-    by Greater cmp same here behind = behind same some
-    by Equal cmp same here behind =
-        let names_are : l ≡ k = sym (texts_compute.exact k l cmp) in
-        let trees : e ≡ d = cc in
-        let inside = at_clean o limit kind l e [] here.at refl (not_out (member_place kind l) e (ap is_null trees ∙ some)) in
-        subst (λ n. FaultsAt o limit (member_place kind n) n d []) names_are (subst (λ t. FaultsAt o limit (member_place kind l) l t []) trees inside.1)
+member_clean o limit kind names ms k d clean is some = (each_at _ ms k d (each_clean o limit kind names ms clean) (found_among ms k d is) (not_out (member_place kind k) d some)).1
 
 pub given_some : (found : Option Json) (d : Json) → option_and_then unless_null found ≡ Some d → (found ≡ Some d) × (is_null d ≡ false)
 given_some None d is = cc

@@ -24,6 +24,7 @@ use Rattle.json_model.specs.Leaves.{FitsLeaf}
 use Rattle.json_model.specs.Members.{is_null, is_left_out, given, chosen, is_chosen, is_one_known, lacks_choice, later, refined}
 use Rattle.json_model.specs.Origin.{Origin}
 use Rattle.json_model.specs.Places.{member_place, item_place, required, value_member, is_unknown}
+use Rattle.json_model.proofs.Among.{OfEach, each_at, found_among, chosen_among}
 use Rattle.json_model.proofs.Built.{kind_known}
 use Rattle.json_model.proofs.Fitting.{clean_fits}
 use Rattle.json_model.proofs.Sound.{given_some, not_out}
@@ -44,8 +45,7 @@ Spelled place.Unsupported d = ⊥
 Spelled _ d = Unit {0}
 
 abbrev AllSpelled : Object → json.Members → Type 0
-AllSpelled kind json.no_members = Unit {0}
-AllSpelled kind (json.member k d ms) = (is_left_out (member_place kind k) d ≡ false → Spelled (member_place kind k) d) × AllSpelled kind ms
+AllSpelled kind ms = OfEach (λ k d. is_left_out (member_place kind k) d ≡ false → Spelled (member_place kind k) d) ms
 
 leaf_spelled : (o : Origin) (kind : Leaf) (d : json.Data) → FitsLeaf o.root kind d → is_scalar kind ≡ true → (v : Data) × SpellsScalar kind d v
 leaf_spelled o leaf.Null d f is = (null, (f, refl))
@@ -59,29 +59,13 @@ leaf_spelled o _ d f is = cc
 
 -- a member, by its name
 named_spelled : (kind : Object) (ms : json.Members) (k : List ℕ) (d : json.Data) → AllSpelled kind ms → get_member k ms ≡ Some d → is_null d ≡ false → Spelled (member_place kind k) d
-named_spelled kind json.no_members k d all is some = cc
-named_spelled kind (json.member l e ms) k d all is some = by (slice_cmp nat_cmp k l) refl is (named_spelled kind ms k d all.1)
-  where
-    by : (order : Ordering) → slice_cmp nat_cmp k l ≡ order → match_ordering order (get_member k ms) (Some e) (get_member k ms) ≡ Some d → (get_member k ms ≡ Some d → is_null d ≡ false → Spelled (member_place kind k) d) → Spelled (member_place kind k) d
-    by Less cmp same behind = behind same some
-    by Greater cmp same behind = behind same some
-    by Equal cmp same behind =
-        let names_are : l ≡ k = sym (texts_compute.exact k l cmp) in
-        let trees : e ≡ d = cc in
-        subst (λ n. Spelled (member_place kind n) d) names_are (subst (λ t. Spelled (member_place kind l) t) trees (all.0 (not_out (member_place kind l) e (ap is_null trees ∙ some))))
+named_spelled kind ms k d all is some = each_at _ ms k d all (found_among ms k d is) (not_out (member_place kind k) d some)
 
 -- the only alternative of a value
 only_spelled : (ms : json.Members) (k : List ℕ) (d : json.Data) → AllSpelled object.Value ms → chosen object.Value ms ≡ (k, d) ∷ [] → Spelled (value_member k) d
-only_spelled json.no_members k d all is = cc
-only_spelled (json.member l e ms) k d all is = by (is_chosen object.Value l e) refl is (only_spelled ms k d all.1)
-  where
-    by : (b : Bool) → is_chosen object.Value l e ≡ b → cond b ((l, e) ∷ chosen object.Value ms) (chosen object.Value ms) ≡ (k, d) ∷ [] → (chosen object.Value ms ≡ (k, d) ∷ [] → Spelled (value_member k) d) → Spelled (value_member k) d
-    by false other same behind = behind same
-    by true this same behind =
-        let pair : (l, e) ≡ (k, d) = cc in
-        let names_are : l ≡ k = ap (λ (x : List ℕ × json.Data). x.0) pair in
-        let trees : e ≡ d = ap (λ (x : List ℕ × json.Data). x.1) pair in
-        subst (λ n. Spelled (value_member n) d) names_are (subst (λ t. Spelled (value_member l) t) trees (all.0 (not-true _ (and_parts (not (is_unknown (value_member l))) _ this).1)))
+only_spelled ms k d all is =
+    let at = chosen_among object.Value ms k d is in
+    each_at _ ms k d all at.0 (not-true _ (and_parts (not (is_unknown (value_member k))) _ at.1).1)
 
 one_of : (l : List (List ℕ × json.Data)) → is_one_known object.Value l ≡ true → (k : List ℕ) × ((d : json.Data) × ((l ≡ (k, d) ∷ []) × (is_unknown (value_member k) ≡ false)))
 one_of [] is = cc
