@@ -12,7 +12,7 @@ use Rattle.json_model.specs.declared.place.Object.TheVariants as object
 use Rattle.json_model.specs.declared.place.Series.{Series}
 use Rattle.json_model.specs.declared.fault.JsonFault.{JsonFault}
 use Rattle.json_model.specs.declared.fault.JsonFault.TheVariants as json_fault
-use Rattle.json_model.specs.Faults.{FlatFaults, FaultsAt, ItemsFaults, MembersFaults, OwnOr, InLevels, OwnName, AtMember, unknown_faults, own_faults, own_list_faults, depth_faults, levels_inside, missing}
+use Rattle.json_model.specs.Faults.{FlatFaults, FaultsAt, ItemsFaults, MembersFaults, OwnOr, InLevels, OwnName, AtMember, unknown_faults, own_faults, own_list_faults, depth_faults, levels_inside, missing, Takes}
 use Rattle.json_model.specs.Fits.{Fits, ItemsFit, MembersFit, FitsFlat, FitsName}
 use Rattle.json_model.specs.Members.{is_left_out, later, lacks_choice, is_vector_map, lacks_only, refined}
 use Rattle.json_model.specs.Origin.{Origin}
@@ -135,3 +135,17 @@ mutual
   fit_members o limit kind names no_members h = ap (missing kind) (sym h)
   fit_members o limit kind names (member k d ms) h =
       ([], [], fit_at o limit kind k d h.1 (fits_clean o limit (member_place kind k) k d), fit_members o limit kind (later k names) ms h.2, ap (λ l. missing kind l ++ []) (sym h.0))
+
+-- ---- objects of the form
+
+-- one that takes up so many levels, and one that takes up none
+pub object_fits : (o : Origin) (limit : ℕ) (kind : Object) (ms : Members) (levels : ℕ) → lacks_choice kind ms ≡ false → is_vector_map kind ms ≡ false → Takes (refined kind ms) ms levels → levels ≤ limit
+    → MembersFit o (levels_inside kind (limit - levels)) (refined kind ms) (required (refined kind ms)) ms → Fits o limit (place.Object kind) (an_object ms)
+unfolding Fits
+object_fits o limit kind ms levels chooses plain takes room inside = record { chooses = chooses; no_vector = plain; levels = levels; takes = takes; room = room; inside = inside }
+
+pub flat_object_fits : (o : Origin) (limit : ℕ) (kind : Object) (ms : Members) → lacks_choice kind ms ≡ false → is_vector_map kind ms ≡ false → Takes (refined kind ms) ms 0
+    → MembersFit o (levels_inside kind limit) (refined kind ms) (required (refined kind ms)) ms → Fits o limit (place.Object kind) (an_object ms)
+flat_object_fits o limit kind ms chooses plain takes inside =
+    let all : limit ≡ limit - 0 = omega arith in
+    object_fits o limit kind ms 0 chooses plain takes (omega arith) (subst (λ n. MembersFit o (levels_inside kind n) (refined kind ms) (required (refined kind ms)) ms) all inside)

@@ -36,12 +36,9 @@ use Rattle.json_model.specs.Places.{value_member, value_rows, is_unknown}
 use Rattle.json_model.specs.Printed.{printed_value, printed_items, printed_members, printed_fields, values_tree, fields_tree}
 use Rattle.json_model.specs.References.{SpellsReference, root_of}
 use Rattle.json_model.specs.Trees.{one}
-use Rattle.json_model.proofs.Fitting.{fits_clean}
+use Rattle.json_model.proofs.Fitting.{fits_clean, object_fits, flat_object_fits}
 use Rattle.value_model.proofs.Parts.{items_list, entries_members, members_entries}
 use Rattle.value_model.proofs.Places.{compared_below}
-
-all_levels : (limit : ℕ) → limit ≡ limit - 0
-all_levels limit = omega arith
 
 -- a tree that spells the value, and is of the form where there are levels enough
 record Back (tree : json.Data) (v : Data) : Type 0 where
@@ -57,14 +54,9 @@ one_back name inner v p at told kept kind fit =
         ap (λ q. cond (not (is_unknown q) && not (is_left_out q inner)) ((name, inner) ∷ []) []) at ∙ (λ i. cond (not (told i) && not (kept i)) ((name, inner) ∷ []) []) in
     record {
       spelled = of_kind (json.member name inner json.no_members) name inner refl only (subst (λ q. SpellsKind q inner v) (sym at) kind);
-      fit = λ o limit deep. record {
-        chooses = ap (λ l. not (is_one_known object.Value l)) only ∙ ap (λ q. not (not (is_unknown q))) at ∙ ap (λ b. not (not b)) told;
-        no_vector = refl;
-        levels = 0;
-        takes = refl;
-        room = omega arith;
-        inside = (refl, inr (ap (λ q. is_left_out q inner) at ∙ kept, (tt, subst (λ q. Fits o (limit - 0) q inner) (sym at) (subst (λ n. Fits o n p inner) (all_levels limit) (fit o limit deep)))), refl);
-      };
+      fit = λ o limit deep. flat_object_fits o limit object.Value (json.member name inner json.no_members)
+          (ap (λ l. not (is_one_known object.Value l)) only ∙ ap (λ q. not (not (is_unknown q))) at ∙ ap (λ b. not (not b)) told) refl refl
+          (refl, inr (ap (λ q. is_left_out q inner) at ∙ kept, (tt, subst (λ q. Fits o limit q inner) (sym at) (fit o limit deep))), refl);
     }
 
 same_text : (xs : List ℕ) → slice_cmp nat_cmp xs xs ≡ Equal
@@ -127,8 +119,8 @@ array_back (item d ds) items =
 
 array_fits : (o : Origin) (limit : ℕ) (ds : Items) → depth (array ds) ≤ limit → ItemsFit o (limit - 1) series.Values (printed_items ds) → Fits o limit (place.Object object.Array) (values_tree (printed_items ds))
 unfolding Fits
-array_fits o limit no_items deep items = record { chooses = refl; no_vector = refl; levels = 1; takes = refl; room = omega arith; inside = refl }
-array_fits o limit (item d ds) deep items = record { chooses = refl; no_vector = refl; levels = 1; takes = refl; room = omega arith; inside = (refl, inr (refl, (tt, (refl, items))), refl) }
+array_fits o limit no_items deep items = object_fits o limit object.Array json.no_members 1 refl refl refl (omega arith) refl
+array_fits o limit (item d ds) deep items = object_fits o limit object.Array _ 1 refl refl refl (omega arith) (refl, inr (refl, (tt, (refl, items))), refl)
 
 map_back : (ms : Members) → SpellsMembers (printed_members ms) [] (entries_of ms) → SpellsKind (place.Object object.Map) (fields_tree (printed_members ms)) (map ms)
 map_back no_members members = by_map json.no_members [] refl no_map refl
@@ -137,20 +129,13 @@ map_back (member n d ms) members =
     by_map (json.member (codes "fields") tree json.no_members) (entries_of (member n d ms)) refl (a_map (printed_members (member n d ms)) tree refl members) (ap map (sym (members_entries (member n d ms))))
 
 fields_fit : (o : Origin) (limit : ℕ) (ms : json.Members) → MembersFit o limit object.Fields [] ms → Fits o limit (place.Object object.Fields) (json.object ms)
-unfolding Fits
-fields_fit o limit ms members = record { chooses = refl; no_vector = refl; levels = 0; takes = refl; room = omega arith; inside = subst (λ n. MembersFit o n object.Fields [] ms) (all_levels limit) members }
+fields_fit o limit ms members = flat_object_fits o limit object.Fields ms refl refl refl members
 
 map_fits : (o : Origin) (limit : ℕ) (ms : Members) → depth (map ms) ≤ limit → All IsFieldName (keys_of (entries_of ms)) → MembersFit o (limit - 1) object.Fields [] (printed_members ms) → Fits o limit (place.Object object.Map) (fields_tree (printed_members ms))
 unfolding Fits
-map_fits o limit no_members deep names members = record { chooses = refl; no_vector = refl; levels = 1; takes = refl; room = omega arith; inside = refl }
-map_fits o limit (member n d ms) deep names members = record {
-  chooses = refl;
-  no_vector = untyped (member n d ms) names;
-  levels = 1;
-  takes = refl;
-  room = omega arith;
-  inside = (refl, inr (refl, (tt, fields_fit o (limit - 1) (printed_members (member n d ms)) members)), refl);
-}
+map_fits o limit no_members deep names members = object_fits o limit object.Map json.no_members 1 refl refl refl (omega arith) refl
+map_fits o limit (member n d ms) deep names members =
+    object_fits o limit object.Map _ 1 refl (untyped (member n d ms) names) refl (omega arith) (refl, inr (refl, (tt, fields_fit o (limit - 1) (printed_members (member n d ms)) members)), refl)
 
 -- ---- values
 
