@@ -22,10 +22,9 @@ use Rattle.json_rpc.specs.Grammar.{SpellsConditionUnder, SpellsCondition, Spells
 
 condition_under_once : (name : List ℕ) (d : Json) → IsOnce (SpellsConditionUnder name d)
 condition_under_once name d Free b first second = absurd first
-condition_under_once name d (Exists a) Free first second = absurd second
+condition_under_once name d a Free first second = absurd second
 condition_under_once name d (Exists a) (Exists b) first second = let e = sym first.1 ∙ second.1 in let same : a ≡ b = cc in ap Exists same
 condition_under_once name d (Exists a) (UpdateTime t) first second = absurd (apart (codes "exists") (codes "updateTime") refl (sym first.0 ∙ second.0))
-condition_under_once name d (UpdateTime t) Free first second = absurd second
 condition_under_once name d (UpdateTime t) (Exists b) first second = absurd (apart (codes "updateTime") (codes "exists") refl (sym first.0 ∙ second.0))
 condition_under_once name d (UpdateTime t) (UpdateTime u) first second = ap UpdateTime (time_once d t u first.1 second.1)
 
@@ -50,11 +49,7 @@ change_name (RemoveAll values) = codes "removeAllFromArray"
 
 named : (name : List ℕ) (d : Json) (change : Change) → SpellsChange name d change → name ≡ change_name change
 named name d ServerTime spelled = spelled
-named name d (Increment by) spelled = spelled.0
-named name d (Maximum other) spelled = spelled.0
-named name d (Minimum other) spelled = spelled.0
-named name d (Append values) spelled = spelled.0
-named name d (RemoveAll values) spelled = spelled.0
+named name d _ spelled = spelled.0
 
 change_once : (name : List ℕ) (d : Json) → IsOnce (SpellsChange name d)
 change_once name d ServerTime ServerTime first second = refl

@@ -112,6 +112,7 @@ fn clean_transform(alloc: Global, setting: &Setting<'_>, json: &Json) -> Result<
 }
 
 /// The transforms of a list.
+#[tactic(auto, using(json_model::proofs::Forms::all_spelled))]
 fn clean_items(
     alloc: Global,
     setting: &Setting<'_>,
@@ -158,6 +159,7 @@ fn print_operand(alloc: Global, number: i64) -> Result<Json, NoMemory>
 }
 
 /// The trees of values.
+#[tactic(auto, using(json_model::proofs::PrintedLists::printed_more))]
 fn print_values(alloc: Global, values: &[Value]) -> Result<Vec<Json>, NoMemory>
     ensures { IfOk result (λ trees. items_view trees.items ≡ printed_each printed_value values.now) }
 {
@@ -224,6 +226,7 @@ fn print_transform(alloc: Global, transform: &Transform) -> Result<Json, NoMemor
 }
 
 /// The trees of transforms.
+#[tactic(auto, using(json_model::proofs::PrintedLists::printed_more))]
 fn print_items(alloc: Global, transforms: &[Transform]) -> Result<Vec<Json>, NoMemory>
     ensures { IfOk result (λ trees. items_view trees.items ≡ printed_each printed_transform transforms.now) }
 {
