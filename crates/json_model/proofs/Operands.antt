@@ -23,6 +23,7 @@ one_array (one ∷ two ∷ others) h = cc
 one_array (one ∷ []) h =
     let same = (bytes_eq-Decides one.0 (codes "arrayValue")).0 (not-false _ (or_parts _ false h).0) in
     ap (λ (k : List ℕ). not (not (is_unknown (value_member k)))) same ∙ ap (λ b. not (not b)) at_array
+
 as_value : (o : Origin) (limit : ℕ) (d : Json) → Fits o limit (place.Object object.ListOperand) d → Fits o limit (place.Object object.Value) d
 unfolding Fits
 as_value o limit (an_object ms) h = record { chooses = one_array (chosen object.Value ms) h.chooses; no_vector = refl; levels = h.levels; takes = h.takes; room = h.room; inside = h.inside }

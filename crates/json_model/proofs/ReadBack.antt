@@ -51,7 +51,7 @@ one_back : (name : List ℕ) (inner : json.Data) (v : Data) (p : Place) → valu
 unfolding Fits
 one_back name inner v p at told kept kind fit =
     let only : chosen object.Value (json.member name inner json.no_members) ≡ (name, inner) ∷ [] =
-        ap (λ q. cond (not (is_unknown q) && not (is_left_out q inner)) ((name, inner) ∷ []) []) at ∙ (λ i. cond (not (told i) && not (kept i)) ((name, inner) ∷ []) []) in
+    ap (λ q. cond (not (is_unknown q) && not (is_left_out q inner)) ((name, inner) ∷ []) []) at ∙ (λ i. cond (not (told i) && not (kept i)) ((name, inner) ∷ []) []) in
     record {
       spelled = of_kind (json.member name inner json.no_members) name inner refl only (subst (λ q. SpellsKind q inner v) (sym at) kind);
       fit = λ o limit deep. flat_object_fits o limit object.Value (json.member name inner json.no_members)

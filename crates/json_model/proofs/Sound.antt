@@ -211,10 +211,13 @@ module _ (k l : List ℕ) (e : Json) where
             | inl same ↦ inl (sym here ∙ same_one one k same, untold (is_null e) one gone)
             | inr more ↦ inr (λ at. let less = before_all one k others up more in let tied = itself one k (here ∙ at) in cc, (more, ascending_tail one others up))
           ]
-      by Greater cmp gone = inr (λ at. elim (or_cases (bytes_eq one k) (is_among k others) among) [
-        | inl same ↦ let tied = itself one l (same_one one k same ∙ sym at) in cc
-        | inr rest ↦ let less = subst (λ (t : List ℕ). slice_cmp nat_cmp one t ≡ Less) (sym at) (before_all one k others up rest) in cc
-      ], (among, up))
+      by Greater cmp gone = inr (
+        λ at. elim (or_cases (bytes_eq one k) (is_among k others) among) [
+          | inl same ↦ let tied = itself one l (same_one one k same ∙ sym at) in cc
+          | inr rest ↦ let less = subst (λ (t : List ℕ). slice_cmp nat_cmp one t ≡ Less) (sym at) (before_all one k others up rest) in cc
+        ],
+        (among, up),
+      )
 
 is_some_given : (found : Option Json) (d : Json) → found ≡ Some d → is_null d ≡ false → IsSome (option_and_then unless_null found)
 is_some_given None d is some = cc

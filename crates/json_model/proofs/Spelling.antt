@@ -84,6 +84,7 @@ value_of ms chooses all =
     let only = one_of (chosen object.Value ms) (not-false _ chooses) in
     let found = kind_spelled (value_member only.0) only.1.0 (kind_known only.0 only.1.1.1) (only_spelled ms only.0 only.1.0 all only.1.1.0) in
     (found.0, of_kind ms only.0 only.1.0 refl only.1.1.0 found.1)
+
 array_in : (ms : json.Members) → AllSpelled object.Array ms → (v : Data) × SpellsKind (place.Object object.Array) (json.object ms) v
 array_in ms all = by (given (codes "values") ms) refl
   where

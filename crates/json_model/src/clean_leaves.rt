@@ -41,11 +41,11 @@ fn want_of_memory(fault: JsonFault) -> NoMemory
 }
 
 /// A leaf without faults is what may stand there.
+#[tactic(auto, using(crate::proofs::Fine::clean_leaf))]
 fn show_leaf(_setting: &Setting<'_>, _leaf: Leaf, _json: &Json)
     requires { IsClean _setting.now (places.Leaf _leaf) (view _json.now) }
     ensures { FitsLeaf _setting.now.root _leaf (view _json.now) }
-{
-}
+{}
 
 /// The text of a leaf that is one.
 fn clean_leaf_text<'a>(_setting: &Setting<'_>, _leaf: Leaf, json: &'a Json) -> &'a str
@@ -336,11 +336,7 @@ pub fn clean_code(alloc: Global, setting: &Setting<'_>, json: &Json) -> Result<u
 ///
 /// # Errors
 /// `NoMemory`
-pub fn clean_listener_id(
-    alloc: Global,
-    setting: &Setting<'_>,
-    json: &Json,
-) -> Result<u32, NoMemory>
+pub fn clean_listener_id(alloc: Global, setting: &Setting<'_>, json: &Json) -> Result<u32, NoMemory>
     requires { IsClean setting.now (places.Leaf leaves.ListenerId) (view json.now) }
     ensures { IfOk result (λ n. SpellsUpTo max_listener_id (view json.now) n) }
 {

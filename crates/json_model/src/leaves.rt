@@ -76,6 +76,7 @@ fn find_in_text(alloc: Global, name: &str, json: &Json) -> Result<Option<JsonFau
     bad_shape_unless(alloc, json.is_string(), name)
 }
 
+#[tactic(auto, using(crate::proofs::Kinded::unless_some, crate::proofs::Kinded::no_time))]
 fn find_in_time_text(alloc: Global, name: &str, text: &str) -> Result<Option<JsonFault>, NoMemory>
     ensures { IfOk result (λ found. FirstOf (Unless (IsTimeText text.now) (json_fault.BadTime name.now)) found) }
 {
@@ -85,6 +86,7 @@ fn find_in_time_text(alloc: Global, name: &str, text: &str) -> Result<Option<Jso
     Ok(Some(JsonFault::BadTime(Text::from_str(alloc, name)?)))
 }
 
+#[tactic(auto, using(crate::proofs::Kinded::unless_none, crate::proofs::Kinded::unless_some, crate::proofs::Kinded::bytes_then, crate::proofs::Kinded::no_bytes))]
 fn find_in_bytes_text(alloc: Global, name: &str, text: &str) -> Result<Option<JsonFault>, NoMemory>
     ensures { IfOk result (λ found. FirstOf (Unless (IsBytesText text.now) (json_fault.BadBytes name.now)) found) }
 {

@@ -57,6 +57,7 @@ fn clean_operand(alloc: Global, setting: &Setting<'_>, json: &Json) -> Result<i6
 }
 
 /// The elements of a transform of an array.
+#[tactic(auto, using(crate::proofs::Given::no_elements))]
 fn clean_elements(alloc: Global, setting: &Setting<'_>, json: &Json) -> Result<Values, NoMemory>
     requires { IsClean setting.now (places.Object objects.Elements) (view json.now) }
     ensures elements { IfOk result (λ values. SpellsElements (view json.now) values) }

@@ -12,6 +12,3 @@ pub returns : goal.returns
 returns c =
     let fits : FitsSigned w64 c.in-Some-as_i64.number = Prim.search rules in
     subst (SpellsWhole (view c.args.json.now)) (sym (to_z-of_z w64 c.in-Some-as_i64.number fits)) (number_whole _ _ c.in-Some-as_i64.ensures fits)
-
-pub returns-in_default-as_i64 : goal.returns-in_default-as_i64
-returns-in_default-as_i64 c = no_whole _ c.in_default.ensures c.in_default-as_i64.ensures
