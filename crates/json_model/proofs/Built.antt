@@ -1,5 +1,5 @@
 -- What is built of a tree without faults is what it spells.
-use Rattle.std.proofs.Common.{◌≡◌, ◌≢◌, ℕ, zero, suc, ◌+◌, ◌-◌, ◌<◌, ◌≤◌, List, [], ◌∷◌, ◌++◌, length, take, get_or, String, Bool, true, false, ◌||◌, codes, Some, None, refl, sym, ap, subst, inl, inr, ◌∙◌, arith}
+use Rattle.std.proofs.Common.{◌≡◌, ◌≢◌, ℕ, zero, suc, ◌+◌, ◌-◌, ◌<◌, ◌≤◌, List, [], ◌∷◌, ◌++◌, length, take, get_or, String, true, false, ◌||◌, codes, Some, None, refl, sym, ap, subst, inl, inr, ◌∙◌, arith}
 use Rattle.std.specs.String.{string_bytes}
 use Rattle.std.specs.declared.alloc.Global.{Global}
 use Rattle.std.proofs.lemmas.Bool.{or_cases}
@@ -20,9 +20,9 @@ use Rattle.json_model.specs.declared.place.Object.TheVariants as object
 use Rattle.json_model.specs.declared.place.Leaf.{Leaf}
 use Rattle.json_model.specs.declared.place.Series.{Series}
 use Rattle.json_model.specs.Clean.{IsClean, ItemsAreClean, AreClean}
-use Rattle.json_model.specs.Faults.{FaultsAt, ItemsFaults, MembersFaults, OwnName}
+use Rattle.json_model.specs.Faults.{FaultsAt, ItemsFaults, OwnName}
 use Rattle.json_model.specs.Grammar.{SpellsValue, of_kind, SpellsKind, as_array as by_array, as_map as by_map, SpellsList, no_list, a_list, SpellsMap, no_map, a_map, SpellsFields, SpellsItems, no_item, an_item, SpellsMembers, no_member, left_out, a_member, is_kind}
-use Rattle.json_model.specs.Members.{is_null, given, chosen, later}
+use Rattle.json_model.specs.Members.{is_null, given, chosen}
 use Rattle.json_model.specs.Origin.{Origin}
 use Rattle.json_model.specs.Places.{item_place, value_rows, value_member, is_unknown, required}
 use Rattle.json_model.proofs.Among.{Among, each_at, entry_among}

@@ -1,19 +1,18 @@
 -- The one alternative of an object without faults.
-use Rattle.std.proofs.Common.{◌≡◌, ◌≢◌, ℕ, ◌-◌, List, [], ◌∷◌, length, Bool, true, false, not, ◌&&◌, ◌||◌, cond, codes, inl, inr, refl, sym, ap, subst, ◌∙◌, arith}
+use Rattle.std.proofs.Common.{◌≡◌, ◌≢◌, ℕ, ◌-◌, List, [], ◌∷◌, length, true, false, not, ◌&&◌, inl, inr, refl, sym, ap, subst, arith}
 use Rattle.std.proofs.lemmas.Bool.{and_parts, and_cases, or_parts, not-true, not-false}
-use Rattle.serde_json.specs.Data.{Data as Json, Members, no_members, member}
+use Rattle.serde_json.specs.Data.{Data as Json, Members}
 use Rattle.json_model.specs.declared.place.Object.{Object}
 use Rattle.json_model.specs.declared.place.Object.TheVariants as object
-use Rattle.json_model.specs.declared.fault.JsonFault.TheVariants as json_fault
 use Rattle.json_model.specs.Clean.{IsClean, AreClean}
-use Rattle.json_model.specs.Faults.{FaultsAt, MembersFaults, levels_inside, own_faults}
-use Rattle.json_model.specs.Members.{is_null, takes_null, is_left_out, is_chosen, chosen, is_one_known, only_name, lacks_array, lacks_choice, is_vector_map, later, refined}
+use Rattle.json_model.specs.Faults.{FaultsAt, MembersFaults, levels_inside}
+use Rattle.json_model.specs.Members.{is_null, takes_null, is_left_out, is_chosen, chosen, is_one_known, only_name, lacks_array, refined}
 use Rattle.json_model.specs.Origin.{Origin}
-use Rattle.json_model.specs.Places.{placed, write_rows, transform_rows, field_filter_rows, member_place, chooses, is_choice, required}
+use Rattle.json_model.specs.Places.{write_rows, transform_rows, field_filter_rows, member_place, chooses, is_choice, required}
 use Rattle.json_model.proofs.Fitting.{own_choice}
 use Rattle.json_model.proofs.Rows.{every_row}
 use Rattle.json_model.proofs.Among.{each_at, chosen_among}
-use Rattle.json_model.proofs.Sound.{each_clean, sound, levels_few, first_of, at_clean, not_out}
+use Rattle.json_model.proofs.Sound.{each_clean, sound, levels_few, not_out}
 
 pub choice_there : (o : Origin) (kind : Object) (ms : Members) → AreClean o kind ms → chooses kind ≡ true → is_one_known kind (chosen kind ms) ≡ false → ⊥
 choice_there o kind ms (limit, name, room, clean) must none =

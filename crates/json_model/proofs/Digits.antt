@@ -2,7 +2,7 @@
 use Rattle.std.proofs.Common.{◌≡◌, ℕ, List, [], ◌∷◌, Bool, false, ◌||◌, Option, Some, None, option_map, refl}
 use Rattle.serde_json.specs.Data as json
 use Rattle.serde_json.specs.Written.{has_float, items_have_float, members_have_float}
-use Rattle.value_model.specs.Data.{Data, null, boolean, integer, time, pending, text, bytes, reference, array, map, Items, no_items, item, Members, no_members, member, Entries, members_of}
+use Rattle.value_model.specs.Data.{Data, array, map, Items, no_items, item, Members, no_members, member, Entries, members_of}
 use Rattle.json_model.specs.Forms.{before, present, unless_empty, printed_each}
 use Rattle.json_model.specs.Printed.{printed_value, printed_items, printed_members, printed_fields, values_tree, fields_tree}
 

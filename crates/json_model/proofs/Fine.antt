@@ -5,7 +5,7 @@ use Rattle.std.specs.Bool.{if◌then◌else◌}
 use Rattle.document_keys.specs.Names.{Root, path_text, name_text, documents_text}
 use Rattle.document_keys.specs.Paths.{SpellsPath}
 use Rattle.document_keys.proofs.Spelled.{spells_one}
-use Rattle.serde_json.specs.Data.{Data as Json, null, boolean, number, string, array, object as an_object}
+use Rattle.serde_json.specs.Data.{Data as Json, null, boolean}
 use Rattle.json_model.specs.declared.place.Place.TheVariants as place
 use Rattle.json_model.specs.declared.place.Leaf.{Leaf}
 use Rattle.json_model.specs.declared.place.Leaf.TheVariants as leaf

@@ -2,7 +2,7 @@
 use Rattle.std.proofs.Common.{◌≡◌, ◌⊎◌, ℕ, ◌-◌, ◌≤◌, List, [], ◌∷◌, ◌++◌, Bool, true, false, nat_lt, codes, refl, sym, ap, subst, inl, inr, arith}
 use borrow.Author.Tests.{ltb-true}
 use Rattle.std.specs.Bool.{if◌then◌else◌}
-use Rattle.serde_json.specs.Data.{Data as Json, null, boolean, number, string, array, object as an_object, Members, no_members, member, Items, no_items, item}
+use Rattle.serde_json.specs.Data.{Data as Json, array, object as an_object, Members, no_members, member, Items, no_items, item}
 use Rattle.json_model.specs.declared.side.Side.{Side}
 use Rattle.json_model.specs.declared.side.Side.TheVariants.{Caller, Backend}
 use Rattle.json_model.specs.declared.place.Place.{Place}

@@ -1,6 +1,6 @@
 -- The faults of trees that aren't looked into, as they are found.
 use Rattle.std.proofs.Common.{rules, ◌≡◌, ◌≢◌, ℕ, List, [], ◌∷◌, Vec, Global, Bool, true, false, cond, Option, Some, None, is_some, MatchOption, Result, Ok, Err, IfOk, refl, sym, ap, subst, inl, inr, ◌∙◌}
-use Rattle.serde_json.specs.Data.{Data as Json, null, boolean, number, string, array, object}
+use Rattle.serde_json.specs.Data.{Data as Json, boolean, string}
 use Rattle.document_keys.specs.Names.{Root, IsSegment}
 use Rattle.serde_json.specs.Find.{as_str, as_bool}
 use Rattle.value_model.specs.declared.timestamp.Timestamp.{Timestamp}

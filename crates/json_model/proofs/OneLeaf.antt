@@ -3,11 +3,8 @@ use Rattle.std.proofs.Common.{rules, ◌≡◌, ◌≢◌, ◌∙◌, inl, inr, 
 use Rattle.std.specs.List.{Contains, slice_index_or}
 use Rattle.std.proofs.lemmas.List.Elements.{All-contains, All-weaker}
 use borrow.Author.Tests.{ltb-true, ltb-false}
-use Rattle.document_keys.specs.Names.{Root, IsRoot, IsKey, HasNameLength, documents_text, name_text}
-use Rattle.document_keys.specs.Faults.{HasKeyFault}
+use Rattle.document_keys.specs.Names.{Root, HasNameLength, documents_text}
 use Rattle.document_keys.specs.Paths.{IsFieldName, IsFieldPath, HasReserved, SpellsPath}
-use Rattle.document_keys.specs.declared.faults.NameFault.TheVariants as name_fault
-use Rattle.document_keys.proofs.Lawful.{excluded}
 use Rattle.document_keys.proofs.Spelled.{spells_one}
 use Rattle.serde_json.specs.Data.{Data as Json, string}
 use Rattle.json_model.specs.declared.place.Leaf.{Leaf}
@@ -15,12 +12,11 @@ use Rattle.json_model.specs.declared.place.Leaf.TheVariants as leaf
 use Rattle.json_model.specs.declared.fault.JsonFault.{JsonFault}
 use Rattle.json_model.specs.declared.fault.JsonFault.TheVariants as json_fault
 use Rattle.json_model.specs.declared.fault.NamingFault.{NamingFault}
-use Rattle.json_model.specs.declared.fault.NamingFault.TheVariants.{WrongRoot, BadSegment, OddLength, BadPath, ReservedField}
+use Rattle.json_model.specs.declared.fault.NamingFault.TheVariants.{BadPath, ReservedField}
 use Rattle.json_model.specs.Faults.{IsFault}
 use Rattle.json_model.specs.Leaves.{Unless, bad_name, IsNameFault, NamingFaults, ReferenceFaults, DocumentFaults, FieldNameFaults, PathFaults, NamesFaults, too_many, few, HasManyNames, HasFieldPathFault, IsFieldPathText, HasQueryPathFault, QueryPathFaults, IsQueryPathText, ParentFaults, IsParentText, IsReferenceText, IsDocumentText, InText, in_text, in_other, LeafFaults, max_names}
 use Rattle.json_model.specs.Ranks.{first_of_least}
-use Rattle.json_model.specs.References.{HasReferenceFault, HasDocumentFault, HasFieldFault, IsUnder}
-use Rattle.json_model.proofs.Cuts.{one_root}
+use Rattle.json_model.specs.References.{HasReferenceFault, HasDocumentFault, HasFieldFault}
 use Rattle.json_model.proofs.Fine.{not_many}
 use Rattle.json_model.proofs.Naming.{only}
 use Rattle.json_model.proofs.Referred.{document_none, document_fault_one, reference_no, reference_fault_one}

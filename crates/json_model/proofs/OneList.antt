@@ -3,7 +3,7 @@ use Rattle.std.proofs.Common.{◌≡◌, ◌∙◌, inl, inr, ℕ, ◌-◌, List
 use Rattle.document_keys.specs.Names.{Root}
 use Rattle.document_keys.specs.Paths.{SpellsPath}
 use Rattle.document_keys.proofs.Spelled.{spells_one}
-use Rattle.serde_json.specs.Data.{Data as Json, null, boolean, number, string, array, object as an_object, Members, no_members, member, Items, no_items, item}
+use Rattle.serde_json.specs.Data.{Data as Json, string, array, object as an_object, Members, no_members, member, Items, no_items, item}
 use Rattle.json_model.specs.declared.place.Place.{Place}
 use Rattle.json_model.specs.declared.place.Place.TheVariants as place
 use Rattle.json_model.specs.declared.place.Object.{Object}

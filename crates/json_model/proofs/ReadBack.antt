@@ -1,9 +1,9 @@
 -- What is printed of a value that can be stored is of the form, and spells it.
-use Rattle.std.proofs.Common.{◌≡◌, ℕ, ◌-◌, ◌<◌, ◌≤◌, zero, suc, List, [], ◌∷◌, ◌++◌, length, get_or, false, not, ◌&&◌, cond, codes, Option, Some, None, is_some, Ordering, Less, Equal, Greater, refl, sym, ap, subst, inl, inr, ◌∙◌, append-nil, append_assoc, arith}
+use Rattle.std.proofs.Common.{◌≡◌, ℕ, ◌-◌, ◌<◌, ◌≤◌, suc, List, [], ◌∷◌, ◌++◌, length, get_or, false, not, ◌&&◌, cond, codes, Option, Some, None, is_some, Ordering, Equal, refl, sym, ap, subst, inl, inr, ◌∙◌, append-nil, append_assoc, arith}
 use Rattle.std.specs.List.{All, AllPairs}
 use Rattle.std.specs.Map.{keys_of}
 use Rattle.std.specs.Fmt.{signed_decimal}
-use Rattle.std.specs.Ordering.{nat_cmp, match_ordering, ordering_reverse}
+use Rattle.std.specs.Ordering.{nat_cmp, match_ordering}
 use Rattle.std.specs.Option.{option_and_then}
 use Rattle.std.specs.Cmp.Lexicographic.{slice_cmp}
 use Rattle.std.proofs.lemmas.Cmp.{nat_list_cmp_total, tied_itself}
@@ -16,7 +16,7 @@ use Rattle.document_keys.specs.Names.{name_text}
 use Rattle.document_keys.specs.Order.{TextBefore}
 use Rattle.document_keys.specs.Paths.{IsFieldName}
 use Rattle.document_keys.proofs.Order.{texts_compute}
-use Rattle.value_model.specs.Data.{Data, null, boolean, integer, time, pending, text, bytes, reference, array, map, Items, no_items, item, Members, no_members, member, Entries, items_of, members_of, list_of, entries_of, depth, items_depth, members_depth, entries_depth}
+use Rattle.value_model.specs.Data.{Data, null, boolean, integer, time, pending, text, bytes, reference, array, map, Items, no_items, item, Members, no_members, member, Entries, members_of, list_of, entries_of, depth, items_depth, members_depth, entries_depth}
 use Rattle.value_model.specs.Fields.{with_field}
 use Rattle.value_model.specs.Storable.{IsStorable, AreStorableItems, AreStorableMembers, AreStorable, AreStorableBytes}
 use Rattle.value_model.specs.Time.{time_text, TimesReadBack}
@@ -28,7 +28,7 @@ use Rattle.json_model.specs.declared.place.Leaf.TheVariants as leaf
 use Rattle.json_model.specs.Bytes.{SpellsBytes, printed_bytes}
 use Rattle.json_model.specs.Faults.{FieldsFaults, max_nesting}
 use Rattle.json_model.specs.Fits.{Fits, ItemsFit, MembersFit}
-use Rattle.json_model.specs.Grammar.{SpellsValue, of_kind, SpellsKind, as_scalar, as_array as by_array, as_map as by_map, SpellsList, no_list, a_list, SpellsItems, no_item, an_item, SpellsMap, no_map, a_map, SpellsMembers, no_member, a_member, SpellsFields}
+use Rattle.json_model.specs.Grammar.{SpellsValue, of_kind, SpellsKind, as_scalar, as_array as by_array, as_map as by_map, no_list, a_list, SpellsItems, no_item, an_item, no_map, a_map, SpellsMembers, no_member, a_member, SpellsFields}
 use Rattle.json_model.specs.Members.{is_vector, has_type, is_null, is_left_out, chosen, is_one_known, given, unless_null}
 use Rattle.json_model.specs.Numbers.{SpellsWhole, as_text as by_text}
 use Rattle.json_model.specs.Origin.{Origin}

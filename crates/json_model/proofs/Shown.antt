@@ -1,20 +1,16 @@
 -- Lists and members that are printed one after another.
-use Rattle.std.proofs.Common.{Some, String, Vec, vec_len, BTreeMap, Result, Ok, Err, IfOk, codes, zero, suc, length, ◌≤◌, sym, ◌≡◌, ℕ, ◌+◌, ◌<◌, List, [], ◌∷◌, ◌++◌, true, false, Greater, take, get_or, refl, ap, subst, ◌∙◌, arith, add-one}
-use Rattle.std.specs.Ordering.{nat_cmp, ordering_reverse}
+use Rattle.std.proofs.Common.{Some, String, Vec, vec_len, BTreeMap, Result, Ok, Err, IfOk, codes, zero, suc, length, ◌≤◌, sym, ◌≡◌, ℕ, ◌+◌, ◌<◌, List, [], ◌∷◌, ◌++◌, true, false, take, get_or, refl, ap, subst, ◌∙◌, arith, add-one}
 use Rattle.std.specs.List.{AllPairs}
 use Rattle.std.specs.Map.{keys_of}
-use Rattle.std.specs.Cmp.Lexicographic.{slice_cmp}
 use Rattle.std.specs.String.{string_bytes, string_cmp}
 use Rattle.std.specs.BTreeMap.{insert_entry}
 use Rattle.std.specs.declared.alloc.Global.{Global}
-use Rattle.std.proofs.lemmas.Cmp.{nat_list_cmp_total}
 use Rattle.serde_json.specs.View.{view, items_view, members_view}
 use Rattle.std.specs.Bool.{◌==◌}
 use Rattle.serde_json.specs.declared.value.Value.{Value as Json, Array, Object}
 use Rattle.serde_json.proofs.Views.{members_view-insert_entry, view-Array, view-Object}
 use Rattle.serde_json.specs.Data as json
 use Rattle.document_keys.specs.Order.{TextBefore}
-use Rattle.document_keys.proofs.Order.{texts_compute}
 use Rattle.value_model.specs.declared.fields.Field.{Field}
 use Rattle.value_model.specs.Data.{Data, Entries, items_of, members_of}
 use Rattle.value_model.specs.Codes.{data_size, entries_size}

@@ -1,5 +1,5 @@
 -- What stands in a tree without faults.
-use Rattle.std.proofs.Common.{rules, ◌≡◌, ◌⊎◌, ℕ, ◌-◌, ◌≤◌, List, [], ◌∷◌, ◌++◌, Bool, true, false, not, ◌&&◌, ◌||◌, cond, nat_lt, Option, Some, None, refl, sym, ap, subst, inl, inr, ◌∙◌, Bor, IfSome, IsSome, option_map, Ordering, Less, Equal, Greater, arith}
+use Rattle.std.proofs.Common.{rules, ◌≡◌, ◌⊎◌, ℕ, ◌-◌, ◌≤◌, List, [], ◌∷◌, ◌++◌, Bool, true, false, not, ◌&&◌, cond, nat_lt, Option, Some, None, refl, sym, ap, subst, inl, inr, ◌∙◌, Bor, IfSome, IsSome, option_map, Ordering, Less, Equal, Greater, arith}
 use borrow.Author.Tests.{ltb-false}
 use Rattle.std.specs.Bool.{if◌then◌else◌}
 use Rattle.std.specs.Option.{option_and_then}
@@ -10,7 +10,7 @@ use Rattle.std.proofs.lemmas.Bool.{and_parts, and_right, or_cases}
 use Rattle.std.proofs.lemmas.Cmp.{tied_itself}
 use Rattle.std.proofs.lemmas.Slice.Eq.{bytes_eq-Decides}
 use Rattle.document_keys.proofs.Order.{texts_compute}
-use Rattle.serde_json.specs.Data.{Data as Json, null, boolean, number, string, array, object as an_object, Members, no_members, member, Items}
+use Rattle.serde_json.specs.Data.{Data as Json, array, object as an_object, Members, no_members, member, Items}
 use Rattle.serde_json.specs.Find.{get_member, as_object, as_array}
 use Rattle.serde_json.specs.View.{view}
 use Rattle.serde_json.specs.declared.value.Value.{Value}

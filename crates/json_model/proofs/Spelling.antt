@@ -1,9 +1,6 @@
 -- A tree without faults spells what is to stand there.
-use Rattle.std.proofs.Common.{rules, ◌≡◌, ◌⊎◌, ℕ, ◌-◌, List, [], ◌∷◌, Bool, true, false, not, ◌&&◌, cond, codes, Option, Some, None, refl, sym, ap, subst, inl, inr, ◌∙◌, Ordering, Less, Equal, Greater}
+use Rattle.std.proofs.Common.{rules, ◌≡◌, ◌⊎◌, ℕ, ◌-◌, List, [], ◌∷◌, Bool, true, false, not, codes, Option, Some, None, refl, sym, subst, inl, inr}
 use Rattle.std.proofs.lemmas.Bool.{and_parts, not-true, not-false}
-use Rattle.std.specs.Ordering.{nat_cmp, match_ordering}
-use Rattle.std.specs.Cmp.Lexicographic.{slice_cmp}
-use Rattle.document_keys.proofs.Order.{texts_compute}
 use Rattle.serde_json.specs.Data as json
 use Rattle.serde_json.specs.Find.{get_member}
 use Rattle.value_model.specs.Data.{Data, null, boolean, integer, time, text, bytes, reference, array_of, map_of, Entries}
@@ -21,7 +18,7 @@ use Rattle.json_model.specs.Faults.{levels_inside}
 use Rattle.json_model.specs.Fits.{Fits, FitsFlat, ItemsFit, MembersFit}
 use Rattle.json_model.specs.Laws.{NoFaultSpells}
 use Rattle.json_model.specs.Leaves.{FitsLeaf}
-use Rattle.json_model.specs.Members.{is_null, is_left_out, given, chosen, is_chosen, is_one_known, lacks_choice, later, refined}
+use Rattle.json_model.specs.Members.{is_null, is_left_out, given, chosen, is_one_known, lacks_choice, later, refined}
 use Rattle.json_model.specs.Origin.{Origin}
 use Rattle.json_model.specs.Places.{member_place, item_place, required, value_member, is_unknown}
 use Rattle.json_model.proofs.Among.{OfEach, each_at, found_among, chosen_among}

@@ -1,12 +1,12 @@
 -- What is read can be stored.
-use Rattle.std.proofs.Common.{◌≡◌, ℕ, ℤ, ◌<◌, ◌^◌, List, [], ◌∷◌, ◌++◌, length, Vec, Global, FitsSigned, w64, Ordering, Less, Equal, Greater, refl, sym, ap, subst}
+use Rattle.std.proofs.Common.{◌≡◌, ℕ, ℤ, ◌<◌, ◌^◌, List, [], ◌∷◌, ◌++◌, length, Vec, Global, FitsSigned, w64, Ordering, Less, Equal, Greater, sym, subst}
 use Rattle.std.specs.List.{All}
 use Rattle.std.specs.Map.{keys_of}
 use Rattle.std.specs.Ordering.{nat_cmp, match_ordering}
 use Rattle.std.specs.Cmp.Lexicographic.{slice_cmp}
 use Rattle.std.specs.Str.{IsUtf8}
 use Rattle.serde_json.specs.Data as json
-use Rattle.value_model.specs.Data.{Data, Entries, items_of, members_of, list_of, entries_of, array_of, map_of}
+use Rattle.value_model.specs.Data.{Data, Entries, items_of, members_of, array_of, map_of}
 use Rattle.value_model.specs.Fields.{with_field}
 use Rattle.value_model.proofs.Parts.{list_items, entries_members}
 use Rattle.value_model.specs.Storable.{IsStorable, AreStorableItems, AreStorableMembers, AreStorableBytes, AreStorable, HasStorableNames}

@@ -1,15 +1,12 @@
 -- How deep trees are, and what is inside them.
-use Rattle.std.proofs.Common.{◌≡◌, ◌++◌, ℕ, ◌<◌, ◌≤◌, zero, suc, List, [], ◌∷◌, length, get_or, String, Bool, true, false, cond, Option, Some, None, is_some, Bor, IfSome, option_map, refl, sym, ap, ◌⊎◌, inl, inr, arith, Ordering, Less, Equal, Greater}
+use Rattle.std.proofs.Common.{◌≡◌, ◌++◌, ℕ, ◌<◌, ◌≤◌, zero, suc, List, [], ◌∷◌, length, get_or, String, Option, Some, None, is_some, Bor, IfSome, option_map, refl, sym, ap, inl, inr, arith}
 use Rattle.std.specs.declared.alloc.Global.{Global}
-use Rattle.std.specs.Option.{option_and_then}
-use Rattle.std.specs.Ordering.{nat_cmp, match_ordering}
-use Rattle.std.specs.Cmp.Lexicographic.{slice_cmp}
-use Rattle.serde_json.specs.Data.{Data as Tree, null, boolean, number, string, array, object, Members, no_members, member, Items, depth, items_depth, members_depth}
+use Rattle.serde_json.specs.Data.{Data as Tree, null, array, object, Members, no_members, member, Items, depth, items_depth, members_depth}
 use Rattle.serde_json.specs.Find.{as_object, as_array, as_null, get_member}
 use Rattle.serde_json.specs.View.{view, items_view, members_view}
 use Rattle.serde_json.specs.declared.value.Value.{Value as Json}
 use Rattle.json_model.specs.declared.place.Object.{Object}
-use Rattle.json_model.specs.Members.{given, unless_null, is_null, chosen, is_chosen}
+use Rattle.json_model.specs.Members.{given, is_null, chosen}
 use Rattle.json_model.proofs.Among.{Among, found_among, chosen_among, entry_among}
 use Rattle.json_model.proofs.Sound.{given_some}
 

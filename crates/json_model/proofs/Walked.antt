@@ -5,7 +5,7 @@ use Rattle.std.proofs.lemmas.Bool.Decides.{eqb_tells}
 use Rattle.std.specs.String.{string_bytes}
 use Rattle.std.specs.declared.alloc.Global.{Global}
 use Rattle.std.proofs.lemmas.List.{take_more}
-use Rattle.serde_json.specs.Data.{Data as Tree, null, boolean, number, string, array, object as an_object, Members, Items, no_items}
+use Rattle.serde_json.specs.Data.{Data as Tree, null, string, array, object as an_object, Members, Items, no_items}
 use Rattle.serde_json.specs.Find.{as_str}
 use Rattle.serde_json.specs.View.{view, items_view, members_view}
 use Rattle.serde_json.specs.declared.value.Value.{Value as Json, Null, Bool as Boolean, Number, String as Text, the_lemmas}

@@ -1,5 +1,4 @@
-use Rattle.json_model.proofs.Choices.{choice_there, choice_clean, chosen_choice}
-use Rattle.json_model.proofs.Trees.{choice_depth}
+use Rattle.json_model.proofs.Choices.{choice_there}
 use Rattle.json_model.proofs.clean.clean_choice.Goals as goal
 
 pub unreachable-requires : goal.unreachable-requires

@@ -1,4 +1,4 @@
-use Rattle.json_model.proofs.Sound.{list_there, clean_items}
+use Rattle.json_model.proofs.Sound.{clean_items}
 use Rattle.json_model.proofs.Trees.{array_at}
 use Rattle.json_model.proofs.clean.clean_list.Goals as goal
 

@@ -1,4 +1,4 @@
-use Rattle.json_model.proofs.Sound.{given_all, required_there}
+use Rattle.json_model.proofs.Sound.{required_there}
 use Rattle.json_model.proofs.Trees.{given_within}
 use Rattle.json_model.proofs.clean.clean_member.Goals as goal
 

@@ -2,7 +2,7 @@ use Rattle.std.proofs.Common.{sym, subst, rules, FitsSigned, w64}
 use Rattle.std.proofs.lemmas.Int.{to_z-of_z}
 use Rattle.serde_json.specs.View.{view}
 use Rattle.json_model.specs.Numbers.{SpellsWhole}
-use Rattle.json_model.proofs.Wholes.{text_wholes, number_whole, no_whole}
+use Rattle.json_model.proofs.Wholes.{text_wholes, number_whole}
 use Rattle.json_model.proofs.numbers.read_whole.Goals as goal
 
 pub returns-in-Some : goal.returns-in-Some

@@ -1,10 +1,6 @@
-use Rattle.std.proofs.Common.{rules, subst, sym, ◌∙◌}
-use Rattle.std.specs.List.{AllPairs}
-use Rattle.std.specs.Map.{keys_of}
-use Rattle.document_keys.specs.Order.{TextBefore}
-use Rattle.value_model.specs.Data.{Entries}
+use Rattle.std.proofs.Common.{rules}
 use Rattle.value_model.proofs.Sizes.{item_below}
-use Rattle.json_model.proofs.Shown.{items_more, members_more, field_below}
+use Rattle.json_model.proofs.Shown.{field_below}
 use Rattle.json_model.proofs.printing.+print.Goals as goal
 
 pub print_values-print_value-requires : goal.print_values-print_value-requires

@@ -11,9 +11,9 @@ use Rattle.serde_json.specs.View.{view, items_view, members_view}
 use Rattle.json_model.specs.declared.place.Series.TheVariants as series
 use Rattle.json_model.specs.Clean.{ItemsAreClean}
 use Rattle.json_model.specs.Grammar.{SpellsKind, SpellsItems, SpellsMembers, as_scalar, no_member}
-use Rattle.json_model.proofs.Built.{kind_known, no_other_kind, no_other_object, whole_list, no_items, one_more, item_clean, field_clean, member_skip, member_more, empty_array, full_array, empty_map, full_map, a_value, a_full_list}
+use Rattle.json_model.proofs.Built.{kind_known, no_other_kind, whole_list, one_more, item_clean, field_clean, member_skip, member_more, a_value, a_full_list}
 use Rattle.json_model.proofs.Deep.{clean_deep, value_within, values_within}
-use Rattle.json_model.proofs.Stored.{keys_put, members_put, array_stored, map_stored}
+use Rattle.json_model.proofs.Stored.{keys_put, members_put}
 use Rattle.json_model.proofs.Trees.{null_test, item_depth, entry_depth}
 use Rattle.json_model.proofs.reading.+build.Goals as goal
 

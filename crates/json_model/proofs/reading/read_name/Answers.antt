@@ -1,5 +1,4 @@
 use Rattle.json_model.proofs.Answered.{name_fault, names_none}
-use Rattle.json_model.proofs.Fine.{leaf_faults}
 use Rattle.json_model.proofs.reading.read_name.Goals as goal
 
 pub returns-in-Err-clause-names_none : goal.returns-in-Err-clause-names_none
