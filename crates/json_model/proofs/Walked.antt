@@ -4,7 +4,6 @@ use Rattle.std.specs.Bool.{◌==◌}
 use Rattle.std.proofs.lemmas.Bool.Decides.{eqb_tells}
 use Rattle.std.specs.String.{string_bytes}
 use Rattle.std.specs.declared.alloc.Global.{Global}
-use Rattle.std.proofs.lemmas.List.{take_more}
 use Rattle.serde_json.specs.Data.{Data as Tree, null, string, array, object as an_object, Members, Items, no_items}
 use Rattle.serde_json.specs.Find.{as_str}
 use Rattle.serde_json.specs.View.{view, items_view, members_view}
@@ -22,6 +21,7 @@ use Rattle.json_model.specs.Origin.{Origin}
 use Rattle.json_model.specs.Places.{member_place, item_place, required}
 use Rattle.json_model.specs.Ranks.{better, first_of_least}
 use Rattle.document_keys.specs.Paths.{SpellsPath}
+use Rattle.json_model.proofs.Built.{items_at}
 use Rattle.json_model.proofs.Kinded.{text_at}
 use Rattle.json_model.proofs.Firsts.{first_append, better_assoc, none_first}
 
@@ -137,9 +137,6 @@ unfolding FaultsAt
 items_push o limit kind name [] one xs ys are at = (ys, [], at, refl, ap (λ l. l ++ ys) are ∙ sym (append-nil ys))
 items_push o limit kind name (i ∷ items) one xs ys are at =
     (are.0, are.1 ++ ys, are.2, items_push o limit kind name items one are.1 ys are.3 at, ap (λ l. l ++ ys) are.4 ∙ append_assoc are.0 are.1 ys)
-
-items_at : (items : List Json) (i : ℕ) (one : Json) → i < length items → one ≡ get_or items i one → take (i + 1) items ≡ take i items ++ one ∷ []
-items_at items i one below is = take_more items i one below ∙ ap (λ x. take i items ++ x ∷ []) (sym is)
 
 pub items_start : (o : Origin) (limit : ℕ) (kind : Series) (name : List ℕ) → FirstOf (ItemsFaults o limit kind name no_items) None
 unfolding FaultsAt
