@@ -22,7 +22,7 @@ use Rattle.json_model.proofs.Deep.{values_deep}
 use Rattle.json_model.proofs.Sound.{sound, member_clean, given_some}
 use Rattle.json_model.proofs.Trees.{object_at}
 use Rattle.mutations.specs.declared.transform.Change.{Change}
-use Rattle.mutations.specs.declared.transform.Change.TheVariants.{ServerTime, Increment, Maximum, Minimum, Append, RemoveAll}
+use Rattle.mutations.specs.declared.transform.Change.TheVariants.{ServerTime, Append, RemoveAll}
 use Rattle.json_rpc.specs.Grammar.{SpellsElements, SpellsChange}
 use Rattle.json_rpc.specs.Storable.{IsStorableWithin, AreStorableElements, IsStorableChange, HoldsStorable}
 use Rattle.json_rpc.proofs.Names.{transform_place}

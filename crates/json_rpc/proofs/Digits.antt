@@ -9,7 +9,7 @@ use Rattle.json_model.specs.Forms.{present, unless_empty, printed_each}
 use Rattle.json_model.specs.Printed.{printed_value}
 use Rattle.json_model.proofs.Digits.{NoFloat, neither, row_digits, rows_digits, each_digits, list_digits, value_digits, printed_fields_digits}
 use Rattle.mutations.specs.declared.transform.Change.{Change}
-use Rattle.mutations.specs.declared.transform.Change.TheVariants.{ServerTime, Increment, Maximum, Minimum, Append, RemoveAll}
+use Rattle.mutations.specs.declared.transform.Change.TheVariants.{Append, RemoveAll}
 use Rattle.mutations.specs.declared.transform.Transform.{Transform}
 use Rattle.mutations.specs.declared.write.Precondition.{Precondition}
 use Rattle.mutations.specs.declared.write.Precondition.TheVariants.{Free, Exists, UpdateTime}

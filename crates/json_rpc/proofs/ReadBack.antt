@@ -1,9 +1,9 @@
 -- What is printed of a write that can be stored is of the form, and spells it.
-use Rattle.std.proofs.Common.{◌≡◌, ◌≤◌, ℕ, List, [], ◌∷◌, true, not, codes, Option, Some, None, option_map, refl, sym, ap, subst, inr, ◌∙◌, arith}
+use Rattle.std.proofs.Common.{◌≡◌, ◌≤◌, ℕ, List, [], ◌∷◌, true, not, codes, Option, Some, None, option_map, refl, sym, ap, subst, inr, ◌∙◌}
 use Rattle.std.specs.Bool.{if◌then◌else◌}
 use Rattle.std.specs.Str.{bytes_eq}
 use Rattle.document_keys.specs.Names.{Root, name_text}
-use Rattle.serde_json.specs.Data.{Data as Json, string, object as an_object, Members, no_members, member}
+use Rattle.serde_json.specs.Data.{Data as Json, string, object as an_object, Members}
 use Rattle.value_model.specs.Data.{Entries, entries_depth}
 use Rattle.value_model.specs.Storable.{AreStorable, IsStorableKey}
 use Rattle.value_model.proofs.ReadBack.{time_read}
@@ -18,12 +18,11 @@ use Rattle.json_model.specs.Grammar.{SpellsName}
 use Rattle.json_model.specs.Members.{given, chosen, refined, only_name, is_one_known}
 use Rattle.json_model.specs.Origin.{Origin}
 use Rattle.json_model.specs.Places.{write_rows, delete_write_rows, update_rows, is_write_choice, required}
-use Rattle.json_model.specs.Printed.{printed_fields}
 use Rattle.json_model.proofs.Fitting.{fits_clean, flat_object_fits}
 use Rattle.json_model.proofs.ReadBack.{fields_spelled, printed_fits}
 use Rattle.mutations.specs.declared.transform.Transform.{Transform}
 use Rattle.mutations.specs.declared.write.Precondition.{Precondition}
-use Rattle.mutations.specs.declared.write.Precondition.TheVariants.{Free, Exists, UpdateTime}
+use Rattle.mutations.specs.declared.write.Precondition.TheVariants.{Free}
 use Rattle.mutations.specs.declared.write.Write.{Write}
 use Rattle.mutations.specs.declared.write.Write.TheVariants.{Update, Delete}
 use Rattle.json_rpc.specs.Grammar.{SpellsCondition, SpellsMaskIn, SpellsFieldsIn, SpellsTransform, SpellsDocument, SpellsWrite}
