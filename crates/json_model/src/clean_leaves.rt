@@ -40,7 +40,7 @@ fn want_of_memory(fault: JsonFault) -> NoMemory
     }
 }
 
-/// A leaf without faults is what may stand there.
+/// A leaf without faults is what may stand there. Nothing is done when this runs.
 #[tactic(auto, using(crate::proofs::Fine::clean_leaf))]
 fn show_leaf(_setting: &Setting<'_>, _leaf: Leaf, _json: &Json)
     requires { IsClean _setting.now (places.Leaf _leaf) (view _json.now) }
