@@ -39,7 +39,8 @@ pub chosen_among : (kind : Object) (ms : Members) (k : List ℕ) (d : Json) → 
 chosen_among kind no_members k d is = cc
 chosen_among kind (member l e ms) k d is = by (is_chosen kind l e) refl is (chosen_among kind ms k d)
   where
-    by : (b : Bool) → is_chosen kind l e ≡ b → cond b ((l, e) ∷ chosen kind ms) (chosen kind ms) ≡ (k, d) ∷ [] → (chosen kind ms ≡ (k, d) ∷ [] → Among k d ms × (is_chosen kind k d ≡ true)) → Among k d (member l e ms) × (is_chosen kind k d ≡ true)
+    by : (b : Bool) → is_chosen kind l e ≡ b → cond b ((l, e) ∷ chosen kind ms) (chosen kind ms) ≡ (k, d) ∷ []
+        → (chosen kind ms ≡ (k, d) ∷ [] → Among k d ms × (is_chosen kind k d ≡ true)) → Among k d (member l e ms) × (is_chosen kind k d ≡ true)
     by false other same behind = let more = behind same in (inr more.0, more.1)
     by true this same behind = let pair : (l, e) ≡ (k, d) = cc in (inl pair, subst (λ (x : List ℕ × Json). is_chosen kind x.0 x.1 ≡ true) pair this)
 

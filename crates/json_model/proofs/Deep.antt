@@ -45,7 +45,8 @@ put_deep (e ∷ es) name v limit all one = by (slice_cmp nat_cmp name e.0) (put_
 at : (o : Origin) (limit : ℕ) (p : Place) (d e : json.Data) → d ≡ e → (name : List ℕ) × FaultsAt o limit p name d [] → (name : List ℕ) × FaultsAt o limit p name e []
 at o limit p d e is clean = (clean.0, subst (λ t. FaultsAt o limit p clean.0 t []) is clean.1)
 
-sound_at : (o : Origin) (limit : ℕ) (kind : Object) (d : json.Data) (ms : json.Members) → d ≡ json.object ms → (clean : (name : List ℕ) × FaultsAt o limit (place.Object kind) name d []) → Sound o limit kind clean.0 ms
+sound_at : (o : Origin) (limit : ℕ) (kind : Object) (d : json.Data) (ms : json.Members) → d ≡ json.object ms
+    → (clean : (name : List ℕ) × FaultsAt o limit (place.Object kind) name d []) → Sound o limit kind clean.0 ms
 sound_at o limit kind d ms is clean = sound o limit kind clean.0 ms (subst (λ t. FaultsAt o limit (place.Object kind) clean.0 t []) is clean.1)
 
 mutual

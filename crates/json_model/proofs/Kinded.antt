@@ -103,7 +103,8 @@ no_segment text None is none has = is has
 no_segment text (Some segment) is none has = cc
 
 -- the faults of the kinds that go by their text
-pub by_text : {E : Type 0} (root : Root) (kind : Leaf) (name : List ℕ) (d : Json) (r : Result (Option JsonFault) E) → is_of_text kind ≡ true → IfOk r (FirstOf (InText d name (TextFaults root kind name))) → IfOk r (FirstOf (LeafFaults root kind name d))
+pub by_text : {E : Type 0} (root : Root) (kind : Leaf) (name : List ℕ) (d : Json) (r : Result (Option JsonFault) E) → is_of_text kind ≡ true
+    → IfOk r (FirstOf (InText d name (TextFaults root kind name))) → IfOk r (FirstOf (LeafFaults root kind name d))
 by_text root leaf.Time name d (Ok found) is first = first
 by_text root leaf.Time name d (Err e) is first = first
 by_text root _ name d r is first = search rules

@@ -1,5 +1,5 @@
 -- What is printed of a value that can be stored is of the form, and spells it.
-use Rattle.std.proofs.Common.{◌≡◌, ℕ, ◌-◌, ◌<◌, ◌≤◌, suc, List, [], ◌∷◌, ◌++◌, length, get_or, false, not, ◌&&◌, cond, codes, Option, Some, None, is_some, Ordering, Equal, refl, sym, ap, subst, inl, inr, ◌∙◌, append-nil, append_assoc, arith}
+use Rattle.std.proofs.Common.{◌⊎◌, ◌≡◌, ℕ, ◌-◌, ◌<◌, ◌≤◌, suc, List, [], ◌∷◌, ◌++◌, length, get_or, false, not, ◌&&◌, cond, codes, Option, Some, None, is_some, Ordering, Equal, refl, sym, ap, subst, inl, inr, ◌∙◌, append-nil, append_assoc, arith}
 use Rattle.std.specs.List.{All, AllPairs}
 use Rattle.std.specs.Map.{keys_of}
 use Rattle.std.specs.Fmt.{signed_decimal}
@@ -100,7 +100,11 @@ put_end (e ∷ es) rest n v pairs =
     first fs all = let more = long fs in subst (TextBefore e.0) (at fs) (all 0 (suc (length fs)) n (omega arith) (omega arith))
 
 bytes_spelled : (s : List ℕ) → AreStorableBytes s → SpellsBytes (printed_bytes s) s
-bytes_spelled s are = record { each = λ i. elim (cases_lt i (length s)) [ inl within ↦ All-get_or (λ byte. byte < 256) s i 0 within are.each | inr past ↦ rw (get_or_past s i 0 past) (omega arith) ]; is = inl refl }
+bytes_spelled s are = record { each = λ i. by i (cases_lt i (length s)); is = inl refl }
+  where
+    by : (i : ℕ) → (i < length s) ⊎ (length s ≤ i) → get_or s i 0 < 256
+    by i (inl within) = All-get_or (λ byte. byte < 256) s i 0 within are.each
+    by i (inr past) = rw (get_or_past s i 0 past) (omega arith)
 
 values_some : (ds : json.Items) → is_null (values_tree ds) ≡ false
 values_some json.no_items = refl
@@ -148,17 +152,21 @@ mutual
   value_back times (integer z) s =
       let whole : SpellsWhole (json.string (signed_decimal z)) z = by_text (signed_decimal z) refl (record { fits = s; is = inl refl }) in
       one_back (codes "integerValue") _ _ (place.Leaf leaf.Integer) refl refl refl (as_scalar (z, (whole, refl))) (λ o limit deep. (z, whole))
-  value_back times (time t) s = one_back (codes "timestampValue") _ _ (place.Leaf leaf.Time) refl refl refl (as_scalar (t, ((time_text t, (refl, times t s)), refl))) (λ o limit deep. (time_text t, (refl, (t, times t s))))
+  value_back times (time t) s = one_back (codes "timestampValue") _ _ (place.Leaf leaf.Time) refl refl refl (as_scalar (t, ((time_text t, (refl, times t s)), refl)))
+      (λ o limit deep. (time_text t, (refl, (t, times t s))))
   value_back times (pending t) s = absurd s
   value_back times (text content) s = one_back (codes "stringValue") _ _ (place.Leaf leaf.Text) refl refl refl (as_scalar (content, (refl, refl))) (λ o limit deep. (content, refl))
   value_back times (bytes content) s =
       let is = bytes_spelled content s in
-      one_back (codes "bytesValue") _ _ (place.Leaf leaf.Bytes) refl refl refl (as_scalar (content, ((printed_bytes content, (refl, is)), refl))) (λ o limit deep. (printed_bytes content, (refl, (content, is))))
+      one_back (codes "bytesValue") _ _ (place.Leaf leaf.Bytes) refl refl refl (as_scalar (content, ((printed_bytes content, (refl, is)), refl)))
+      (λ o limit deep. (printed_bytes content, (refl, (content, is))))
   value_back times (reference r) s =
       let is : SpellsReference (name_text (root_of r) r.key) r = record { database = record { project = s.project.sound; name = s.database.sound }; names = s.key.sound; is = refl } in
-      one_back (codes "referenceValue") _ _ (place.Leaf leaf.Reference) refl refl refl (as_scalar (r, ((name_text (root_of r) r.key, (refl, is)), refl))) (λ o limit deep. (name_text (root_of r) r.key, (refl, (r, is))))
+      one_back (codes "referenceValue") _ _ (place.Leaf leaf.Reference) refl refl refl (as_scalar (r, ((name_text (root_of r) r.key, (refl, is)), refl)))
+      (λ o limit deep. (name_text (root_of r) r.key, (refl, (r, is))))
   value_back times (array ds) s =
-      one_back (codes "arrayValue") _ _ (place.Object object.Array) refl refl (values_some (printed_items ds)) (array_back ds (items_spelled times ds s.0)) (λ o limit deep. array_fits o limit ds deep (items_fit times o (limit - 1) ds s.0 (omega arith)))
+      one_back (codes "arrayValue") _ _ (place.Object object.Array) refl refl (values_some (printed_items ds)) (array_back ds (items_spelled times ds s.0))
+      (λ o limit deep. array_fits o limit ds deep (items_fit times o (limit - 1) ds s.0 (omega arith)))
   value_back times (map ms) s =
       one_back (codes "mapValue") _ _ (place.Object object.Map) refl refl (fields_some (printed_members ms)) (map_back ms (members_spelled times ms s.1 [] s.0.sound.ascending))
       (λ o limit deep. map_fits o limit ms deep s.0.sound.names (members_fit times o (limit - 1) ms s.1 (omega arith) s.0.sound.names))

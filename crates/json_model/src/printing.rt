@@ -157,7 +157,7 @@ pub fn print_value(alloc: Global, value: &Value) -> Result<Json, NoMemory>
     }
 }
 
-#[tactic(auto, using(crate::proofs::Shown::items_more))]
+#[tactic(auto, using(crate::proofs::Shown::items_more, value_model::proofs::Sizes::item_below))]
 #[cycle(print)]
 fn print_values(alloc: Global, values: &Vec<Value>) -> Result<Vec<Json>, NoMemory>
     ensures { IfOk result (λ trees. items_view trees.items ≡ printed_items (items_of values.now.items)) }
@@ -169,7 +169,7 @@ fn print_values(alloc: Global, values: &Vec<Value>) -> Result<Vec<Json>, NoMemor
     Ok(trees)
 }
 
-#[tactic(auto, using(crate::proofs::Shown::members_more))]
+#[tactic(auto, using(crate::proofs::Shown::members_more, crate::proofs::Shown::field_below))]
 #[cycle(print)]
 fn print_members(alloc: Global, fields: &Fields) -> Result<Map<String, Json>, NoMemory>
     ensures { IfOk result (λ members. members_view members.entries ≡ printed_members (members_of fields.now)) }

@@ -50,5 +50,6 @@ update_digits root key fields = row_digits (codes "fields") (fields_given fields
 
 pub write_digits : (root : Root) (write : Write) → has_float (printed_write root write) ≡ false
 write_digits root (Update key fields mask transforms condition) =
-    rows_digits (rows_of_update root key fields mask transforms condition) (condition_digits condition, (update_digits root key fields, (mask_digits mask, (printed_digits printed_transform transform_digits transforms, tt))))
+    rows_digits (rows_of_update root key fields mask transforms condition)
+    (condition_digits condition, (update_digits root key fields, (mask_digits mask, (printed_digits printed_transform transform_digits transforms, tt))))
 write_digits root (Delete key condition) = rows_digits (rows_of_delete root key condition) (condition_digits condition, (refl, tt))

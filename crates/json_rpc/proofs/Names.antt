@@ -49,7 +49,9 @@ path_clean o ms d clean = subst (λ p. IsClean o p d) (transform_place ms (codes
 
 -- what object a write is, by the name of its alternative
 write_is : (ms : Members) (name : List ℕ) (d : Json) (b : Bool) → chosen object.Write ms ≡ (name, d) ∷ [] → bytes_eq name (codes "delete") ≡ b → refined object.Write ms ≡ (if b then object.DeleteWrite else object.Write)
-write_is ms name d b only is = ap (λ n. if bytes_eq n (codes "delete") then object.DeleteWrite else object.Write) (only_is object.Write ms name d only) ∙ ap (λ (c : Bool). if c then object.DeleteWrite else object.Write) is
+write_is ms name d b only is =
+    ap (λ n. if bytes_eq n (codes "delete") then object.DeleteWrite else object.Write) (only_is object.Write ms name d only)
+    ∙ ap (λ (c : Bool). if c then object.DeleteWrite else object.Write) is
 
 -- and what stands under it
 stands : (o : Origin) (ms : Members) (name : List ℕ) (d : Json) (kind : Object) (n : List ℕ) (p : Place) → refined object.Write ms ≡ kind → name ≡ n → member_place kind n ≡ p → IsClean o (member_place (refined object.Write ms) name) d → IsClean o p d
@@ -58,11 +60,13 @@ stands o ms name d kind n p is named at clean =
 
 pub update_clean : (o : Origin) (ms : Members) (name : List ℕ) (d : Json) → chosen object.Write ms ≡ (name, d) ∷ [] → name ≡ codes "update" → IsClean o (member_place (refined object.Write ms) name) d → IsClean o (place.Object object.Update) d
 unfolding write_rows
-update_clean o ms name d only named clean = stands o ms name d object.Write (codes "update") (place.Object object.Update) (write_is ms name d false only (ap (λ n. bytes_eq n (codes "delete")) named)) named refl clean
+update_clean o ms name d only named clean =
+    stands o ms name d object.Write (codes "update") (place.Object object.Update) (write_is ms name d false only (ap (λ n. bytes_eq n (codes "delete")) named)) named refl clean
 
 pub delete_clean : (o : Origin) (ms : Members) (name : List ℕ) (d : Json) → chosen object.Write ms ≡ (name, d) ∷ [] → name ≡ codes "delete" → IsClean o (member_place (refined object.Write ms) name) d → IsClean o (place.Leaf leaf.Name) d
 unfolding delete_write_rows
-delete_clean o ms name d only named clean = stands o ms name d object.DeleteWrite (codes "delete") (place.Leaf leaf.Name) (write_is ms name d true only (ap (λ n. bytes_eq n (codes "delete")) named)) named refl clean
+delete_clean o ms name d only named clean =
+    stands o ms name d object.DeleteWrite (codes "delete") (place.Leaf leaf.Name) (write_is ms name d true only (ap (λ n. bytes_eq n (codes "delete")) named)) named refl clean
 
 -- there is no other
 pub no_other_write : (o : Origin) (ms : Members) (name : List ℕ) (d : Json) → is_write_choice name ≡ true → (name ≡ codes "update" → ⊥) → (name ≡ codes "delete" → ⊥) → chosen object.Write ms ≡ (name, d) ∷ [] → IsClean o (member_place (refined object.Write ms) name) d → ⊥

@@ -90,7 +90,8 @@ pub condition_fits : (o : Origin) (condition : Precondition) → IsStorableCondi
 unfolding Fits condition_rows
 condition_fits o Free stored = tt
 condition_fits o (Exists is) stored = (refl, flat_object_fits o max_nesting object.Condition _ refl refl refl (refl, inr (refl, (tt, (is, refl))), refl))
-condition_fits o (UpdateTime time) stored = (refl, flat_object_fits o max_nesting object.Condition _ refl refl refl (refl, inr (refl, (tt, (time_text time, (refl, (time, time_read time stored))))), refl))
+condition_fits o (UpdateTime time) stored =
+    (refl, flat_object_fits o max_nesting object.Condition _ refl refl refl (refl, inr (refl, (tt, (time_text time, (refl, (time, time_read time stored))))), refl))
 
 pub condition_spelled : (condition : Precondition) → IsStorableCondition condition → SpellsCondition (printed_condition condition) condition
 unfolding condition_rows
@@ -138,14 +139,16 @@ values_fit : (o : Origin) (limit : ℕ) (vs : List Data) → All (IsStorableWith
 values_fit o limit vs all = subst (ItemsFit o limit series.Values) (same_items vs) (items_fit time_read o limit (items_of vs) (all_stored limit vs all) (all_deep limit vs all))
 
 values_spelled : (limit : ℕ) (vs : List Data) → All (IsStorableWithin limit) vs → SpellsItems (printed_each printed_value vs) vs
-values_spelled limit vs all = subst (λ ds. SpellsItems ds vs) (same_items vs) (subst (SpellsItems (printed_items (items_of vs))) (list_items vs) (items_spelled time_read (items_of vs) (all_stored limit vs all)))
+values_spelled limit vs all =
+    subst (λ ds. SpellsItems ds vs) (same_items vs) (subst (SpellsItems (printed_items (items_of vs))) (list_items vs) (items_spelled time_read (items_of vs) (all_stored limit vs all)))
 
 -- ---- transforms
 
 elements_fit : (o : Origin) (limit : ℕ) (vs : List Data) → All (IsStorableWithin limit) vs → Fits o limit (place.Object object.Elements) (printed_elements vs)
 elements_fit o limit vs all =
     flat_object_fits o limit object.Elements _ refl refl refl
-    (rows_fit o limit object.Elements ((codes "values", unless_empty (printed_each printed_value vs)) ∷ []) (tt, list_fits o limit series.Values (printed_each printed_value vs) refl (values_fit o limit vs all), tt))
+    (rows_fit o limit object.Elements ((codes "values", unless_empty (printed_each printed_value vs)) ∷ [])
+    (tt, list_fits o limit series.Values (printed_each printed_value vs) refl (values_fit o limit vs all), tt))
 
 elements_spelled : (limit : ℕ) (vs : List Data) → All (IsStorableWithin limit) vs → SpellsElements (printed_elements vs) vs
 elements_spelled limit [] all = record { members = no_members; is = refl; spells = no_list }
@@ -164,10 +167,14 @@ operand_spelled z fits = record { members = member (codes "integerValue") (strin
 
 change_fits : (o : Origin) (path : List (List ℕ)) (change : Change) → IsStorablePath path → IsStorableChange (length path) change → Fits o max_nesting (place.Object object.Transform) (printed_change (printed_path path) change)
 unfolding Fits transform_rows
-change_fits o path ServerTime stored holds = flat_object_fits o max_nesting object.Transform _ refl refl refl (refl, inr (refl, (tt, path_fits o max_nesting path stored)), (refl, inr (refl, (tt, refl)), refl))
-change_fits o path (Increment by) stored holds = flat_object_fits o max_nesting object.Transform _ refl refl refl (refl, inr (refl, (tt, path_fits o max_nesting path stored)), (refl, inr (refl, (tt, operand_fits o by holds)), refl))
-change_fits o path (Maximum other) stored holds = flat_object_fits o max_nesting object.Transform _ refl refl refl (refl, inr (refl, (tt, path_fits o max_nesting path stored)), (refl, inr (refl, (tt, operand_fits o other holds)), refl))
-change_fits o path (Minimum other) stored holds = flat_object_fits o max_nesting object.Transform _ refl refl refl (refl, inr (refl, (tt, path_fits o max_nesting path stored)), (refl, inr (refl, (tt, operand_fits o other holds)), refl))
+change_fits o path ServerTime stored holds =
+    flat_object_fits o max_nesting object.Transform _ refl refl refl (refl, inr (refl, (tt, path_fits o max_nesting path stored)), (refl, inr (refl, (tt, refl)), refl))
+change_fits o path (Increment by) stored holds =
+    flat_object_fits o max_nesting object.Transform _ refl refl refl (refl, inr (refl, (tt, path_fits o max_nesting path stored)), (refl, inr (refl, (tt, operand_fits o by holds)), refl))
+change_fits o path (Maximum other) stored holds =
+    flat_object_fits o max_nesting object.Transform _ refl refl refl (refl, inr (refl, (tt, path_fits o max_nesting path stored)), (refl, inr (refl, (tt, operand_fits o other holds)), refl))
+change_fits o path (Minimum other) stored holds =
+    flat_object_fits o max_nesting object.Transform _ refl refl refl (refl, inr (refl, (tt, path_fits o max_nesting path stored)), (refl, inr (refl, (tt, operand_fits o other holds)), refl))
 change_fits o path (Append vs) stored holds =
     object_fits o max_nesting object.Transform _ (length path) refl refl (of_path (printed_path path) path refl (printed_spells path stored.some)) holds.room
     (refl, inr (refl, (tt, elements_fit o (max_nesting - length path) vs holds.each.each)), (refl, inr (refl, (tt, path_fits o (max_nesting - length path) path stored)), refl))
@@ -176,7 +183,8 @@ change_fits o path (RemoveAll vs) stored holds =
     (refl, inr (refl, (tt, path_fits o (max_nesting - length path) path stored)), (refl, inr (refl, (tt, elements_fit o (max_nesting - length path) vs holds.each.each)), refl))
 
 -- a transform whose members hold the path, and this change alone
-spelled_by : (path : List (List ℕ)) (ms : Members) (name : List ℕ) (inner : Json) (change : Change) → IsStorablePath path → given (codes "fieldPath") ms ≡ Some (path_tree path) → chosen object.Transform ms ≡ (name, inner) ∷ [] → SpellsChange name inner change
+spelled_by : (path : List (List ℕ)) (ms : Members) (name : List ℕ) (inner : Json) (change : Change) → IsStorablePath path
+    → given (codes "fieldPath") ms ≡ Some (path_tree path) → chosen object.Transform ms ≡ (name, inner) ∷ [] → SpellsChange name inner change
     → SpellsTransform (an_object ms) (record { path = path; change = change })
 spelled_by path ms name inner change stored at only spelled =
     record { members = ms; is = refl; name = name; inner = inner; only = only; spells = record { path = record { tree = path_tree path; is = at; spells = path_spelled path stored }; change = spelled } }
@@ -199,7 +207,8 @@ transform_spelled transform stored = change_spelled transform.path transform.cha
 pub transforms_fit : (o : Origin) (transforms : List Transform) → All IsStorableTransform transforms → FitsFound o max_nesting (place.Series series.Transforms) (unless_empty (printed_each printed_transform transforms))
 unfolding Fits
 transforms_fit o transforms all =
-    list_fits o max_nesting series.Transforms (printed_each printed_transform transforms) refl (each_fits o max_nesting (place.Object object.Transform) printed_transform IsStorableTransform (transform_fits o) series.Transforms refl transforms all)
+    list_fits o max_nesting series.Transforms (printed_each printed_transform transforms) refl
+    (each_fits o max_nesting (place.Object object.Transform) printed_transform IsStorableTransform (transform_fits o) series.Transforms refl transforms all)
 
 -- ---- masks that may be left out
 

@@ -47,10 +47,13 @@ update_fits : (o : Origin) (key : List (List ℕ)) (fields : Entries) → IsStor
 unfolding Fits update_rows
 update_fits o key [] stored holds deep = flat_object_fits o max_nesting object.Update _ refl refl refl (refl, inr (refl, (tt, name_fits o max_nesting key stored)), refl)
 update_fits o key (field ∷ fields) stored holds deep =
-    flat_object_fits o max_nesting object.Update _ refl refl refl (refl, inr (refl, (tt, printed_fits time_read o max_nesting (field ∷ fields) holds deep)), (refl, inr (refl, (tt, name_fits o max_nesting key stored)), refl))
+    flat_object_fits o max_nesting object.Update _ refl refl refl
+    (refl, inr (refl, (tt, printed_fits time_read o max_nesting (field ∷ fields) holds deep)), (refl, inr (refl, (tt, name_fits o max_nesting key stored)), refl))
 
-spelled_in : (root : Root) (key : List (List ℕ)) (fields : Entries) (ms : Members) → IsStorableKey key → given (codes "name") ms ≡ Some (string (name_text root key)) → SpellsFieldsIn (given (codes "fields") ms) fields → SpellsDocument root (an_object ms) key fields
-spelled_in root key fields ms stored at holds = record { members = ms; is = refl; spells = record { names = record { tree = string (name_text root key); is = at; spells = name_spelled root key stored }; holds = holds } }
+spelled_in : (root : Root) (key : List (List ℕ)) (fields : Entries) (ms : Members) → IsStorableKey key
+    → given (codes "name") ms ≡ Some (string (name_text root key)) → SpellsFieldsIn (given (codes "fields") ms) fields → SpellsDocument root (an_object ms) key fields
+spelled_in root key fields ms stored at holds =
+    record { members = ms; is = refl; spells = record { names = record { tree = string (name_text root key); is = at; spells = name_spelled root key stored }; holds = holds } }
 
 update_spelled : (root : Root) (key : List (List ℕ)) (fields : Entries) → IsStorableKey key → AreStorable fields → SpellsDocument root (printed_update root key fields) key fields
 update_spelled root key [] stored holds = spelled_in root key [] _ stored refl refl
@@ -115,8 +118,15 @@ update_write_fits : (o : Origin) (key : List (List ℕ)) (fields : Entries) (mas
 unfolding write_rows is_write_choice Fits
 update_write_fits o key fields mask transforms condition stored =
     write_fits o (Beside o.root key fields mask transforms condition) (codes "update") (printed_update o.root key fields) object.Write (update_chosen o.root key fields mask transforms condition) refl refl refl refl
-    (rows_fit o max_nesting object.Write (rows_of_update o.root key fields mask transforms condition)
-    (tt, condition_fits o condition stored.asks, (tt, (refl, update_fits o key fields stored.names stored.holds stored.deep), (tt, mask_fits o mask stored.masks, (tt, transforms_fit o transforms stored.changes.each, tt)))))
+    (rows_fit o max_nesting object.Write (rows_of_update o.root key fields mask transforms condition) (
+      tt,
+      condition_fits o condition stored.asks,
+      (
+        tt,
+        (refl, update_fits o key fields stored.names stored.holds stored.deep),
+        (tt, mask_fits o mask stored.masks, (tt, transforms_fit o transforms stored.changes.each, tt)),
+      ),
+    ))
 
 -- ---- a delete
 
