@@ -1,7 +1,8 @@
 -- What is built of a tree without faults is what it spells.
-use Rattle.std.proofs.Common.{◌≡◌, ◌≢◌, ℕ, zero, suc, ◌+◌, ◌-◌, ◌<◌, ◌≤◌, List, [], ◌∷◌, ◌++◌, length, take, get_or, String, Bool, true, false, ◌||◌, codes, Some, None, refl, sym, ap, subst, inl, inr, ◌∙◌, arith}
+use Rattle.std.proofs.Common.{◌≡◌, ◌≢◌, ℕ, zero, suc, ◌+◌, ◌-◌, ◌<◌, ◌≤◌, List, [], ◌∷◌, ◌++◌, length, take, get_or, String, true, false, ◌||◌, codes, Some, None, refl, sym, ap, subst, inl, inr, ◌∙◌, arith}
 use Rattle.std.specs.String.{string_bytes}
 use Rattle.std.specs.declared.alloc.Global.{Global}
+use Rattle.std.proofs.lemmas.Bool.{or_cases}
 use Rattle.std.proofs.lemmas.List.{take_more}
 use Rattle.std.proofs.Math.Seq.{take-length}
 use Rattle.document_keys.specs.Paths.{IsFieldName}
@@ -19,45 +20,33 @@ use Rattle.json_model.specs.declared.place.Object.TheVariants as object
 use Rattle.json_model.specs.declared.place.Leaf.{Leaf}
 use Rattle.json_model.specs.declared.place.Series.{Series}
 use Rattle.json_model.specs.Clean.{IsClean, ItemsAreClean, AreClean}
-use Rattle.json_model.specs.Faults.{FaultsAt, ItemsFaults, MembersFaults, OwnName}
+use Rattle.json_model.specs.Faults.{FaultsAt, ItemsFaults, OwnName}
 use Rattle.json_model.specs.Grammar.{SpellsValue, of_kind, SpellsKind, as_array as by_array, as_map as by_map, SpellsList, no_list, a_list, SpellsMap, no_map, a_map, SpellsFields, SpellsItems, no_item, an_item, SpellsMembers, no_member, left_out, a_member, is_kind}
-use Rattle.json_model.specs.Members.{is_null, given, chosen, later}
+use Rattle.json_model.specs.Members.{is_null, given, chosen}
 use Rattle.json_model.specs.Origin.{Origin}
 use Rattle.json_model.specs.Places.{item_place, value_rows, value_member, is_unknown, required}
+use Rattle.json_model.proofs.Among.{Among, each_at, entry_among}
 use Rattle.json_model.proofs.Rows.{every_row}
-use Rattle.json_model.proofs.Sound.{sound, first_of, at_clean, not_out, nothing_first, nothing_last}
+use Rattle.json_model.proofs.Sound.{sound, each_clean, not_out, nothing_first, nothing_last}
 use Rattle.json_model.proofs.Stored.{items_push}
 use Rattle.json_model.proofs.Trees.{object_at, array_at}
 
 -- ---- a value
 
-known_kind : (name : List ℕ) → (is_kind (value_member name) || is_unknown (value_member name)) ≡ true
-unfolding value_rows
-known_kind name = every_row (λ p. is_kind p || is_unknown p) value_rows name refl refl
-
 pub kind_known : (name : List ℕ) → is_unknown (value_member name) ≡ false → is_kind (value_member name) ≡ true
-kind_known name known = by (is_kind (value_member name)) (ap (λ b. is_kind (value_member name) || b) (sym known) ∙ known_kind name)
-  where
-    by : (b : Bool) → (b || false) ≡ true → b ≡ true
-    by true h = refl
-    by false h = h
+unfolding value_rows
+kind_known name known = elim (or_cases _ _ (every_row (λ p. is_kind p || is_unknown p) value_rows name refl refl)) [ inl is ↦ is | inr unknown ↦ let e = sym unknown ∙ known in cc ]
 
 pub unsupported : (o : Origin) (limit : ℕ) (name : List ℕ) (d : json.Data) → FaultsAt o limit place.Unsupported name d [] → ⊥
 unfolding FaultsAt
 unsupported o limit name json.null h = cc
-unsupported o limit name (json.boolean b) h = cc
-unsupported o limit name (json.number n) h = cc
-unsupported o limit name (json.string t) h = cc
-unsupported o limit name (json.array ds) h = cc
-unsupported o limit name (json.object ms) h = cc
+unsupported o limit name _ h = cc
 
 pub no_other_kind : (o : Origin) (p : Place) (d : json.Data) → is_kind p ≡ true → IsClean o p d → ((kind : Object) → p ≢ place.Object kind) → ((kind : Leaf) → p ≢ place.Leaf kind) → ⊥
 no_other_kind o (place.Object kind) d is clean objects leaves = objects kind refl
-no_other_kind o (place.Series kind) d is clean objects leaves = cc
 no_other_kind o (place.Leaf kind) d is clean objects leaves = leaves kind refl
 no_other_kind o place.Unsupported d is clean objects leaves = unsupported o clean.0 clean.1 d clean.3
-no_other_kind o place.Unknown d is clean objects leaves = cc
-no_other_kind o place.Ignored d is clean objects leaves = cc
+no_other_kind o _ d is clean objects leaves = cc
 
 pub no_other_object : (kind : Object) → is_kind (place.Object kind) ≡ true → kind ≢ object.Array → kind ≢ object.Map → ⊥
 no_other_object object.Array is array map = array refl
@@ -111,22 +100,13 @@ pub named : (name : List ℕ) → OwnName object.Fields name [] → IsFieldName 
 named name (inl is) = is.0
 named name (inr bad) = cc (bad.2)
 
-fields_sound : (o : Origin) (limit : ℕ) (names : List (List ℕ)) (done rest : List Entry) (e : Entry) → MembersFaults o limit object.Fields names (members_view (done ++ e ∷ rest)) [] → is_null (view e.1) ≡ false
-    → IsFieldName (string_bytes e.0) × FaultsAt o limit (place.Object object.Value) (string_bytes e.0) (view e.1) []
-fields_sound o limit names [] rest e clean some =
-    let here = first_of o limit object.Fields names (string_bytes e.0) (view e.1) (members_view rest) clean in
-    let at = at_clean o limit object.Fields (string_bytes e.0) (view e.1) [] here.at refl (not_out (place.Object object.Value) (view e.1) some) in
-    (named (string_bytes e.0) at.0, at.1)
-fields_sound o limit names (x ∷ done) rest e clean some =
-    let here = first_of o limit object.Fields names (string_bytes x.0) (view x.1) (members_view (done ++ e ∷ rest)) clean in
-    fields_sound o limit (later (string_bytes x.0) names) done rest e here.rest some
-
 pub field_clean : (o : Origin) (done rest : List Entry) (all : List Entry) (e : Entry) → all ≡ done ++ e ∷ rest → AreClean o object.Fields (members_view all) → is_null (view e.1) ≡ false → IsFieldName (string_bytes e.0) × IsClean o (place.Object object.Value) (view e.1)
 field_clean o done rest all e is (limit, name, room, clean) some =
     let inside = sound o limit object.Fields name (members_view all) clean in
     let left = limit - inside.levels in
-    let here = fields_sound o left (required object.Fields) done rest e (subst (λ (l : List Entry). MembersFaults o left object.Fields (required object.Fields) (members_view l) []) is inside.inside) some in
-    (here.0, (left, string_bytes e.0, omega arith, here.1))
+    let at = subst (λ (l : List Entry). Among (string_bytes e.0) (view e.1) (members_view l)) (sym is) (entry_among done rest e) in
+    let here = each_at _ (members_view all) _ _ (each_clean o left object.Fields (required object.Fields) (members_view all) inside.inside) at (not_out (place.Object object.Value) (view e.1) some) in
+    (named (string_bytes e.0) here.0, (left, string_bytes e.0, omega arith, here.1))
 
 -- ---- fields
 

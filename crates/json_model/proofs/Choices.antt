@@ -1,90 +1,48 @@
 -- The one alternative of an object without faults.
-use Rattle.std.proofs.Common.{◌≡◌, ◌≢◌, ℕ, ◌-◌, List, [], ◌∷◌, length, Bool, true, false, not, ◌&&◌, ◌||◌, cond, codes, refl, sym, ap, subst, ◌∙◌, arith}
-use Rattle.std.specs.Bool.{if◌then◌else◌}
-use Rattle.serde_json.specs.Data.{Data as Json, Members, no_members, member}
+use Rattle.std.proofs.Common.{◌≡◌, ◌≢◌, ℕ, ◌-◌, List, [], ◌∷◌, length, true, false, not, ◌&&◌, inl, inr, refl, sym, ap, subst, arith}
+use Rattle.std.proofs.lemmas.Bool.{and_parts, and_cases, or_parts, not-true, not-false}
+use Rattle.serde_json.specs.Data.{Data as Json, Members}
 use Rattle.json_model.specs.declared.place.Object.{Object}
 use Rattle.json_model.specs.declared.place.Object.TheVariants as object
-use Rattle.json_model.specs.declared.fault.JsonFault.TheVariants as json_fault
 use Rattle.json_model.specs.Clean.{IsClean, AreClean}
-use Rattle.json_model.specs.Faults.{FaultsAt, MembersFaults, levels_inside, own_faults}
-use Rattle.json_model.specs.Members.{is_null, takes_null, is_left_out, is_chosen, chosen, is_one_known, only_name, lacks_array, lacks_choice, is_vector_map, later, refined}
+use Rattle.json_model.specs.Faults.{FaultsAt, MembersFaults, levels_inside}
+use Rattle.json_model.specs.Members.{is_null, takes_null, is_left_out, is_chosen, chosen, is_one_known, only_name, lacks_array, refined}
 use Rattle.json_model.specs.Origin.{Origin}
-use Rattle.json_model.specs.Places.{placed, write_rows, transform_rows, field_filter_rows, member_place, chooses, is_choice, required}
+use Rattle.json_model.specs.Places.{write_rows, transform_rows, field_filter_rows, member_place, chooses, is_choice, required}
+use Rattle.json_model.proofs.Fitting.{own_choice}
 use Rattle.json_model.proofs.Rows.{every_row}
-use Rattle.json_model.proofs.Sound.{sound, levels_few, first_of, at_clean, not_out}
-
-lacks_none : (kind : Object) (name : List ℕ) (ms : Members) → own_faults kind name ms ≡ [] → lacks_choice kind ms ≡ false
-lacks_none kind name ms none = by (lacks_choice kind ms) none
-  where
-    by : (b : Bool) → (if b then json_fault.BadShape name ∷ [] else if is_vector_map kind ms then json_fault.Unsupported (codes "vectorValue") ∷ [] else []) ≡ [] → b ≡ false
-    by true h = cc
-    by false h = refl
+use Rattle.json_model.proofs.Among.{each_at, chosen_among}
+use Rattle.json_model.proofs.Sound.{each_clean, sound, levels_few, not_out}
 
 pub choice_there : (o : Origin) (kind : Object) (ms : Members) → AreClean o kind ms → chooses kind ≡ true → is_one_known kind (chosen kind ms) ≡ false → ⊥
 choice_there o kind ms (limit, name, room, clean) must none =
-    let lacks = lacks_none kind name ms (sound o limit kind name ms clean).own in
+    let lacks = (own_choice kind name ms (sound o limit kind name ms clean).own).0 in
     let e : (chooses kind && not (is_one_known kind (chosen kind ms))) ≡ true = λ i. must i && not (none i) in
-    let f = neither (lacks_array kind ms) (chooses kind && not (is_one_known kind (chosen kind ms))) lacks in
+    let f = (or_parts (lacks_array kind ms) (chooses kind && not (is_one_known kind (chosen kind ms))) lacks).1 in
     cc
-  where
-    neither : (a b : Bool) → (a || b) ≡ false → b ≡ false
-    neither true b h = cc
-    neither false b h = h
-
-no_null_write : (k : List ℕ) → not (takes_null (placed write_rows k)) ≡ true
-unfolding write_rows
-no_null_write k = every_row (λ p. not (takes_null p)) write_rows k refl refl
-
-no_null_transform : (k : List ℕ) → not (takes_null (placed transform_rows k)) ≡ true
-unfolding transform_rows
-no_null_transform k = every_row (λ p. not (takes_null p)) transform_rows k refl refl
-
-no_null_filter : (k : List ℕ) → not (takes_null (placed field_filter_rows k)) ≡ true
-unfolding field_filter_rows
-no_null_filter k = every_row (λ p. not (takes_null p)) field_filter_rows k refl refl
 
 -- null stands in no object that has another form by its members
 same_place : (kind : Object) (ms : Members) (k : List ℕ) → takes_null (member_place kind k) ≡ true → refined kind ms ≡ kind
-same_place object.Write ms k takes = let e = ap not takes ∙ refl in let h = no_null_write k in cc
-same_place object.Transform ms k takes = let e = ap not takes ∙ refl in let h = no_null_transform k in cc
-same_place object.FieldFilter ms k takes = let e = ap not takes ∙ refl in let h = no_null_filter k in cc
+unfolding write_rows transform_rows field_filter_rows
+same_place object.Write ms k takes = let h = every_row (λ p. not (takes_null p)) write_rows k refl refl in let e = ap not takes in cc
+same_place object.Transform ms k takes = let h = every_row (λ p. not (takes_null p)) transform_rows k refl refl in let e = ap not takes in cc
+same_place object.FieldFilter ms k takes = let h = every_row (λ p. not (takes_null p)) field_filter_rows k refl refl in let e = ap not takes in cc
 same_place object.ListOperand ms k takes = cc
 same_place _ ms k takes = refl
 
 kept : (kind : Object) (ms : Members) (k : List ℕ) (d : Json) → is_chosen kind k d ≡ true → is_left_out (member_place (refined kind ms) k) d ≡ false
-kept kind ms k d chosen_is = by (is_null d) refl
-  where
-    stays : (a b : Bool) → (a && not b) ≡ true → b ≡ false
-    stays true true h = cc
-    stays true false h = refl
-    stays false b h = cc
-
-    takes : (t : Bool) → (not t && true) ≡ false → t ≡ true
-    takes true h = refl
-    takes false h = cc
-
-    by : (n : Bool) → is_null d ≡ n → is_left_out (member_place (refined kind ms) k) d ≡ false
-    by false some = not_out (member_place (refined kind ms) k) d some
-    by true nothing =
-        let out = stays (is_choice kind k) (is_left_out (member_place kind k) d) chosen_is in
-        let may = takes (takes_null (member_place kind k)) (ap (λ b. not (takes_null (member_place kind k)) && b) (sym nothing) ∙ out) in
-        subst (λ r. is_left_out (member_place r k) d ≡ false) (sym (same_place kind ms k may)) out
+kept kind ms k d chosen_is =
+    let out = not-true (is_left_out (member_place kind k) d) (and_parts (is_choice kind k) _ chosen_is).1 in
+    elim (and_cases (not (takes_null (member_place kind k))) (is_null d) out) [
+      | inl may ↦ subst (λ r. is_left_out (member_place r k) d ≡ false) (sym (same_place kind ms k (not-false _ may))) out
+      | inr some ↦ not_out (member_place (refined kind ms) k) d some
+    ]
 
 -- the alternatives of some members are among those of all
 pub chosen_clean : (o : Origin) (limit : ℕ) (kind : Object) (whole : Members) (names : List (List ℕ)) (ms : Members) (k : List ℕ) (d : Json) → MembersFaults o limit (refined kind whole) names ms [] → chosen kind ms ≡ (k, d) ∷ [] → FaultsAt o limit (member_place (refined kind whole) k) k d []
-chosen_clean o limit kind whole names no_members k d clean is = cc
-chosen_clean o limit kind whole names (member l e ms) k d clean is =
-    let here = first_of o limit (refined kind whole) names l e ms clean in
-    by (is_chosen kind l e) refl is (chosen_clean o limit kind whole (later l names) ms k d here.rest)
-  where
-    by : (b : Bool) → is_chosen kind l e ≡ b → cond b ((l, e) ∷ chosen kind ms) (chosen kind ms) ≡ (k, d) ∷ [] → (chosen kind ms ≡ (k, d) ∷ [] → FaultsAt o limit (member_place (refined kind whole) k) k d []) → FaultsAt o limit (member_place (refined kind whole) k) k d []
-    by false other same behind = behind same
-    by true this same behind =
-        let pair : (l, e) ≡ (k, d) = cc in
-        let names_are : l ≡ k = ap (λ (x : List ℕ × Json). x.0) pair in
-        let trees : e ≡ d = ap (λ (x : List ℕ × Json). x.1) pair in
-        let inside = at_clean o limit (refined kind whole) l e [] (first_of o limit (refined kind whole) names l e ms clean).at refl (kept kind whole l e this) in
-        subst (λ n. FaultsAt o limit (member_place (refined kind whole) n) n d []) names_are (subst (λ t. FaultsAt o limit (member_place (refined kind whole) l) l t []) trees inside.1)
+chosen_clean o limit kind whole names ms k d clean is =
+    let at = chosen_among kind ms k d is in
+    (each_at _ ms k d (each_clean o limit (refined kind whole) names ms clean) at.0 (kept kind whole k d at.1)).1
 
 pub choice_clean : (o : Origin) (kind : Object) (ms : Members) (k : List ℕ) (d : Json) → AreClean o kind ms → chosen kind ms ≡ (k, d) ∷ [] → IsClean o (member_place (refined kind ms) k) d
 choice_clean o kind ms k d (limit, name, room, clean) is =
@@ -94,18 +52,7 @@ choice_clean o kind ms k d (limit, name, room, clean) is =
 
 -- what is chosen is one of the alternatives
 pub chosen_choice : (kind : Object) (ms : Members) (k : List ℕ) (d : Json) → chosen kind ms ≡ (k, d) ∷ [] → is_choice kind k ≡ true
-chosen_choice kind no_members k d is = cc
-chosen_choice kind (member l e ms) k d is = by (is_chosen kind l e) refl is (chosen_choice kind ms k d)
-  where
-    one : (a b : Bool) → (a && b) ≡ true → a ≡ true
-    one true b h = refl
-    one false b h = cc
-
-    by : (b : Bool) → is_chosen kind l e ≡ b → cond b ((l, e) ∷ chosen kind ms) (chosen kind ms) ≡ (k, d) ∷ [] → (chosen kind ms ≡ (k, d) ∷ [] → is_choice kind k ≡ true) → is_choice kind k ≡ true
-    by false other same behind = behind same
-    by true this same behind =
-        let pair : (l, e) ≡ (k, d) = cc in
-        subst (λ n. is_choice kind n ≡ true) (ap (λ (x : List ℕ × Json). x.0) pair) (one (is_choice kind l) (not (is_left_out (member_place kind l) e)) this)
+chosen_choice kind ms k d is = (and_parts (is_choice kind k) _ (chosen_among kind ms k d is).1).0
 
 -- the one alternative that is given has this name
 pub only_is : (kind : Object) (ms : Members) (k : List ℕ) (d : Json) → chosen kind ms ≡ (k, d) ∷ [] → only_name (chosen kind ms) ≡ k

@@ -1,5 +1,5 @@
 -- What is read of a tree without faults nests no deeper than it may.
-use Rattle.std.proofs.Common.{◌≡◌, ℕ, ◌-◌, ◌≤◌, suc, List, [], ◌∷◌, Ordering, Less, Equal, Greater, sym, ap, subst, codes, refl, arith}
+use Rattle.std.proofs.Common.{◌≡◌, ℕ, ◌-◌, ◌≤◌, suc, List, [], ◌∷◌, Ordering, Less, sym, ap, subst, codes, refl, arith}
 use Rattle.std.specs.Ordering.{nat_cmp, match_ordering}
 use Rattle.std.specs.Cmp.Lexicographic.{slice_cmp}
 use Rattle.serde_json.specs.Data as json
@@ -8,6 +8,7 @@ use Rattle.value_model.specs.Data.{Data, Entries, items_of, members_of, depth, i
 use Rattle.value_model.specs.Fields.{with_field}
 use Rattle.json_model.specs.declared.place.Place.{Place}
 use Rattle.json_model.specs.declared.place.Place.TheVariants as place
+use Rattle.json_model.specs.declared.place.Object.{Object}
 use Rattle.json_model.specs.declared.place.Object.TheVariants as object
 use Rattle.json_model.specs.declared.place.Leaf.{Leaf}
 use Rattle.json_model.specs.declared.place.Leaf.TheVariants as leaf
@@ -20,7 +21,7 @@ use Rattle.json_model.specs.Origin.{Origin}
 use Rattle.json_model.specs.Places.{value_member}
 use Rattle.json_model.proofs.Built.{item_faults}
 use Rattle.json_model.proofs.Choices.{chosen_clean}
-use Rattle.json_model.proofs.Sound.{sound, sound_list, first_of, at_clean, not_out, member_clean, given_some}
+use Rattle.json_model.proofs.Sound.{Sound, sound, sound_list, first_of, at_clean, not_out, member_clean, given_some}
 
 scalar_deep : (kind : Leaf) (d : json.Data) (v : Data) → SpellsScalar kind d v → depth v ≡ 0
 scalar_deep leaf.Null d v s = ap depth s.1
@@ -30,19 +31,7 @@ scalar_deep leaf.Time d v s = ap depth s.1.1
 scalar_deep leaf.Text d v s = ap depth s.1.1
 scalar_deep leaf.Bytes d v s = ap depth s.1.1
 scalar_deep leaf.Reference d v s = ap depth s.1.1
-scalar_deep leaf.Name d v s = absurd s
-scalar_deep leaf.Path d v s = absurd s
-scalar_deep leaf.ServerTime d v s = absurd s
-scalar_deep leaf.Id d v s = absurd s
-scalar_deep leaf.Parent d v s = absurd s
-scalar_deep leaf.QueryPath d v s = absurd s
-scalar_deep leaf.Limit d v s = absurd s
-scalar_deep leaf.Descendants d v s = absurd s
-scalar_deep leaf.TargetId d v s = absurd s
-scalar_deep leaf.Count d v s = absurd s
-scalar_deep leaf.Code d v s = absurd s
-scalar_deep leaf.ListenerId d v s = absurd s
-scalar_deep (leaf.Constant which) d v s = absurd s
+scalar_deep _ d v s = absurd s
 
 put_deep : (es : Entries) (name : List ℕ) (v : Data) (limit : ℕ) → entries_depth es ≤ limit → depth v ≤ limit → entries_depth (with_field es name v) ≤ limit
 put_deep [] name v limit all one = omega arith
@@ -50,18 +39,20 @@ put_deep (e ∷ es) name v limit all one = by (slice_cmp nat_cmp name e.0) (put_
   where
     by : (o : Ordering) → entries_depth (with_field es name v) ≤ limit → entries_depth (match_ordering o ((name, v) ∷ e ∷ es) ((e.0, v) ∷ es) (e ∷ with_field es name v)) ≤ limit
     by Less later = omega arith
-    by Equal later = omega arith
-    by Greater later = omega arith
+    by _ later = omega arith
 
 -- the faults at a place are those of the object or the list there
 at : (o : Origin) (limit : ℕ) (p : Place) (d e : json.Data) → d ≡ e → (name : List ℕ) × FaultsAt o limit p name d [] → (name : List ℕ) × FaultsAt o limit p name e []
 at o limit p d e is clean = (clean.0, subst (λ t. FaultsAt o limit p clean.0 t []) is clean.1)
 
+sound_at : (o : Origin) (limit : ℕ) (kind : Object) (d : json.Data) (ms : json.Members) → d ≡ json.object ms
+    → (clean : (name : List ℕ) × FaultsAt o limit (place.Object kind) name d []) → Sound o limit kind clean.0 ms
+sound_at o limit kind d ms is clean = sound o limit kind clean.0 ms (subst (λ t. FaultsAt o limit (place.Object kind) clean.0 t []) is clean.1)
+
 mutual
   pub value_deep : (o : Origin) (limit : ℕ) (d : json.Data) (v : Data) → (name : List ℕ) × FaultsAt o limit (place.Object object.Value) name d [] → SpellsValue d v → depth v ≤ limit
   value_deep o limit d v clean (of_kind ms k inner is only spelled) =
-      let here = at o limit (place.Object object.Value) d (json.object ms) is clean in
-      let inside = sound o limit object.Value here.0 ms here.1 in
+      let inside = sound_at o limit object.Value d ms is clean in
       let e : 0 ≡ inside.levels = sym inside.takes in
       let more = kind_deep o (limit - inside.levels) (value_member k) inner v (k, chosen_clean o (limit - inside.levels) object.Value ms [] ms k inner inside.inside only) spelled in
       omega arith
@@ -69,15 +60,13 @@ mutual
   kind_deep : (o : Origin) (limit : ℕ) (p : Place) (d : json.Data) (v : Data) → (name : List ℕ) × FaultsAt o limit p name d [] → SpellsKind p d v → depth v ≤ limit
   kind_deep o limit _ d v clean (as_scalar {kind = k} s) = let flat = scalar_deep k d v s in omega arith
   kind_deep o limit _ d v clean (by_array ms ds is list means) =
-      let here = at o limit (place.Object object.Array) d (json.object ms) is clean in
-      let inside = sound o limit object.Array here.0 ms here.1 in
+      let inside = sound_at o limit object.Array d ms is clean in
       let e : 1 ≡ inside.levels = sym inside.takes in
       let room = inside.room in
       let more = list_deep o (limit - inside.levels) ms ds inside.inside (given (codes "values") ms) refl list in
       let whole : depth v ≡ suc (items_depth (items_of ds)) = ap depth means in omega arith
   kind_deep o limit _ d v clean (by_map ms es is fields means) =
-      let here = at o limit (place.Object object.Map) d (json.object ms) is clean in
-      let inside = sound o limit object.Map here.0 ms here.1 in
+      let inside = sound_at o limit object.Map d ms is clean in
       let e : 1 ≡ inside.levels = sym inside.takes in
       let room = inside.room in
       let more = map_deep o (limit - inside.levels) ms es inside.inside (given (codes "fields") ms) refl fields in
@@ -101,8 +90,7 @@ mutual
   map_deep o limit ms es clean _ is no_map = omega arith
   map_deep o limit ms es clean _ is (a_map ns d held spelled) =
       let there = given_some _ d is in
-      let here = at o limit (place.Object object.Fields) d (json.object ns) held (codes "fields", member_clean o limit object.Map [] ms (codes "fields") d clean there.0 there.1) in
-      let inside = sound o limit object.Fields here.0 ns here.1 in
+      let inside = sound_at o limit object.Fields d ns held (codes "fields", member_clean o limit object.Map [] ms (codes "fields") d clean there.0 there.1) in
       let e : 0 ≡ inside.levels = sym inside.takes in
       let more = members_deep o (limit - inside.levels) ns [] es inside.inside (omega arith) spelled in
       omega arith
@@ -123,8 +111,7 @@ values_deep o limit name d ds clean (a_list items _ is spelled) =
 
 pub fields_deep : (o : Origin) (limit : ℕ) (name : List ℕ) (d : json.Data) (es : Entries) → FaultsAt o limit (place.Object object.Fields) name d [] → SpellsFields d es → entries_depth es ≤ limit
 fields_deep o limit name d es clean spelled =
-    let here = at o limit (place.Object object.Fields) d (json.object spelled.members) spelled.is (name, clean) in
-    let inside = sound o limit object.Fields here.0 spelled.members here.1 in
+    let inside = sound_at o limit object.Fields d spelled.members spelled.is (name, clean) in
     let e : 0 ≡ inside.levels = sym inside.takes in
     let more = members_deep o (limit - inside.levels) spelled.members [] es inside.inside (omega arith) spelled.spelled in
     omega arith

@@ -2,7 +2,7 @@
 use Rattle.std.proofs.Common.{◌≡◌, ℕ, List, [], ◌∷◌, Bool, false, ◌||◌, Option, Some, None, option_map, refl}
 use Rattle.serde_json.specs.Data as json
 use Rattle.serde_json.specs.Written.{has_float, items_have_float, members_have_float}
-use Rattle.value_model.specs.Data.{Data, null, boolean, integer, time, pending, text, bytes, reference, array, map, Items, no_items, item, Members, no_members, member, Entries, members_of}
+use Rattle.value_model.specs.Data.{Data, array, map, Items, no_items, item, Members, no_members, member, Entries, members_of}
 use Rattle.json_model.specs.Forms.{before, present, unless_empty, printed_each}
 use Rattle.json_model.specs.Printed.{printed_value, printed_items, printed_members, printed_fields, values_tree, fields_tree}
 
@@ -52,16 +52,9 @@ fields_digits (json.member n d ms) none = neither _ false none refl
 
 mutual
   pub value_digits : (d : Data) → has_float (printed_value d) ≡ false
-  value_digits null = refl
-  value_digits (boolean b) = refl
-  value_digits (integer z) = refl
-  value_digits (time t) = refl
-  value_digits (pending t) = refl
-  value_digits (text s) = refl
-  value_digits (bytes s) = refl
-  value_digits (reference r) = refl
   value_digits (array ds) = neither _ false (values_digits (printed_items ds) (items_digits ds)) refl
   value_digits (map ms) = neither _ false (fields_digits (printed_members ms) (members_digits ms)) refl
+  value_digits _ = refl
 
   items_digits : (ds : Items) → items_have_float (printed_items ds) ≡ false
   items_digits no_items = refl

@@ -1,16 +1,18 @@
 -- The faults of trees that aren't looked into, as they are found.
-use Rattle.std.proofs.Common.{◌≡◌, ◌≢◌, ℕ, List, [], ◌∷◌, Vec, Global, Bool, true, false, cond, Option, Some, None, is_some, MatchOption, Result, Ok, Err, IfOk, refl, sym, ap, subst, inl, inr, ◌∙◌}
-use Rattle.serde_json.specs.Data.{Data as Json, null, boolean, number, string, array, object}
-use Rattle.document_keys.specs.Names.{IsSegment}
+use Rattle.std.proofs.Common.{rules, ◌≡◌, ◌≢◌, ℕ, List, [], ◌∷◌, Vec, Global, Bool, true, false, cond, Option, Some, None, is_some, MatchOption, Result, Ok, Err, IfOk, refl, sym, ap, subst, inl, inr, ◌∙◌}
+use Rattle.serde_json.specs.Data.{Data as Json, boolean, string}
+use Rattle.document_keys.specs.Names.{Root, IsSegment}
 use Rattle.serde_json.specs.Find.{as_str, as_bool}
 use Rattle.value_model.specs.declared.timestamp.Timestamp.{Timestamp}
 use Rattle.value_model.specs.Time.{time_of}
+use Rattle.json_model.specs.declared.place.Leaf.{Leaf}
+use Rattle.json_model.specs.declared.place.Leaf.TheVariants as leaf
 use Rattle.json_model.specs.declared.fault.JsonFault.{JsonFault}
 use Rattle.json_model.specs.declared.fault.JsonFault.TheVariants as json_fault
 use Rattle.json_model.specs.Bytes.{SpellsBytes}
 use Rattle.json_model.specs.declared.fault.NamingFault.{NamingFault}
 use Rattle.json_model.specs.Faults.{FirstOf, IsFault}
-use Rattle.json_model.specs.Leaves.{Unless, InText, in_text, in_other, IsText, IsTimeText, IsBytesText, IsNameFault, NamingFaults}
+use Rattle.json_model.specs.Leaves.{Unless, InText, in_text, in_other, IsText, IsTimeText, IsBytesText, IsNameFault, NamingFaults, TextFaults, is_of_text, LeafFaults}
 use Rattle.json_model.specs.Ranks.{first_of_least}
 use Rattle.json_model.proofs.Naming.{only, none}
 
@@ -31,11 +33,7 @@ unless_test Fact fault holds (Err e) yes_then then_yes is = is
 
 pub text_at : (d : Json) (text : List ℕ) → Some text ≡ as_str d → d ≡ string text
 text_at (string t) text same = let q : t ≡ text = cc in ap string q
-text_at null text same = cc
-text_at (boolean b) text same = cc
-text_at (number n) text same = cc
-text_at (array ds) text same = cc
-text_at (object ms) text same = cc
+text_at _ text same = cc
 
 -- two readings of one text
 pub same_text : (d : Json) (a b : List ℕ) → Some a ≡ as_str d → d ≡ string b → a ≡ b
@@ -43,28 +41,17 @@ same_text d a b is at = let e : Some a ≡ Some b = is ∙ ap as_str at in cc
 
 pub is_boolean : (d : Json) → is_some (as_bool d) ≡ true → (is : Bool) × (d ≡ boolean is)
 is_boolean (boolean b) yes_is = (b, refl)
-is_boolean null yes_is = cc
-is_boolean (number n) yes_is = cc
-is_boolean (string t) yes_is = cc
-is_boolean (array ds) yes_is = cc
-is_boolean (object ms) yes_is = cc
+is_boolean _ yes_is = cc
 
 pub is_text : (d : Json) → is_some (as_str d) ≡ true → IsText d
 is_text (string t) yes_is = (t, refl)
-is_text null yes_is = cc
-is_text (boolean b) yes_is = cc
-is_text (number n) yes_is = cc
-is_text (array ds) yes_is = cc
-is_text (object ms) yes_is = cc
+is_text _ yes_is = cc
 
 -- what a reader found, or that there is nothing to find
-pub some_then : {A : Type 0} (Fact : A → Type 0) (found : Option A) → MatchOption found ((a : A) → Fact a → ⊥) Fact → is_some found ≡ true → (a : A) × Fact a
-some_then Fact (Some a) match_is is = (a, match_is)
-some_then Fact None match_is is = cc
-
-pub then_some : {A : Type 0} (Fact : A → Type 0) (found : Option A) → MatchOption found ((a : A) → Fact a → ⊥) Fact → ((a : A) × Fact a) → is_some found ≡ true
-then_some Fact (Some a) match_is has = refl
-then_some Fact None match_is has = absurd (match_is has.0 has.1)
+pub unless_found : {A E : Type 0} (Fact : A → Type 0) (fault : JsonFault) (found : Option A) (is : Bool) (r : Result (Option JsonFault) E) → MatchOption found ((a : A) → Fact a → ⊥) Fact → is ≡ is_some found
+    → IfOk r (λ f. f ≡ cond is None (Some fault)) → IfOk r (FirstOf (Unless ((a : A) × Fact a) fault))
+unless_found {A} Fact fault (Some a) is r fact some = unless_test ((b : A) × Fact b) fault is r (λ e. (a, fact)) (λ h. some)
+unless_found {A} Fact fault None is r none some = unless_test ((b : A) × Fact b) fault is r (λ e. let f = sym some ∙ e in cc) (λ h. absurd (none h.0 h.1))
 
 pub bytes_then : (text : List ℕ) (found : Option (Vec ℕ Global)) → MatchOption found ((bytes : List ℕ) → SpellsBytes text bytes → ⊥) (λ v. SpellsBytes text v.items) → is_some found ≡ true → IsBytesText text
 bytes_then text (Some v) match_is is = (v.items, match_is)
@@ -114,3 +101,10 @@ first_told faults (Err e) is = is
 pub no_segment : (text : List ℕ) (found : Option (List ℕ)) → MatchOption found (¬ (IsSegment text)) (λ segment. (segment ≡ text) × IsSegment text) → is_some found ≡ false → IsSegment text → ⊥
 no_segment text None is none has = is has
 no_segment text (Some segment) is none has = cc
+
+-- the faults of the kinds that go by their text
+pub by_text : {E : Type 0} (root : Root) (kind : Leaf) (name : List ℕ) (d : Json) (r : Result (Option JsonFault) E) → is_of_text kind ≡ true
+    → IfOk r (FirstOf (InText d name (TextFaults root kind name))) → IfOk r (FirstOf (LeafFaults root kind name d))
+by_text root leaf.Time name d (Ok found) is first = first
+by_text root leaf.Time name d (Err e) is first = first
+by_text root _ name d r is first = search rules

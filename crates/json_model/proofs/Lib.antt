@@ -16,6 +16,7 @@ pub mod OneName
 pub mod OneChosen
 pub mod Walked
 pub mod Trees
+pub mod Among
 pub mod Sound
 pub mod Rows
 pub mod Choices

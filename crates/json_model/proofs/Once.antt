@@ -25,9 +25,8 @@ use Rattle.json_model.specs.Members.{given, chosen}
 use Rattle.json_model.specs.Numbers.{SpellsInteger, IsNumber, SpellsWhole, as_number, as_text}
 use Rattle.json_model.specs.Places.{value_member}
 use Rattle.json_model.specs.References.{SpellsReference, root_of}
-use Rattle.json_model.proofs.Cuts.{one_root}
 use Rattle.json_model.proofs.Numerals.{spells_one_integer}
-use Rattle.json_model.proofs.Referred.{under_name, same_root}
+use Rattle.json_model.proofs.Referred.{under_name, one_database}
 
 -- ---- bytes
 
@@ -107,11 +106,10 @@ pub reference_once : (content : List ℕ) (a b : RefName) → SpellsReference co
 reference_once content a b one two =
     let here = under_name (root_of a) content a.key one.names.some one.is in
     let there = under_name (root_of b) content b.key two.names.some two.is in
-    let parts = one_root content (root_of a) (root_of b) one.database.project.part one.database.name.part two.database.project.part two.database.name.part here there in
-    let root = same_root (root_of a) (root_of b) parts.0 parts.1 in
+    let root = one_database content (root_of a) (root_of b) one.database two.database here there in
     let texts : name_text (root_of a) a.key ≡ name_text (root_of a) b.key = sym one.is ∙ two.is ∙ ap (λ r. name_text r b.key) (sym root) in
     let keys = named_once (root_of a) a.key b.key (All-weaker IsSegment IsPart (λ s is. is.part) a.key one.names.segments) (All-weaker IsSegment IsPart (λ s is. is.part) b.key two.names.segments) texts in
-    λ i. record { project = parts.0 i; database = parts.1 i; key = keys i }
+    λ i. record { project = (root i).project; database = (root i).name; key = keys i }
 
 pub time_once : (d : json.Data) (a b : Timestamp) → SpellsTime d a → SpellsTime d b → a ≡ b
 time_once d a b one two = let e = sym one.1.1 ∙ ap time_of (same_text d one.0 two.0 one.1.0 two.1.0) ∙ two.1.1 in cc
@@ -130,19 +128,7 @@ scalar_once leaf.Reference d v w s t =
     let one = s.1.0 in
     let two = t.1.0 in
     s.1.1 ∙ ap reference (reference_once one.0 s.0 t.0 one.1.1 (subst (λ c. SpellsReference c t.0) (same_text d two.0 one.0 two.1.0 one.1.0) two.1.1)) ∙ sym t.1.1
-scalar_once leaf.Name d v w s t = absurd s
-scalar_once leaf.Path d v w s t = absurd s
-scalar_once leaf.ServerTime d v w s t = absurd s
-scalar_once leaf.Id d v w s t = absurd s
-scalar_once leaf.Parent d v w s t = absurd s
-scalar_once leaf.QueryPath d v w s t = absurd s
-scalar_once leaf.Limit d v w s t = absurd s
-scalar_once leaf.Descendants d v w s t = absurd s
-scalar_once leaf.TargetId d v w s t = absurd s
-scalar_once leaf.Count d v w s t = absurd s
-scalar_once leaf.Code d v w s t = absurd s
-scalar_once leaf.ListenerId d v w s t = absurd s
-scalar_once (leaf.Constant which) d v w s t = absurd s
+scalar_once _ d v w s t = absurd s
 
 -- ---- trees
 

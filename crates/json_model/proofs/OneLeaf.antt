@@ -1,13 +1,10 @@
 -- A leaf has one list of faults, and what a reader answers of a leaf without faults is no fault of it.
-use Rattle.std.proofs.Common.{◌≡◌, ◌≢◌, ◌∙◌, inl, inr, ℕ, ◌<◌, List, [], ◌∷◌, length, Some, None, codes, Bool, true, false, nat_lt, IsTrue, refl, sym, ap, subst, arith}
+use Rattle.std.proofs.Common.{rules, ◌≡◌, ◌≢◌, ◌∙◌, inl, inr, ℕ, ◌<◌, List, [], ◌∷◌, length, Some, None, codes, Bool, true, false, nat_lt, IsTrue, refl, sym, ap, subst, arith}
 use Rattle.std.specs.List.{Contains, slice_index_or}
 use Rattle.std.proofs.lemmas.List.Elements.{All-contains, All-weaker}
 use borrow.Author.Tests.{ltb-true, ltb-false}
-use Rattle.document_keys.specs.Names.{Root, IsRoot, IsKey, HasNameLength, documents_text, name_text}
-use Rattle.document_keys.specs.Faults.{HasKeyFault}
+use Rattle.document_keys.specs.Names.{Root, HasNameLength, documents_text}
 use Rattle.document_keys.specs.Paths.{IsFieldName, IsFieldPath, HasReserved, SpellsPath}
-use Rattle.document_keys.specs.declared.faults.NameFault.TheVariants as name_fault
-use Rattle.document_keys.proofs.Lawful.{excluded}
 use Rattle.document_keys.proofs.Spelled.{spells_one}
 use Rattle.serde_json.specs.Data.{Data as Json, string}
 use Rattle.json_model.specs.declared.place.Leaf.{Leaf}
@@ -15,15 +12,14 @@ use Rattle.json_model.specs.declared.place.Leaf.TheVariants as leaf
 use Rattle.json_model.specs.declared.fault.JsonFault.{JsonFault}
 use Rattle.json_model.specs.declared.fault.JsonFault.TheVariants as json_fault
 use Rattle.json_model.specs.declared.fault.NamingFault.{NamingFault}
-use Rattle.json_model.specs.declared.fault.NamingFault.TheVariants.{WrongRoot, BadSegment, OddLength, BadPath, ReservedField}
+use Rattle.json_model.specs.declared.fault.NamingFault.TheVariants.{BadPath, ReservedField}
 use Rattle.json_model.specs.Faults.{IsFault}
-use Rattle.json_model.specs.Leaves.{Unless, bad_name, IsNameFault, NamingFaults, ReferenceFaults, DocumentFaults, FieldNameFaults, PathFaults, too_many, few, HasManyNames, HasFieldPathFault, IsFieldPathText, HasQueryPathFault, QueryPathFaults, IsQueryPathText, ParentFaults, IsParentText, IsReferenceText, IsDocumentText, InText, in_text, in_other, LeafFaults, max_names}
+use Rattle.json_model.specs.Leaves.{Unless, bad_name, IsNameFault, NamingFaults, ReferenceFaults, DocumentFaults, FieldNameFaults, PathFaults, NamesFaults, too_many, few, HasManyNames, HasFieldPathFault, IsFieldPathText, HasQueryPathFault, QueryPathFaults, IsQueryPathText, ParentFaults, IsParentText, IsReferenceText, IsDocumentText, InText, in_text, in_other, LeafFaults, max_names}
 use Rattle.json_model.specs.Ranks.{first_of_least}
-use Rattle.json_model.specs.References.{HasReferenceFault, HasDocumentFault, HasFieldFault, IsUnder}
-use Rattle.json_model.proofs.Cuts.{one_root}
-use Rattle.json_model.proofs.Fine.{not_many, not_many_in_query}
+use Rattle.json_model.specs.References.{HasReferenceFault, HasDocumentFault, HasFieldFault}
+use Rattle.json_model.proofs.Fine.{not_many}
 use Rattle.json_model.proofs.Naming.{only}
-use Rattle.json_model.proofs.Referred.{under_name, same_root, reference_no}
+use Rattle.json_model.proofs.Referred.{document_none, document_fault_one, reference_no, reference_fault_one}
 
 -- one list at most
 abbrev pub IsOne : (List JsonFault → Type 0) → Type 0
@@ -38,19 +34,9 @@ unless_one Fact fault a b (inr x) (inr y) = x.1 ∙ sym y.1
 -- ---- names
 
 field_fault_one : (name : List ℕ) (f g : NamingFault) → HasFieldFault name f → HasFieldFault name g → f ≡ g
-field_fault_one name WrongRoot g x y = absurd x
-field_fault_one name BadSegment g x y = absurd x
-field_fault_one name OddLength g x y = absurd x
-field_fault_one name BadPath WrongRoot x y = absurd y
-field_fault_one name BadPath BadSegment x y = absurd y
-field_fault_one name BadPath OddLength x y = absurd y
-field_fault_one name BadPath BadPath x y = refl
 field_fault_one name BadPath ReservedField x y = absurd (x y.0)
-field_fault_one name ReservedField WrongRoot x y = absurd y
-field_fault_one name ReservedField BadSegment x y = absurd y
-field_fault_one name ReservedField OddLength x y = absurd y
 field_fault_one name ReservedField BadPath x y = absurd (y x.0)
-field_fault_one name ReservedField ReservedField x y = refl
+field_fault_one name _ _ x y = search rules
 
 naming_one : (Fact : Type 0) (Has : NamingFault → Type 0) (text : List ℕ) → ((f : NamingFault) → Fact → Has f → ⊥) → ((f g : NamingFault) → Has f → Has g → f ≡ g) → IsOne (NamingFaults Fact Has text)
 naming_one Fact Has text none one a b (inl x) (inl y) = x.1 ∙ sym y.1
@@ -61,136 +47,53 @@ naming_one Fact Has text none one a b (inr (f, x, is)) (inr (g, y, also)) = is �
 field_none : (name : List ℕ) (f : NamingFault) → IsFieldName name → HasFieldFault name f → ⊥
 field_none name BadPath is has = has is.long
 field_none name ReservedField is has = is.free has.1
-field_none name WrongRoot is has = has
-field_none name BadSegment is has = has
-field_none name OddLength is has = has
+field_none name _ is has = has
 
 pub field_name_one : (name : List ℕ) → IsOne (FieldNameFaults name)
 field_name_one name a b x y = naming_one _ _ name (field_none name) (field_fault_one name) a b x y
 
--- the database under which a text has a fault of its path is one
-under_one : (text : List ℕ) (root other : Root) → IsRoot root → IsRoot other → IsUnder root text → IsUnder other text → root ≡ other
-under_one text root other sound also under beside =
-    let parts = one_root text root other sound.project.part sound.name.part also.project.part also.name.part under beside in
-    same_root root other parts.0 parts.1
-
-reference_fault_one : (text : List ℕ) (f g : NamingFault) → HasReferenceFault text f → HasReferenceFault text g → f ≡ g
-reference_fault_one text BadPath g x y = absurd x
-reference_fault_one text ReservedField g x y = absurd x
-reference_fault_one text WrongRoot BadPath x y = absurd y
-reference_fault_one text WrongRoot ReservedField x y = absurd y
-reference_fault_one text BadSegment BadPath x y = absurd y
-reference_fault_one text BadSegment ReservedField x y = absurd y
-reference_fault_one text OddLength BadPath x y = absurd y
-reference_fault_one text OddLength ReservedField x y = absurd y
-reference_fault_one text WrongRoot WrongRoot x y = refl
-reference_fault_one text BadSegment BadSegment x y = refl
-reference_fault_one text OddLength OddLength x y = refl
-reference_fault_one text WrongRoot BadSegment x (root, sound, has) = absurd (x root sound (under_name root text has.0 has.1.some has.1.text_is))
-reference_fault_one text WrongRoot OddLength x (root, sound, has) = absurd (x root sound (under_name root text has.0 has.1.some has.1.text_is))
-reference_fault_one text BadSegment WrongRoot (root, sound, has) y = absurd (y root sound (under_name root text has.0 has.1.some has.1.text_is))
-reference_fault_one text OddLength WrongRoot (root, sound, has) y = absurd (y root sound (under_name root text has.0 has.1.some has.1.text_is))
-reference_fault_one text BadSegment OddLength (root, sound, has) (other, also, held) =
-    let same = under_one text other root also sound (under_name other text held.0 held.1.some held.1.text_is) (under_name root text has.0 has.1.some has.1.text_is) in
-    let moved = subst (λ (r : Root). HasKeyFault r text name_fault.OddLength) same held in
-    let e = excluded.one root text name_fault.BadSegment name_fault.OddLength (λ m. cc) (λ m. cc) has moved in cc
-reference_fault_one text OddLength BadSegment (root, sound, has) (other, also, held) =
-    let same = under_one text other root also sound (under_name other text held.0 held.1.some held.1.text_is) (under_name root text has.0 has.1.some has.1.text_is) in
-    let moved = subst (λ (r : Root). HasKeyFault r text name_fault.BadSegment) same held in
-    let e = excluded.one root text name_fault.OddLength name_fault.BadSegment (λ m. cc) (λ m. cc) has moved in cc
-
 reference_one : (text : List ℕ) → IsOne (ReferenceFaults text)
 reference_one text a b x y = naming_one _ _ text (λ f is. reference_no text is.0 f is.1) (reference_fault_one text) a b x y
 
-document_one : (root : Root) (text : List ℕ) (a b : NamingFault) → HasDocumentFault root text a → HasDocumentFault root text b → a ≡ b
-document_one root text WrongRoot WrongRoot first second = refl
-document_one root text WrongRoot BadSegment first second = absurd (let e : name_fault.WrongRoot ≡ name_fault.BadSegment = excluded.one root text name_fault.WrongRoot name_fault.BadSegment (λ x. cc) (λ x. cc) first second in cc)
-document_one root text WrongRoot OddLength first second = absurd (let e : name_fault.WrongRoot ≡ name_fault.OddLength = excluded.one root text name_fault.WrongRoot name_fault.OddLength (λ x. cc) (λ x. cc) first second in cc)
-document_one root text BadSegment WrongRoot first second = absurd (let e : name_fault.BadSegment ≡ name_fault.WrongRoot = excluded.one root text name_fault.BadSegment name_fault.WrongRoot (λ x. cc) (λ x. cc) first second in cc)
-document_one root text BadSegment BadSegment first second = refl
-document_one root text BadSegment OddLength first second = absurd (let e : name_fault.BadSegment ≡ name_fault.OddLength = excluded.one root text name_fault.BadSegment name_fault.OddLength (λ x. cc) (λ x. cc) first second in cc)
-document_one root text OddLength WrongRoot first second = absurd (let e : name_fault.OddLength ≡ name_fault.WrongRoot = excluded.one root text name_fault.OddLength name_fault.WrongRoot (λ x. cc) (λ x. cc) first second in cc)
-document_one root text OddLength BadSegment first second = absurd (let e : name_fault.OddLength ≡ name_fault.BadSegment = excluded.one root text name_fault.OddLength name_fault.BadSegment (λ x. cc) (λ x. cc) first second in cc)
-document_one root text OddLength OddLength first second = refl
-document_one root text BadPath b first second = absurd first
-document_one root text ReservedField b first second = absurd first
-document_one root text WrongRoot BadPath first second = absurd second
-document_one root text WrongRoot ReservedField first second = absurd second
-document_one root text BadSegment BadPath first second = absurd second
-document_one root text BadSegment ReservedField first second = absurd second
-document_one root text OddLength BadPath first second = absurd second
-document_one root text OddLength ReservedField first second = absurd second
-
-document_none : (root : Root) (key : List (List ℕ)) (a : NamingFault) → IsKey key → HasDocumentFault root (name_text root key) a → ⊥
-document_none root key WrongRoot names has = let e : name_fault.WrongRoot ≡ name_fault.NoMemory = excluded.none root key name_fault.WrongRoot names has in cc
-document_none root key BadSegment names has = let e : name_fault.BadSegment ≡ name_fault.NoMemory = excluded.none root key name_fault.BadSegment names has in cc
-document_none root key OddLength names has = let e : name_fault.OddLength ≡ name_fault.NoMemory = excluded.none root key name_fault.OddLength names has in cc
-document_none root key BadPath names has = absurd has
-document_none root key ReservedField names has = absurd has
-
 document_text_one : (root : Root) (text : List ℕ) → IsOne (DocumentFaults root text)
 document_text_one root text a b x y =
-    naming_one _ _ text (λ f is has. document_none root is.0 f is.1.0 (subst (λ (t : List ℕ). HasDocumentFault root t f) is.1.1 has)) (document_one root text) a b x y
+    naming_one _ _ text (λ f is has. document_none root is.0 f is.1.0 (subst (λ (t : List ℕ). HasDocumentFault root t f) is.1.1 has)) (document_fault_one root text) a b x y
 
 -- ---- paths
 
 path_fault_one : (text : List ℕ) (f g : NamingFault) → HasFieldPathFault text f → HasFieldPathFault text g → f ≡ g
-path_fault_one text BadPath BadPath x y = refl
 path_fault_one text BadPath ReservedField x y = absurd (x y.0 y.1 y.2)
 path_fault_one text ReservedField BadPath x y = absurd (y x.0 x.1 x.2)
-path_fault_one text ReservedField ReservedField x y = refl
-path_fault_one text WrongRoot g x y = absurd x
-path_fault_one text BadSegment g x y = absurd x
-path_fault_one text OddLength g x y = absurd x
-path_fault_one text BadPath WrongRoot x y = absurd y
-path_fault_one text BadPath BadSegment x y = absurd y
-path_fault_one text BadPath OddLength x y = absurd y
-path_fault_one text ReservedField WrongRoot x y = absurd y
-path_fault_one text ReservedField BadSegment x y = absurd y
-path_fault_one text ReservedField OddLength x y = absurd y
+path_fault_one text _ _ x y = search rules
 
 path_none : (text : List ℕ) (f : NamingFault) → IsFieldPathText text → HasFieldPathFault text f → ⊥
 path_none text BadPath (names, is) has = has names is.spelled (All-weaker IsFieldName HasNameLength (λ n one. one.long) names is.fields)
 path_none text ReservedField (names, is) (others, spelled, long, (name, there, reserved)) =
     let same = spells_one text others names spelled is.spelled in
     (All-contains IsFieldName names name is.fields (subst (λ (l : List (List ℕ)). Contains l name) same there)).free reserved
-path_none text WrongRoot is has = has
-path_none text BadSegment is has = has
-path_none text OddLength is has = has
-
-path_one : (text : List ℕ) → IsOne (PathFaults text)
-path_one text _ _ (too_many many) (too_many more) = refl
-path_one text _ b (too_many many) (few never y) = absurd (never many)
-path_one text a _ (few never x) (too_many many) = absurd (never many)
-path_one text a b (few never x) (few nor y) = naming_one _ _ text (path_none text) (path_fault_one text) a b x y
+path_none text _ is has = has
 
 query_fault_one : (text : List ℕ) (f g : NamingFault) → HasQueryPathFault text f → HasQueryPathFault text g → f ≡ g
-query_fault_one text BadPath BadPath x y = refl
 query_fault_one text BadPath ReservedField x y = absurd (x y.0 y.1 y.2)
 query_fault_one text ReservedField BadPath x y = absurd (y x.0 x.1 x.2)
-query_fault_one text ReservedField ReservedField x y = refl
-query_fault_one text WrongRoot g x y = absurd x
-query_fault_one text BadSegment g x y = absurd x
-query_fault_one text OddLength g x y = absurd x
-query_fault_one text BadPath WrongRoot x y = absurd y
-query_fault_one text BadPath BadSegment x y = absurd y
-query_fault_one text BadPath OddLength x y = absurd y
-query_fault_one text ReservedField WrongRoot x y = absurd y
-query_fault_one text ReservedField BadSegment x y = absurd y
-query_fault_one text ReservedField OddLength x y = absurd y
+query_fault_one text _ _ x y = search rules
 
 query_none : (text : List ℕ) (f : NamingFault) → IsQueryPathText text → HasQueryPathFault text f → ⊥
 query_none text BadPath (names, is) has = has names is.spelled is.path.long
 query_none text ReservedField (names, is) (others, spelled, long, reserved) = is.path.free (subst HasReserved (spells_one text others names spelled is.spelled) reserved)
-query_none text WrongRoot is has = has
-query_none text BadSegment is has = has
-query_none text OddLength is has = has
+query_none text _ is has = has
+
+names_one : (Fact : Type 0) (Has : NamingFault → Type 0) (text : List ℕ) → ((f : NamingFault) → Fact → Has f → ⊥) → ((f g : NamingFault) → Has f → Has g → f ≡ g) → IsOne (NamesFaults Fact Has text)
+names_one Fact Has text none one _ _ (too_many many) (too_many more) = refl
+names_one Fact Has text none one _ b (too_many many) (few never y) = absurd (never many)
+names_one Fact Has text none one a _ (few never x) (too_many many) = absurd (never many)
+names_one Fact Has text none one a b (few never x) (few nor y) = naming_one Fact Has text none one a b x y
+
+path_one : (text : List ℕ) → IsOne (PathFaults text)
+path_one text a b x y = names_one _ _ text (path_none text) (path_fault_one text) a b x y
 
 query_one : (text : List ℕ) → IsOne (QueryPathFaults text)
-query_one text _ _ (too_many many) (too_many more) = refl
-query_one text _ b (too_many many) (few never y) = absurd (never many)
-query_one text a _ (few never x) (too_many many) = absurd (never many)
-query_one text a b (few never x) (few nor y) = naming_one _ _ text (query_none text) (query_fault_one text) a b x y
+query_one text a b x y = names_one _ _ text (query_none text) (query_fault_one text) a b x y
 
 parent_one : (root : Root) (text : List ℕ) → IsOne (ParentFaults root text)
 parent_one root text a b (inl x) (inl y) = x.1 ∙ sym y.1
@@ -217,9 +120,9 @@ many_names text count (names, (spelled, long)) = by (nat_lt max_names count) ref
 pub document_name : (text : List ℕ) (path : List (List ℕ)) → path ≡ codes "__name__" ∷ [] → IsFieldPath path × SpellsPath text path → HasFieldPathFault text ReservedField
 document_name text path is read = (path, read.1, read.0.long, (codes "__name__", (0, subst (λ (l : List (List ℕ)). 0 < length l) (sym is) (omega arith), ap (λ l. slice_index_or l 0 (codes "__name__")) is), (codes "name", refl)))
 
-pub path_fault : (text : List ℕ) (fault : JsonFault) → ¬ (HasManyNames text) → IsNameFault (HasFieldPathFault text) text fault → IsFault (PathFaults text) fault
-path_fault text fault never (inl memory) = inl memory
-path_fault text fault never (inr (why, has, is)) = inr (only (PathFaults text) fault (few never (inr (why, has, ap (λ f. f ∷ []) is))))
+pub names_fault : (Fact : Type 0) (Has : NamingFault → Type 0) (text : List ℕ) (fault : JsonFault) → ¬ (HasManyNames text) → IsNameFault Has text fault → IsFault (NamesFaults Fact Has text) fault
+names_fault Fact Has text fault never (inl memory) = inl memory
+names_fault Fact Has text fault never (inr (why, has, is)) = inr (only (NamesFaults Fact Has text) fault (few never (inr (why, has, ap (λ f. f ∷ []) is))))
 
 -- ---- kinds
 
@@ -263,14 +166,10 @@ no_document_fault root text fault is has =
     naming_none _ _ text fault (λ f named bad. document_none root named.0 f named.1.0 (subst (λ (t : List ℕ). HasDocumentFault root t f) named.1.1 bad)) is has
 
 pub no_path_fault : (text : List ℕ) (fault : JsonFault) → IsFieldPathText text → IsFault (PathFaults text) fault → fault ≡ json_fault.NoMemory
-no_path_fault text fault is has = no_fault (PathFaults text) fault (path_one text) (few (not_many text is) (inl (is, refl))) has
-
-pub query_fault : (text : List ℕ) (fault : JsonFault) → ¬ (HasManyNames text) → IsNameFault (HasQueryPathFault text) text fault → IsFault (QueryPathFaults text) fault
-query_fault text fault never (inl memory) = inl memory
-query_fault text fault never (inr (why, has, is)) = inr (only (QueryPathFaults text) fault (few never (inr (why, has, ap (λ f. f ∷ []) is))))
+no_path_fault text fault is has = no_fault (PathFaults text) fault (path_one text) (few (not_many text is.0 is.1.spelled is.1.few) (inl (is, refl))) has
 
 pub no_query_fault : (text : List ℕ) (fault : JsonFault) → IsQueryPathText text → IsFault (QueryPathFaults text) fault → fault ≡ json_fault.NoMemory
-no_query_fault text fault is has = no_fault (QueryPathFaults text) fault (query_one text) (few (not_many_in_query text is) (inl (is, refl))) has
+no_query_fault text fault is has = no_fault (QueryPathFaults text) fault (query_one text) (few (not_many text is.0 is.1.spelled is.1.few) (inl (is, refl))) has
 
 pub no_parent_fault : (root : Root) (text : List ℕ) (fault : JsonFault) → IsParentText root text → (text ≢ documents_text root) → IsNameFault (HasDocumentFault root text) text fault → fault ≡ json_fault.NoMemory
 no_parent_fault root text fault (inl is) other has = absurd (other is)

@@ -3,7 +3,7 @@ use Rattle.std.proofs.Common.{◌≡◌, ◌∙◌, inl, inr, ℕ, ◌-◌, List
 use Rattle.document_keys.specs.Names.{Root}
 use Rattle.document_keys.specs.Paths.{SpellsPath}
 use Rattle.document_keys.proofs.Spelled.{spells_one}
-use Rattle.serde_json.specs.Data.{Data as Json, null, boolean, number, string, array, object as an_object, Members, no_members, member, Items, no_items, item}
+use Rattle.serde_json.specs.Data.{Data as Json, string, array, object as an_object, Members, no_members, member, Items, no_items, item}
 use Rattle.json_model.specs.declared.place.Place.{Place}
 use Rattle.json_model.specs.declared.place.Place.TheVariants as place
 use Rattle.json_model.specs.declared.place.Object.{Object}
@@ -74,10 +74,6 @@ mutual
   unfolding FaultsAt ItemsFaults MembersFaults
 
   pub faults_one : (o : Origin) (limit : ℕ) (p : Place) (name : List ℕ) (d : Json) → IsOne (FaultsAt o limit p name d)
-  faults_one o limit p name null a b x y = flat_one o p name null a b x y
-  faults_one o limit p name (boolean is) a b x y = flat_one o p name (boolean is) a b x y
-  faults_one o limit p name (number n) a b x y = flat_one o p name (number n) a b x y
-  faults_one o limit p name (string text) a b x y = flat_one o p name (string text) a b x y
   faults_one o limit p name (array ds) a b x y =
       in_series_one p (λ kind. OwnOr (own_list_faults kind name ds) (ItemsFaults o limit kind name ds)) (FlatFaults o p name (array ds))
       (λ kind. own_or_one (own_list_faults kind name ds) (ItemsFaults o limit kind name ds) (items_one o limit kind name ds)) (flat_one o p name (array ds)) a b x y
@@ -85,6 +81,7 @@ mutual
       in_object_one p (λ kind. OwnOr (own_faults kind name ms) (InLevels (refined kind ms) ms limit (λ inner. MembersFaults o (levels_inside kind inner) (refined kind ms) (required (refined kind ms)) ms))) (FlatFaults o p name (an_object ms))
       (λ kind. own_or_one (own_faults kind name ms) (InLevels (refined kind ms) ms limit (λ inner. MembersFaults o (levels_inside kind inner) (refined kind ms) (required (refined kind ms)) ms))
       (in_levels_one (refined kind ms) ms limit (λ inner. MembersFaults o (levels_inside kind inner) (refined kind ms) (required (refined kind ms)) ms) (λ inner. members_one o (levels_inside kind inner) (refined kind ms) (required (refined kind ms)) ms))) (flat_one o p name (an_object ms)) a b x y
+  faults_one o limit p name d a b x y = flat_one o p name d a b x y
 
   items_one : (o : Origin) (limit : ℕ) (kind : Series) (name : List ℕ) (ds : Items) → IsOne (ItemsFaults o limit kind name ds)
   items_one o limit kind name no_items a b x y = x ∙ sym y

@@ -1,24 +1,23 @@
 -- Lists and members that are printed one after another.
-use Rattle.std.proofs.Common.{Some, String, Vec, vec_len, BTreeMap, Result, Ok, Err, IfOk, codes, zero, suc, length, ◌≤◌, sym, ◌≡◌, ℕ, ◌+◌, ◌<◌, List, [], ◌∷◌, ◌++◌, true, false, Greater, take, get_or, refl, ap, subst, ◌∙◌, arith, add-one}
-use Rattle.std.specs.Ordering.{nat_cmp, ordering_reverse}
+use Rattle.std.proofs.Common.{Some, String, Vec, vec_len, BTreeMap, Result, Ok, Err, IfOk, codes, zero, suc, length, ◌≤◌, sym, ◌≡◌, ℕ, ◌+◌, ◌<◌, List, [], ◌∷◌, ◌++◌, true, false, take, get_or, refl, ap, subst, ◌∙◌, arith, add-one}
 use Rattle.std.specs.List.{AllPairs}
 use Rattle.std.specs.Map.{keys_of}
-use Rattle.std.specs.Cmp.Lexicographic.{slice_cmp}
 use Rattle.std.specs.String.{string_bytes, string_cmp}
 use Rattle.std.specs.BTreeMap.{insert_entry}
 use Rattle.std.specs.declared.alloc.Global.{Global}
-use Rattle.std.proofs.lemmas.Cmp.{nat_list_cmp_total}
 use Rattle.serde_json.specs.View.{view, items_view, members_view}
 use Rattle.std.specs.Bool.{◌==◌}
 use Rattle.serde_json.specs.declared.value.Value.{Value as Json, Array, Object}
 use Rattle.serde_json.proofs.Views.{members_view-insert_entry, view-Array, view-Object}
 use Rattle.serde_json.specs.Data as json
 use Rattle.document_keys.specs.Order.{TextBefore}
-use Rattle.document_keys.proofs.Order.{texts_compute}
 use Rattle.value_model.specs.declared.fields.Field.{Field}
 use Rattle.value_model.specs.Data.{Data, Entries, items_of, members_of}
 use Rattle.value_model.specs.Codes.{data_size, entries_size}
 use Rattle.value_model.specs.Named.{fields_data}
+use Rattle.value_model.proofs.Named.{names_count, name_at}
+use Rattle.value_model.proofs.Places.{compared_below}
+use Rattle.value_model.proofs.Sizes.{field_below as below_all}
 use Rattle.json_model.specs.Forms.{unless_empty}
 use Rattle.json_model.specs.Trees.{one}
 use Rattle.json_model.specs.Printed.{printed_value, printed_items, printed_members, values_tree, fields_tree}
@@ -40,27 +39,15 @@ pub items_more : (old new : List Json) (tree : Json) (ds : List Data) (i : ℕ) 
     → items_view old ≡ printed_items (items_of (take i ds)) → items_view new ≡ printed_items (items_of (take (i + 1) ds))
 items_more old new tree ds i d below is pushed one so_far = rw (pushed, add-one) (items_at old tree ds i d below is one so_far)
 
-after_less : (k l : List ℕ) → TextBefore l k → slice_cmp nat_cmp k l ≡ Greater
-after_less k l before = nat_list_cmp_total.antisymm k l ∙ ap ordering_reverse (texts_compute.less l k before)
-
-key_at : (fields : List Field) (i : ℕ) (field : Field) → i < length fields → field ≡ get_or fields i field → get_or (keys_of (fields_data fields)) i field.name ≡ field.name
-key_at [] i field below is = absurd (omega arith)
-key_at (f ∷ fields) zero field below is = ap (λ (x : Field). x.name) (sym is)
-key_at (f ∷ fields) (suc i) field below is = key_at fields i field (omega arith) is
-
-length_keys : (fields : List Field) → length (keys_of (fields_data fields)) ≡ length fields
-length_keys [] = refl
-length_keys (f ∷ fields) = ap suc (length_keys fields)
-
 members_at : (fields : List Field) (i : ℕ) (field : Field) (tree : json.Data) → AllPairs TextBefore (keys_of (fields_data fields)) → i < length fields → field ≡ get_or fields i field → tree ≡ printed_value field.value
     → json.put field.name tree (printed_members (members_of (fields_data (take i fields)))) ≡ printed_members (members_of (fields_data (take (suc i) fields)))
 members_at [] i field tree pairs below is one = absurd (omega arith)
 members_at (f ∷ fields) zero field tree pairs below is one =
     ap (λ d. json.member field.name d json.no_members) one ∙ ap (λ (x : Field). json.member x.name (printed_value x.value) json.no_members) is
 members_at (f ∷ fields) (suc i) field tree pairs below is one =
-    let long = length_keys fields in
+    let long = names_count fields in
     let before = pairs 0 (suc i) field.name (omega arith) (omega arith) in
-    let greater = after_less field.name f.name (subst (λ k. TextBefore f.name k) (key_at fields i field (omega arith) is) before) in
+    let greater = compared_below f.name field.name (subst (λ k. TextBefore f.name k) (name_at fields i field field.name (omega arith) ∙ ap (λ (x : Field). x.name) (sym is)) before) in
     let rest = members_at fields i field tree (λ j k d less within. pairs (suc j) (suc k) d (omega arith) (omega arith)) (omega arith) is one in
     rw greater (ap (λ ms. json.member f.name (printed_value f.value) ms) rest)
 
@@ -75,12 +62,11 @@ members_more old new name tree fields i field pairs below is names one inserted 
 
 -- a field's value is smaller than the fields
 pub field_below : (fields : List Field) (i : ℕ) (field : Field) (es : Entries) → i < length fields → field ≡ get_or fields i field → fields_data fields ≡ es → data_size field.value + 1 ≤ entries_size es
-field_below fields i field es below is shown = subst (λ (l : Entries). data_size field.value + 1 ≤ entries_size l) shown (within fields i below is)
-  where
-    within : (gs : List Field) (j : ℕ) → j < length gs → field ≡ get_or gs j field → data_size field.value + 1 ≤ entries_size (fields_data gs)
-    within [] j lt same = absurd (omega arith)
-    within (g ∷ gs) zero lt same = let e : data_size field.value ≡ data_size g.value = ap (λ (x : Field). data_size x.value) same in omega (arith, e)
-    within (g ∷ gs) (suc j) lt same = let rest = within gs j (omega arith) same in omega (arith, rest)
+field_below fields i field es below is shown =
+    let one = below_all fields i field below in
+    let size = ap (λ (x : Field). data_size x.value) is in
+    let whole = ap entries_size shown in
+    omega arith
 
 -- lists and objects that aren't empty
 pub values_shown : (trees : List Json) → (length trees ≡ 0 → ⊥) → values_tree (items_view trees) ≡ one (codes "values") (json.array (items_view trees))

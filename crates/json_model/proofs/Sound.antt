@@ -1,15 +1,16 @@
 -- What stands in a tree without faults.
-use Rattle.std.proofs.Common.{rules, ◌≡◌, ◌⊎◌, ℕ, ◌-◌, ◌≤◌, List, [], ◌∷◌, ◌++◌, Bool, true, false, not, ◌&&◌, ◌||◌, cond, nat_lt, Option, Some, None, refl, sym, ap, subst, inl, inr, ◌∙◌, Bor, IfSome, IsSome, option_map, Ordering, Less, Equal, Greater, arith}
+use Rattle.std.proofs.Common.{rules, ◌≡◌, ◌⊎◌, ℕ, ◌-◌, ◌≤◌, List, [], ◌∷◌, ◌++◌, Bool, true, false, not, ◌&&◌, cond, nat_lt, Option, Some, None, refl, sym, ap, subst, inl, inr, ◌∙◌, Bor, IfSome, IsSome, option_map, Ordering, Less, Equal, Greater, arith}
 use borrow.Author.Tests.{ltb-false}
 use Rattle.std.specs.Bool.{if◌then◌else◌}
 use Rattle.std.specs.Option.{option_and_then}
 use Rattle.std.specs.Ordering.{nat_cmp, match_ordering, is_lt}
 use Rattle.std.specs.Str.{bytes_eq}
 use Rattle.std.specs.Cmp.Lexicographic.{slice_cmp}
+use Rattle.std.proofs.lemmas.Bool.{and_parts, and_right, or_cases}
 use Rattle.std.proofs.lemmas.Cmp.{tied_itself}
 use Rattle.std.proofs.lemmas.Slice.Eq.{bytes_eq-Decides}
 use Rattle.document_keys.proofs.Order.{texts_compute}
-use Rattle.serde_json.specs.Data.{Data as Json, null, boolean, number, string, array, object as an_object, Members, no_members, member, Items}
+use Rattle.serde_json.specs.Data.{Data as Json, array, object as an_object, Members, no_members, member, Items}
 use Rattle.serde_json.specs.Find.{get_member, as_object, as_array}
 use Rattle.serde_json.specs.View.{view}
 use Rattle.serde_json.specs.declared.value.Value.{Value}
@@ -24,6 +25,7 @@ use Rattle.json_model.specs.Clean.{IsClean, AreClean, ItemsAreClean}
 use Rattle.json_model.specs.Faults.{FaultsAt, MembersFaults, ItemsFaults, AtMember, InLevels, OwnOr, Takes, own_faults, own_list_faults, depth_faults, levels_inside, max_nesting, missing, OwnName}
 use Rattle.json_model.specs.Members.{is_null, takes_null, is_left_out, given, unless_null, missed, later, refined}
 use Rattle.json_model.specs.Origin.{Origin}
+use Rattle.json_model.proofs.Among.{OfEach, each_at, found_among}
 use Rattle.json_model.specs.Places.{member_place, required, is_among}
 
 -- ---- lists of faults
@@ -53,21 +55,13 @@ levels_few _ left room = room
 
 pub object_there : (o : Origin) (limit : ℕ) (kind : Object) (name : List ℕ) (d : Json) → FaultsAt o limit (place.Object kind) name d [] → None ≡ as_object d → ⊥
 unfolding FaultsAt
-object_there o limit kind name null h none = cc
-object_there o limit kind name (boolean b) h none = cc
-object_there o limit kind name (number n) h none = cc
-object_there o limit kind name (string t) h none = cc
-object_there o limit kind name (array ds) h none = cc
 object_there o limit kind name (an_object ms) h none = cc
+object_there o limit kind name _ h none = cc
 
 pub list_there : (o : Origin) (limit : ℕ) (kind : Series) (name : List ℕ) (d : Json) → FaultsAt o limit (place.Series kind) name d [] → None ≡ as_array d → ⊥
 unfolding FaultsAt
-list_there o limit kind name null h none = cc
-list_there o limit kind name (boolean b) h none = cc
-list_there o limit kind name (number n) h none = cc
-list_there o limit kind name (string t) h none = cc
 list_there o limit kind name (array ds) h none = cc
-list_there o limit kind name (an_object ms) h none = cc
+list_there o limit kind name _ h none = cc
 
 -- what an object without faults has inside, in the levels that are left
 pub record Sound (o : Origin) (limit : ℕ) (kind : Object) (name : List ℕ) (ms : Members) : Type 0 where
@@ -77,12 +71,10 @@ pub record Sound (o : Origin) (limit : ℕ) (kind : Object) (name : List ℕ) (m
   pub room : levels ≤ limit
   pub inside : MembersFaults o (levels_inside kind (limit - levels)) (refined kind ms) (required (refined kind ms)) ms []
 
-room_of : (limit levels : ℕ) → depth_faults limit levels ≡ [] → levels ≤ limit
-room_of limit levels e = by (nat_lt limit levels) refl e
-  where
-    by : (b : Bool) → nat_lt limit levels ≡ b → (if b then json_fault.TooDeep ∷ [] else []) ≡ [] → levels ≤ limit
-    by true is same = cc
-    by false is same = ltb-false limit levels is
+-- a test without a fault
+pub untold : {A : Type 0} (b : Bool) (fault : A) → (if b then fault ∷ [] else []) ≡ [] → b ≡ false
+untold true fault none = cc
+untold false fault none = refl
 
 pub sound : (o : Origin) (limit : ℕ) (kind : Object) (name : List ℕ) (ms : Members) → FaultsAt o limit (place.Object kind) name (an_object ms) [] → Sound o limit kind name ms
 unfolding FaultsAt
@@ -93,7 +85,7 @@ sound o limit kind name ms h =
       own = parts.0;
       levels = at.levels;
       takes = at.takes;
-      room = room_of limit at.levels (nothing_first (depth_faults limit at.levels) at.inside at.is);
+      room = ltb-false limit at.levels (untold (nat_lt limit at.levels) json_fault.TooDeep (nothing_first (depth_faults limit at.levels) at.inside at.is));
       inside = subst (MembersFaults o (levels_inside kind (limit - at.levels)) (refined kind ms) (required (refined kind ms)) ms) (nothing_last (depth_faults limit at.levels) at.inside at.is) at.are;
     }
 
@@ -107,11 +99,7 @@ clean_items o kind d ds is (limit, name, room, h) = (limit, name, room, (sound_l
 -- ---- members
 
 pub not_out : (p : Place) (d : Json) → is_null d ≡ false → is_left_out p d ≡ false
-not_out p d some = ap (λ b. not (takes_null p) && b) some ∙ no_and (not (takes_null p))
-  where
-    no_and : (b : Bool) → (b && false) ≡ false
-    no_and true = refl
-    no_and false = refl
+not_out p d some = and_right (not (takes_null p)) (is_null d) some
 
 pub at_clean : (o : Origin) (limit : ℕ) (kind : Object) (k : List ℕ) (d : Json) (faults : List JsonFault) → AtMember kind k d (FaultsAt o limit (member_place kind k) k d) faults → faults ≡ [] → is_left_out (member_place kind k) d ≡ false → OwnName kind k [] × FaultsAt o limit (member_place kind k) k d []
 at_clean o limit kind k d faults (inl out) none some = cc (out.0)
@@ -139,21 +127,16 @@ first_of o limit kind names k d ms (first, rest, at, more, none) =
       rest = subst (MembersFaults o limit kind (later k names) ms) (nothing_last first rest (sym both)) more;
     }
 
+-- each member that isn't left out has no fault, nor has its name
+pub each_clean : (o : Origin) (limit : ℕ) (kind : Object) (names : List (List ℕ)) (ms : Members) → MembersFaults o limit kind names ms []
+    → OfEach (λ k d. is_left_out (member_place kind k) d ≡ false → OwnName kind k [] × FaultsAt o limit (member_place kind k) k d []) ms
+each_clean o limit kind names no_members clean = tt
+each_clean o limit kind names (member k d ms) clean =
+    let here = first_of o limit kind names k d ms clean in
+    (at_clean o limit kind k d [] here.at refl, each_clean o limit kind (later k names) ms here.rest)
+
 pub member_clean : (o : Origin) (limit : ℕ) (kind : Object) (names : List (List ℕ)) (ms : Members) (k : List ℕ) (d : Json) → MembersFaults o limit kind names ms [] → get_member k ms ≡ Some d → is_null d ≡ false → FaultsAt o limit (member_place kind k) k d []
-member_clean o limit kind names no_members k d clean is some = cc
-member_clean o limit kind names (member l e ms) k d clean is some =
-    let here = first_of o limit kind names l e ms clean in
-    by (slice_cmp nat_cmp k l) refl is here (member_clean o limit kind (later l names) ms k d here.rest)
-  where
-    by : (order : Ordering) → slice_cmp nat_cmp k l ≡ order → match_ordering order (get_member k ms) (Some e) (get_member k ms) ≡ Some d → First o limit kind names l e ms → (get_member k ms ≡ Some d → is_null d ≡ false → FaultsAt o limit (member_place kind k) k d [])
-        → FaultsAt o limit (member_place kind k) k d []
-    by Less cmp same here behind = behind same some
-    by Greater cmp same here behind = behind same some
-    by Equal cmp same here behind =
-        let names_are : l ≡ k = sym (texts_compute.exact k l cmp) in
-        let trees : e ≡ d = cc in
-        let inside = at_clean o limit kind l e [] here.at refl (not_out (member_place kind l) e (ap is_null trees ∙ some)) in
-        subst (λ n. FaultsAt o limit (member_place kind n) n d []) names_are (subst (λ t. FaultsAt o limit (member_place kind l) l t []) trees inside.1)
+member_clean o limit kind names ms k d clean is some = (each_at _ ms k d (each_clean o limit kind names ms clean) (found_among ms k d is) (not_out (member_place kind k) d some)).1
 
 pub given_some : (found : Option Json) (d : Json) → option_and_then unless_null found ≡ Some d → (found ≡ Some d) × (is_null d ≡ false)
 given_some None d is = cc
@@ -184,44 +167,15 @@ ascending (one ∷ (two ∷ others)) = is_lt (slice_cmp nat_cmp one two) && asce
 
 required_ascending : (kind : Object) → ascending (required kind) ≡ true
 required_ascending object.WriteLine = refl
-required_ascending object.GetLine = refl
-required_ascending object.ListenLine = refl
-required_ascending object.OpenLine = refl
-required_ascending object.CloseLine = refl
-required_ascending object.TimerLine = refl
-required_ascending object.Update = refl
-required_ascending object.Transform = refl
-required_ascending object.ArrayTransform = refl
-required_ascending object.Documents = refl
-required_ascending object.Query = refl
-required_ascending object.Selector = refl
-required_ascending object.Order = refl
-required_ascending object.Field = refl
-required_ascending object.CompositeFilter = refl
-required_ascending object.FieldFilter = refl
-required_ascending object.ListFilter = refl
-required_ascending object.UnaryFilter = refl
-required_ascending object.DocumentChange = refl
-required_ascending object.Document = refl
-required_ascending object.DocumentDelete = refl
 required_ascending _ = refl
-
-both_true : (a b : Bool) → (a && b) ≡ true → (a ≡ true) × (b ≡ true)
-both_true true b h = (refl, h)
-both_true false b h = cc
-
-either_true : (a b : Bool) → (a || b) ≡ true → (a ≡ true) ⊎ ((a ≡ false) × (b ≡ true))
-either_true true b h = inl refl
-either_true false b h = inr (refl, h)
 
 less_is : (order : Ordering) → is_lt order ≡ true → order ≡ Less
 less_is Less h = refl
-less_is Equal h = cc
-less_is Greater h = cc
+less_is _ h = cc
 
 ascending_tail : (one : List ℕ) (others : List (List ℕ)) → ascending (one ∷ others) ≡ true → ascending others ≡ true
 ascending_tail one [] h = refl
-ascending_tail one (two ∷ others) h = (both_true _ _ h).1
+ascending_tail one (two ∷ others) h = (and_parts _ _ h).1
 
 same_one : (one k : List ℕ) → bytes_eq one k ≡ true → one ≡ k
 same_one one k is = (bytes_eq-Decides one k).0 is
@@ -230,14 +184,14 @@ same_one one k is = (bytes_eq-Decides one k).0 is
 before_all : (one k : List ℕ) (others : List (List ℕ)) → ascending (one ∷ others) ≡ true → is_among k others ≡ true → slice_cmp nat_cmp one k ≡ Less
 before_all one k [] up among = cc
 before_all one k (two ∷ others) up among =
-    let first = less_is (slice_cmp nat_cmp one two) (both_true _ _ up).0 in
-    elim (either_true (bytes_eq two k) (is_among k others) among) [
+    let first = less_is (slice_cmp nat_cmp one two) (and_parts _ _ up).0 in
+    elim (or_cases (bytes_eq two k) (is_among k others) among) [
       | inl same ↦ subst (λ (t : List ℕ). slice_cmp nat_cmp one t ≡ Less) (same_one two k same) first
-      | inr more ↦ texts_compute.total.trans one two k first (before_all two k others (both_true _ _ up).1 more.1)
+      | inr more ↦ texts_compute.total.trans one two k first (before_all two k others (and_parts _ _ up).1 more)
     ]
 
-unlike : (one k : List ℕ) → slice_cmp nat_cmp one k ≡ Less → one ≡ k → ⊥
-unlike one k less same = let tied = tied_itself texts_compute.total one in let e : slice_cmp nat_cmp one one ≡ Less = subst (λ (t : List ℕ). slice_cmp nat_cmp one t ≡ Less) (sym same) less in cc
+itself : (a b : List ℕ) → a ≡ b → slice_cmp nat_cmp a b ≡ Equal
+itself a b same = subst (λ (t : List ℕ). slice_cmp nat_cmp a t ≡ Equal) same (tied_itself texts_compute.total a)
 
 -- a required name is that of this member, or of one that comes behind it
 module _ (k l : List ℕ) (e : Json) where
@@ -253,21 +207,17 @@ module _ (k l : List ℕ) (e : Json) where
       by Less cmp gone = cc
       by Equal cmp gone =
           let here : one ≡ l = texts_compute.exact one l cmp in
-          elim (either_true (bytes_eq one k) (is_among k others) among) [
-            | inl same ↦ inl (sym here ∙ same_one one k same, there (is_null e) gone)
-            | inr more ↦ inr (λ at. unlike one k (before_all one k others up more.1) (here ∙ at), (more.1, ascending_tail one others up))
+          elim (or_cases (bytes_eq one k) (is_among k others) among) [
+            | inl same ↦ inl (sym here ∙ same_one one k same, untold (is_null e) one gone)
+            | inr more ↦ inr (λ at. let less = before_all one k others up more in let tied = itself one k (here ∙ at) in cc, (more, ascending_tail one others up))
           ]
-        where
-          there : (b : Bool) → (if b then one ∷ [] else []) ≡ [] → b ≡ false
-          there true h = cc
-          there false h = refl
-      by Greater cmp gone = inr (λ at. apart (subst (λ (t : List ℕ). slice_cmp nat_cmp one t ≡ Greater) at cmp), (among, up))
-        where
-          apart : slice_cmp nat_cmp one k ≡ Greater → ⊥
-          apart more = elim (either_true (bytes_eq one k) (is_among k others) among) [
-            | inl same ↦ let tied = tied_itself texts_compute.total one in let h : slice_cmp nat_cmp one one ≡ Greater = subst (λ (t : List ℕ). slice_cmp nat_cmp one t ≡ Greater) (sym (same_one one k same)) more in cc
-            | inr rest ↦ let less = before_all one k others up rest.1 in cc
-          ]
+      by Greater cmp gone = inr (
+        λ at. elim (or_cases (bytes_eq one k) (is_among k others) among) [
+          | inl same ↦ let tied = itself one l (same_one one k same ∙ sym at) in cc
+          | inr rest ↦ let less = subst (λ (t : List ℕ). slice_cmp nat_cmp one t ≡ Less) (sym at) (before_all one k others up rest) in cc
+        ],
+        (among, up),
+      )
 
 is_some_given : (found : Option Json) (d : Json) → found ≡ Some d → is_null d ≡ false → IsSome (option_and_then unless_null found)
 is_some_given None d is some = cc
@@ -280,8 +230,8 @@ there_from o limit kind names (member l e ms) k up clean among =
     by (slice_cmp nat_cmp k l) refl (step k l e names up here.none_missed among) (there_from o limit kind (later l names) ms k)
   where
     by : (order : Ordering) → slice_cmp nat_cmp k l ≡ order → Step k l e names → (ascending (later l names) ≡ true → MembersFaults o limit kind (later l names) ms [] → is_among k (later l names) ≡ true → IsSome (given k ms)) → IsSome (option_and_then unless_null (match_ordering order (get_member k ms) (Some e) (get_member k ms)))
-    by Less cmp (inl at) behind = let tied = tied_itself texts_compute.total k in let h : slice_cmp nat_cmp k k ≡ Less = subst (λ (t : List ℕ). slice_cmp nat_cmp k t ≡ Less) at.0 cmp in cc
-    by Greater cmp (inl at) behind = let tied = tied_itself texts_compute.total k in let h : slice_cmp nat_cmp k k ≡ Greater = subst (λ (t : List ℕ). slice_cmp nat_cmp k t ≡ Greater) at.0 cmp in cc
+    by Less cmp (inl at) behind = let tied = itself k l (sym at.0) in cc
+    by Greater cmp (inl at) behind = let tied = itself k l (sym at.0) in cc
     by Equal cmp (inl at) behind = is_some_given (Some e) e refl at.1
     by Less cmp (inr more) behind = behind more.1.1 (first_of o limit kind names l e ms clean).rest more.1.0
     by Greater cmp (inr more) behind = behind more.1.1 (first_of o limit kind names l e ms clean).rest more.1.0

@@ -1,8 +1,6 @@
 -- A tree without faults spells what is to stand there.
-use Rattle.std.proofs.Common.{◌≡◌, ◌⊎◌, ℕ, ◌-◌, List, [], ◌∷◌, Bool, true, false, not, ◌&&◌, cond, codes, Option, Some, None, refl, sym, ap, subst, inl, inr, ◌∙◌, Ordering, Less, Equal, Greater}
-use Rattle.std.specs.Ordering.{nat_cmp, match_ordering}
-use Rattle.std.specs.Cmp.Lexicographic.{slice_cmp}
-use Rattle.document_keys.proofs.Order.{texts_compute}
+use Rattle.std.proofs.Common.{rules, ◌≡◌, ◌⊎◌, ℕ, ◌-◌, List, [], ◌∷◌, Bool, true, false, not, codes, Option, Some, None, refl, sym, subst, inl, inr}
+use Rattle.std.proofs.lemmas.Bool.{and_parts, not-true, not-false}
 use Rattle.serde_json.specs.Data as json
 use Rattle.serde_json.specs.Find.{get_member}
 use Rattle.value_model.specs.Data.{Data, null, boolean, integer, time, text, bytes, reference, array_of, map_of, Entries}
@@ -20,9 +18,10 @@ use Rattle.json_model.specs.Faults.{levels_inside}
 use Rattle.json_model.specs.Fits.{Fits, FitsFlat, ItemsFit, MembersFit}
 use Rattle.json_model.specs.Laws.{NoFaultSpells}
 use Rattle.json_model.specs.Leaves.{FitsLeaf}
-use Rattle.json_model.specs.Members.{is_null, is_left_out, given, chosen, is_chosen, is_one_known, lacks_choice, later, refined}
+use Rattle.json_model.specs.Members.{is_null, is_left_out, given, chosen, is_one_known, lacks_choice, later, refined}
 use Rattle.json_model.specs.Origin.{Origin}
 use Rattle.json_model.specs.Places.{member_place, item_place, required, value_member, is_unknown}
+use Rattle.json_model.proofs.Among.{OfEach, each_at, found_among, chosen_among}
 use Rattle.json_model.proofs.Built.{kind_known}
 use Rattle.json_model.proofs.Fitting.{clean_fits}
 use Rattle.json_model.proofs.Sound.{given_some, not_out}
@@ -43,8 +42,7 @@ Spelled place.Unsupported d = ⊥
 Spelled _ d = Unit {0}
 
 abbrev AllSpelled : Object → json.Members → Type 0
-AllSpelled kind json.no_members = Unit {0}
-AllSpelled kind (json.member k d ms) = (is_left_out (member_place kind k) d ≡ false → Spelled (member_place kind k) d) × AllSpelled kind ms
+AllSpelled kind ms = OfEach (λ k d. is_left_out (member_place kind k) d ≡ false → Spelled (member_place kind k) d) ms
 
 leaf_spelled : (o : Origin) (kind : Leaf) (d : json.Data) → FitsLeaf o.root kind d → is_scalar kind ≡ true → (v : Data) × SpellsScalar kind d v
 leaf_spelled o leaf.Null d f is = (null, (f, refl))
@@ -54,79 +52,35 @@ leaf_spelled o leaf.Time d f is = (time f.1.1.0, (f.1.1.0, ((f.0, (f.1.0, f.1.1.
 leaf_spelled o leaf.Text d f is = (text f.0, (f.0, (f.1, refl)))
 leaf_spelled o leaf.Bytes d f is = (bytes f.1.1.0, (f.1.1.0, ((f.0, (f.1.0, f.1.1.1)), refl)))
 leaf_spelled o leaf.Reference d f is = (reference f.1.1.0, (f.1.1.0, ((f.0, (f.1.0, f.1.1.1)), refl)))
-leaf_spelled o leaf.Name d f is = cc
-leaf_spelled o leaf.Path d f is = cc
-leaf_spelled o leaf.ServerTime d f is = cc
-leaf_spelled o leaf.Id d f is = cc
-leaf_spelled o leaf.Parent d f is = cc
-leaf_spelled o leaf.QueryPath d f is = cc
-leaf_spelled o leaf.Limit d f is = cc
-leaf_spelled o leaf.Descendants d f is = cc
-leaf_spelled o leaf.TargetId d f is = cc
-leaf_spelled o leaf.Count d f is = cc
-leaf_spelled o leaf.Code d f is = cc
-leaf_spelled o leaf.ListenerId d f is = cc
-leaf_spelled o (leaf.Constant which) d f is = cc
+leaf_spelled o _ d f is = cc
 
 -- a member, by its name
 named_spelled : (kind : Object) (ms : json.Members) (k : List ℕ) (d : json.Data) → AllSpelled kind ms → get_member k ms ≡ Some d → is_null d ≡ false → Spelled (member_place kind k) d
-named_spelled kind json.no_members k d all is some = cc
-named_spelled kind (json.member l e ms) k d all is some = by (slice_cmp nat_cmp k l) refl is (named_spelled kind ms k d all.1)
-  where
-    by : (order : Ordering) → slice_cmp nat_cmp k l ≡ order → match_ordering order (get_member k ms) (Some e) (get_member k ms) ≡ Some d → (get_member k ms ≡ Some d → is_null d ≡ false → Spelled (member_place kind k) d) → Spelled (member_place kind k) d
-    by Less cmp same behind = behind same some
-    by Greater cmp same behind = behind same some
-    by Equal cmp same behind =
-        let names_are : l ≡ k = sym (texts_compute.exact k l cmp) in
-        let trees : e ≡ d = cc in
-        subst (λ n. Spelled (member_place kind n) d) names_are (subst (λ t. Spelled (member_place kind l) t) trees (all.0 (not_out (member_place kind l) e (ap is_null trees ∙ some))))
+named_spelled kind ms k d all is some = each_at _ ms k d all (found_among ms k d is) (not_out (member_place kind k) d some)
 
 -- the only alternative of a value
 only_spelled : (ms : json.Members) (k : List ℕ) (d : json.Data) → AllSpelled object.Value ms → chosen object.Value ms ≡ (k, d) ∷ [] → Spelled (value_member k) d
-only_spelled json.no_members k d all is = cc
-only_spelled (json.member l e ms) k d all is = by (is_chosen object.Value l e) refl is (only_spelled ms k d all.1)
-  where
-    stays : (a b : Bool) → (a && not b) ≡ true → b ≡ false
-    stays true true h = cc
-    stays true false h = refl
-    stays false b h = cc
-
-    by : (b : Bool) → is_chosen object.Value l e ≡ b → cond b ((l, e) ∷ chosen object.Value ms) (chosen object.Value ms) ≡ (k, d) ∷ [] → (chosen object.Value ms ≡ (k, d) ∷ [] → Spelled (value_member k) d) → Spelled (value_member k) d
-    by false other same behind = behind same
-    by true this same behind =
-        let pair : (l, e) ≡ (k, d) = cc in
-        let names_are : l ≡ k = ap (λ (x : List ℕ × json.Data). x.0) pair in
-        let trees : e ≡ d = ap (λ (x : List ℕ × json.Data). x.1) pair in
-        subst (λ n. Spelled (value_member n) d) names_are (subst (λ t. Spelled (value_member l) t) trees (all.0 (stays (not (is_unknown (value_member l))) (is_left_out (value_member l) e) this)))
+only_spelled ms k d all is =
+    let at = chosen_among object.Value ms k d is in
+    each_at _ ms k d all at.0 (not-true _ (and_parts (not (is_unknown (value_member k))) _ at.1).1)
 
 one_of : (l : List (List ℕ × json.Data)) → is_one_known object.Value l ≡ true → (k : List ℕ) × ((d : json.Data) × ((l ≡ (k, d) ∷ []) × (is_unknown (value_member k) ≡ false)))
 one_of [] is = cc
-one_of (x ∷ []) is = (x.0, (x.1, (refl, negated (is_unknown (value_member x.0)) is)))
-  where
-    negated : (b : Bool) → not b ≡ true → b ≡ false
-    negated true h = cc
-    negated false h = refl
+one_of (x ∷ []) is = (x.0, (x.1, (refl, not-true _ is)))
 one_of (x ∷ y ∷ l) is = cc
 
 kind_spelled : (p : Place) (d : json.Data) → is_kind p ≡ true → Spelled p d → (v : Data) × SpellsKind p d v
 kind_spelled (place.Object object.Array) d is s = s
 kind_spelled (place.Object object.Map) d is s = s
-kind_spelled (place.Object _) d is s = cc
-kind_spelled (place.Series kind) d is s = cc
 kind_spelled (place.Leaf kind) d is s = let found = s is in (found.0, as_scalar found.1)
 kind_spelled place.Unsupported d is s = absurd s
-kind_spelled place.Unknown d is s = cc
-kind_spelled place.Ignored d is s = cc
+kind_spelled _ d is s = cc
 
 value_of : (ms : json.Members) → lacks_choice object.Value ms ≡ false → AllSpelled object.Value ms → (v : Data) × SpellsValue (json.object ms) v
 value_of ms chooses all =
-    let only = one_of (chosen object.Value ms) (negated (is_one_known object.Value (chosen object.Value ms)) chooses) in
+    let only = one_of (chosen object.Value ms) (not-false _ chooses) in
     let found = kind_spelled (value_member only.0) only.1.0 (kind_known only.0 only.1.1.1) (only_spelled ms only.0 only.1.0 all only.1.1.0) in
     (found.0, of_kind ms only.0 only.1.0 refl only.1.1.0 found.1)
-  where
-    negated : (b : Bool) → not b ≡ false → b ≡ true
-    negated true h = refl
-    negated false h = cc
 
 array_in : (ms : json.Members) → AllSpelled object.Array ms → (v : Data) × SpellsKind (place.Object object.Array) (json.object ms) v
 array_in ms all = by (given (codes "values") ms) refl
@@ -168,12 +122,8 @@ object_spelled object.Fields ms chooses all = (ms, (refl, fields_in ms all))
 object_spelled _ ms chooses all = tt
 
 flat_spelled : (o : Origin) (p : Place) (d : json.Data) → FitsFlat o p d → Spelled p d
-flat_spelled o (place.Object kind) d h = absurd h
-flat_spelled o (place.Series kind) d h = absurd h
 flat_spelled o (place.Leaf kind) d h = leaf_spelled o kind d h
-flat_spelled o place.Unsupported d h = absurd h
-flat_spelled o place.Unknown d h = tt
-flat_spelled o place.Ignored d h = tt
+flat_spelled o _ d h = search rules
 
 list_spelled : (kind : Series) (ds : json.Items) → ((item_place kind ≡ place.Object object.Value) → (vs : List Data) × SpellsItems ds vs) → Spelled (place.Series kind) (json.array ds)
 list_spelled series.Values ds items = let found = items refl in (found.0, a_list ds (json.array ds) refl found.1)
@@ -183,22 +133,11 @@ mutual
   unfolding Fits
 
   fits_spelled : (o : Origin) (limit : ℕ) (p : Place) (d : json.Data) → Fits o limit p d → Spelled p d
-  fits_spelled o limit p json.null h = flat_spelled o p json.null h
-  fits_spelled o limit p (json.boolean b) h = flat_spelled o p (json.boolean b) h
-  fits_spelled o limit p (json.number n) h = flat_spelled o p (json.number n) h
-  fits_spelled o limit p (json.string t) h = flat_spelled o p (json.string t) h
   fits_spelled o limit (place.Series kind) (json.array ds) h = list_spelled kind ds (λ is. items_spelled o limit kind ds is h.1)
-  fits_spelled o limit (place.Object kind) (json.array ds) h = absurd h
-  fits_spelled o limit (place.Leaf kind) (json.array ds) h = leaf_spelled o kind (json.array ds) h
-  fits_spelled o limit place.Unsupported (json.array ds) h = absurd h
-  fits_spelled o limit place.Unknown (json.array ds) h = tt
-  fits_spelled o limit place.Ignored (json.array ds) h = tt
   fits_spelled o limit (place.Object kind) (json.object ms) h = object_spelled kind ms h.chooses (members_spelled o (levels_inside kind (limit - h.levels)) (refined kind ms) (required (refined kind ms)) ms h.inside)
-  fits_spelled o limit (place.Series kind) (json.object ms) h = absurd h
-  fits_spelled o limit (place.Leaf kind) (json.object ms) h = leaf_spelled o kind (json.object ms) h
-  fits_spelled o limit place.Unsupported (json.object ms) h = absurd h
-  fits_spelled o limit place.Unknown (json.object ms) h = tt
-  fits_spelled o limit place.Ignored (json.object ms) h = tt
+  fits_spelled o limit p (json.array ds) h = flat_spelled o p (json.array ds) h
+  fits_spelled o limit p (json.object ms) h = flat_spelled o p (json.object ms) h
+  fits_spelled o limit p d h = flat_spelled o p d h
 
   items_spelled : (o : Origin) (limit : ℕ) (kind : Series) (ds : json.Items) → item_place kind ≡ place.Object object.Value → ItemsFit o limit kind ds → (vs : List Data) × SpellsItems ds vs
   items_spelled o limit kind json.no_items is h = ([], no_item)

@@ -1,13 +1,14 @@
 -- What is read can be stored.
-use Rattle.std.proofs.Common.{◌≡◌, ℕ, ℤ, ◌<◌, ◌^◌, List, [], ◌∷◌, ◌++◌, length, Vec, Global, FitsSigned, w64, Ordering, Less, Equal, Greater, refl, sym, ap, subst}
+use Rattle.std.proofs.Common.{◌≡◌, ℕ, ℤ, ◌<◌, ◌^◌, List, [], ◌∷◌, ◌++◌, length, Vec, Global, FitsSigned, w64, Ordering, Less, Equal, Greater, sym, subst}
 use Rattle.std.specs.List.{All}
 use Rattle.std.specs.Map.{keys_of}
 use Rattle.std.specs.Ordering.{nat_cmp, match_ordering}
 use Rattle.std.specs.Cmp.Lexicographic.{slice_cmp}
 use Rattle.std.specs.Str.{IsUtf8}
 use Rattle.serde_json.specs.Data as json
-use Rattle.value_model.specs.Data.{Data, Entries, items_of, members_of, list_of, entries_of, array_of, map_of}
+use Rattle.value_model.specs.Data.{Data, Entries, items_of, members_of, array_of, map_of}
 use Rattle.value_model.specs.Fields.{with_field}
+use Rattle.value_model.proofs.Parts.{list_items, entries_members}
 use Rattle.value_model.specs.Storable.{IsStorable, AreStorableItems, AreStorableMembers, AreStorableBytes, AreStorable, HasStorableNames}
 use Rattle.std.proofs.lemmas.Map.Views.{All-keys-insert_entry}
 use Rattle.std.proofs.lemmas.List.Elements.{All-from_get_or}
@@ -31,20 +32,12 @@ members_put (e ∷ es) name d all one = by (slice_cmp nat_cmp name e.0) (members
     by Equal later = (one, all.1)
     by Greater later = (all.0, later)
 
-pub list_back : (ds : List Data) → list_of (items_of ds) ≡ ds
-list_back [] = refl
-list_back (d ∷ ds) = ap (λ l. d ∷ l) (list_back ds)
-
-pub entries_back : (es : Entries) → entries_of (members_of es) ≡ es
-entries_back [] = refl
-entries_back (e ∷ es) = ap (λ l. e ∷ l) (entries_back es)
-
 -- an array, and a map, whose parts can be stored
 pub array_stored : (vs : Vec Data Global) (v : Data) → v ≡ array_of vs.items → AreStorableItems (items_of vs.items) → length vs.items < 2 ^ 64 → IsStorable v
-array_stored vs v is all count = subst IsStorable (sym is) (all, subst (λ l. length l < 2 ^ 64) (sym (list_back vs.items)) count)
+array_stored vs v is all count = subst IsStorable (sym is) (all, subst (λ l. length l < 2 ^ 64) (sym (list_items vs.items)) count)
 
 pub map_stored : (es : Entries) (v : Data) → v ≡ map_of es → AreStorable es → IsStorable v
-map_stored es v is all = subst IsStorable (sym is) (subst HasStorableNames (sym (entries_back es)) all.0, all.1)
+map_stored es v is all = subst IsStorable (sym is) (subst HasStorableNames (sym (entries_members es)) all.0, all.1)
 
 pub keys_put : (es : Entries) (name : List ℕ) (d : Data) → All IsUtf8 (keys_of es) → IsUtf8 name → All IsUtf8 (keys_of (with_field es name d))
 keys_put es name d all one = All-keys-insert_entry (slice_cmp nat_cmp) name d IsUtf8 es all one

@@ -1,31 +1,22 @@
 -- How deep trees are, and what is inside them.
-use Rattle.std.proofs.Common.{◌≡◌, ◌++◌, ℕ, ◌<◌, ◌≤◌, zero, suc, List, [], ◌∷◌, length, get_or, String, Bool, true, false, cond, Option, Some, None, is_some, Bor, IfSome, option_map, refl, sym, ap, arith, Ordering, Less, Equal, Greater}
+use Rattle.std.proofs.Common.{◌≡◌, ◌++◌, ℕ, ◌<◌, ◌≤◌, zero, suc, List, [], ◌∷◌, length, get_or, String, Option, Some, None, is_some, Bor, IfSome, option_map, refl, sym, ap, inl, inr, arith}
 use Rattle.std.specs.declared.alloc.Global.{Global}
-use Rattle.std.specs.Option.{option_and_then}
-use Rattle.std.specs.Ordering.{nat_cmp, match_ordering}
-use Rattle.std.specs.Cmp.Lexicographic.{slice_cmp}
-use Rattle.serde_json.specs.Data.{Data as Tree, null, boolean, number, string, array, object, Members, no_members, member, Items, depth, items_depth, members_depth}
+use Rattle.serde_json.specs.Data.{Data as Tree, null, array, object, Members, no_members, member, Items, depth, items_depth, members_depth}
 use Rattle.serde_json.specs.Find.{as_object, as_array, as_null, get_member}
 use Rattle.serde_json.specs.View.{view, items_view, members_view}
 use Rattle.serde_json.specs.declared.value.Value.{Value as Json}
 use Rattle.json_model.specs.declared.place.Object.{Object}
-use Rattle.json_model.specs.Members.{given, unless_null, is_null, chosen, is_chosen}
+use Rattle.json_model.specs.Members.{given, is_null, chosen}
+use Rattle.json_model.proofs.Among.{Among, found_among, chosen_among, entry_among}
+use Rattle.json_model.proofs.Sound.{given_some}
 
 pub object_at : (d : Tree) (ms : Members) → Some ms ≡ as_object d → d ≡ object ms
 object_at (object ns) ms is = let e : ns ≡ ms = cc in ap object e
-object_at null ms is = cc
-object_at (boolean b) ms is = cc
-object_at (number n) ms is = cc
-object_at (string t) ms is = cc
-object_at (array ds) ms is = cc
+object_at _ ms is = cc
 
 pub array_at : (d : Tree) (ds : Items) → Some ds ≡ as_array d → d ≡ array ds
 array_at (array es) ds is = let e : es ≡ ds = cc in ap array e
-array_at null ds is = cc
-array_at (boolean b) ds is = cc
-array_at (number n) ds is = cc
-array_at (string t) ds is = cc
-array_at (object ms) ds is = cc
+array_at _ ds is = cc
 
 pub object_depth : (d : Tree) (ms : Members) → Some ms ≡ as_object d → depth d ≡ suc (members_depth ms)
 object_depth d ms is = ap depth (object_at d ms is)
@@ -33,39 +24,17 @@ object_depth d ms is = ap depth (object_at d ms is)
 pub array_depth : (d : Tree) (ds : Items) → Some ds ≡ as_array d → depth d ≡ suc (items_depth ds)
 array_depth d ds is = ap depth (array_at d ds is)
 
-abbrev head_tree : List (List ℕ × Tree) → Tree
-head_tree [] = null
-head_tree (e ∷ es) = e.1
+-- one of the members is inside
+pub among_depth : (ms : Members) (k : List ℕ) (d : Tree) → Among k d ms → depth d ≤ members_depth ms
+among_depth no_members k d at = absurd at
+among_depth (member l e ms) k d (inl here) = let f : depth e ≡ depth d = ap (λ (x : List ℕ × Tree). depth x.1) here in omega arith
+among_depth (member l e ms) k d (inr behind) = let rest = among_depth ms k d behind in omega arith
 
--- the only alternative is inside
 pub choice_depth : (o : Object) (ms : Members) (name : List ℕ) (d : Tree) → chosen o ms ≡ (name, d) ∷ [] → depth d ≤ members_depth ms
-choice_depth o no_members name d is = cc
-choice_depth o (member k e ms) name d is = by (is_chosen o k e) is (choice_depth o ms name d)
-  where
-    by : (b : Bool) → cond b ((k, e) ∷ chosen o ms) (chosen o ms) ≡ (name, d) ∷ [] → (chosen o ms ≡ (name, d) ∷ [] → depth d ≤ members_depth ms) → depth d ≤ members_depth (member k e ms)
-    by true same later = let one : e ≡ d = ap head_tree same in let f : depth e ≡ depth d = ap depth one in omega arith
-    by false same later = let rest = later same in omega arith
-
--- a member that is given is inside
-member_depth : (ms : Members) (name : List ℕ) (d : Tree) → get_member name ms ≡ Some d → depth d ≤ members_depth ms
-member_depth no_members name d is = cc
-member_depth (member k e ms) name d is = by (slice_cmp nat_cmp name k) is (member_depth ms name d)
-  where
-    by : (o : Ordering) → match_ordering o (get_member name ms) (Some e) (get_member name ms) ≡ Some d → (get_member name ms ≡ Some d → depth d ≤ members_depth ms) → depth d ≤ members_depth (member k e ms)
-    by Less same later = let rest = later same in omega arith
-    by Equal same later = let one : e ≡ d = cc in let f : depth e ≡ depth d = ap depth one in omega arith
-    by Greater same later = let rest = later same in omega arith
-
-given_is : (o : Option Tree) (d : Tree) → option_and_then unless_null o ≡ Some d → o ≡ Some d
-given_is None d is = cc
-given_is (Some e) d is = by (is_null e) is
-  where
-    by : (b : Bool) → cond b None (Some e) ≡ Some d → Some e ≡ Some d
-    by true same = cc
-    by false same = same
+choice_depth o ms name d is = among_depth ms name d (chosen_among o ms name d is).0
 
 pub given_depth : (ms : Members) (name : List ℕ) (d : Tree) → Some d ≡ given name ms → depth d ≤ members_depth ms
-given_depth ms name d is = member_depth ms name d (given_is (get_member name ms) d (sym is))
+given_depth ms name d is = among_depth ms name d (found_among ms name d (given_some (get_member name ms) d (sym is)).0)
 
 pub given_within : (ms : Members) (name : List ℕ) (found : Option (Bor Json)) → option_map (λ v. view v.now) found ≡ given name ms → IfSome found (λ v. depth (view v.now) ≤ members_depth ms)
 given_within ms name None is = tt
@@ -77,14 +46,9 @@ item_depth (x ∷ items) zero one below is = let f : depth (view one) ≡ depth 
 item_depth (x ∷ items) (suc i) one below is = let rest = item_depth items i one (omega arith) is in omega arith
 
 pub entry_depth : (done rest : List (String Global × Json)) (e : String Global × Json) → depth (view e.1) ≤ members_depth (members_view (done ++ e ∷ rest))
-entry_depth [] rest e = omega arith
-entry_depth (x ∷ done) rest e = let more = entry_depth done rest e in omega arith
+entry_depth done rest e = among_depth (members_view (done ++ e ∷ rest)) _ (view e.1) (entry_among done rest e)
 
 -- the test for null
 pub null_test : (d : Tree) → is_null d ≡ is_some (as_null d)
 null_test null = refl
-null_test (boolean b) = refl
-null_test (number n) = refl
-null_test (string t) = refl
-null_test (array ds) = refl
-null_test (object ms) = refl
+null_test _ = refl

@@ -4,8 +4,7 @@ use Rattle.std.specs.Bool.{◌==◌}
 use Rattle.std.proofs.lemmas.Bool.Decides.{eqb_tells}
 use Rattle.std.specs.String.{string_bytes}
 use Rattle.std.specs.declared.alloc.Global.{Global}
-use Rattle.std.proofs.lemmas.List.{take_more}
-use Rattle.serde_json.specs.Data.{Data as Tree, null, boolean, number, string, array, object as an_object, Members, Items, no_items}
+use Rattle.serde_json.specs.Data.{Data as Tree, null, string, array, object as an_object, Members, Items, no_items}
 use Rattle.serde_json.specs.Find.{as_str}
 use Rattle.serde_json.specs.View.{view, items_view, members_view}
 use Rattle.serde_json.specs.declared.value.Value.{Value as Json, Null, Bool as Boolean, Number, String as Text, the_lemmas}
@@ -22,6 +21,7 @@ use Rattle.json_model.specs.Origin.{Origin}
 use Rattle.json_model.specs.Places.{member_place, item_place, required}
 use Rattle.json_model.specs.Ranks.{better, first_of_least}
 use Rattle.document_keys.specs.Paths.{SpellsPath}
+use Rattle.json_model.proofs.Built.{items_at}
 use Rattle.json_model.proofs.Kinded.{text_at}
 use Rattle.json_model.proofs.Firsts.{first_append, better_assoc, none_first}
 
@@ -78,11 +78,7 @@ module _ (o : Origin) (limit : ℕ) (name : List ℕ) (found : Option JsonFault)
   object_flat : (p : Place) (ms : Members) → ((kind : Object) → p ≢ place.Object kind) → FirstOf (FlatFaults o p name (an_object ms)) found → FirstOf (FaultsAt o limit p name (an_object ms)) found
   unfolding FaultsAt
   object_flat (place.Object kind) ms none first = absurd (none kind refl)
-  object_flat (place.Series kind) ms none first = record { faults = first.faults; are = first.are; first = first.first }
-  object_flat (place.Leaf kind) ms none first = record { faults = first.faults; are = first.are; first = first.first }
-  object_flat place.Unsupported ms none first = record { faults = first.faults; are = first.are; first = first.first }
-  object_flat place.Unknown ms none first = record { faults = first.faults; are = first.are; first = first.first }
-  object_flat place.Ignored ms none first = record { faults = first.faults; are = first.are; first = first.first }
+  object_flat _ ms none first = record { faults = first.faults; are = first.are; first = first.first }
 
   pub flat_object : (p : Place) (d : Tree) (ms : Members) → d ≡ an_object ms → ((kind : Object) → p ≢ place.Object kind) → FirstOf (FlatFaults o p name d) found → FirstOf (FaultsAt o limit p name d) found
   flat_object p d ms is none = subst (λ e. FirstOf (FlatFaults o p name e) found → FirstOf (FaultsAt o limit p name e) found) (sym is) (object_flat p ms none)
@@ -90,23 +86,16 @@ module _ (o : Origin) (limit : ℕ) (name : List ℕ) (found : Option JsonFault)
   list_flat : (p : Place) (ds : Items) → ((kind : Series) → p ≢ place.Series kind) → FirstOf (FlatFaults o p name (array ds)) found → FirstOf (FaultsAt o limit p name (array ds)) found
   unfolding FaultsAt
   list_flat (place.Series kind) ds none first = absurd (none kind refl)
-  list_flat (place.Object kind) ds none first = record { faults = first.faults; are = first.are; first = first.first }
-  list_flat (place.Leaf kind) ds none first = record { faults = first.faults; are = first.are; first = first.first }
-  list_flat place.Unsupported ds none first = record { faults = first.faults; are = first.are; first = first.first }
-  list_flat place.Unknown ds none first = record { faults = first.faults; are = first.are; first = first.first }
-  list_flat place.Ignored ds none first = record { faults = first.faults; are = first.are; first = first.first }
+  list_flat _ ds none first = record { faults = first.faults; are = first.are; first = first.first }
 
   pub flat_list : (p : Place) (d : Tree) (ds : Items) → d ≡ array ds → ((kind : Series) → p ≢ place.Series kind) → FirstOf (FlatFaults o p name d) found → FirstOf (FaultsAt o limit p name d) found
   flat_list p d ds is none = subst (λ e. FirstOf (FlatFaults o p name e) found → FirstOf (FaultsAt o limit p name e) found) (sym is) (list_flat p ds none)
 
   scalar_flat : (p : Place) (d : Tree) → is_scalar d ≡ true → FirstOf (FlatFaults o p name d) found → FirstOf (FaultsAt o limit p name d) found
   unfolding FaultsAt
-  scalar_flat p null flat first = record { faults = first.faults; are = first.are; first = first.first }
-  scalar_flat p (boolean b) flat first = record { faults = first.faults; are = first.are; first = first.first }
-  scalar_flat p (number n) flat first = record { faults = first.faults; are = first.are; first = first.first }
-  scalar_flat p (string t) flat first = record { faults = first.faults; are = first.are; first = first.first }
   scalar_flat p (array ds) flat first = cc
   scalar_flat p (an_object ms) flat first = cc
+  scalar_flat p _ flat first = record { faults = first.faults; are = first.are; first = first.first }
 
   pub flat_scalar : (p : Place) (d e : Tree) → d ≡ e → is_scalar e ≡ true → FirstOf (FlatFaults o p name d) found → FirstOf (FaultsAt o limit p name d) found
   flat_scalar p d e is flat first = scalar_flat p d (ap is_scalar is ∙ flat) first
@@ -148,9 +137,6 @@ unfolding FaultsAt
 items_push o limit kind name [] one xs ys are at = (ys, [], at, refl, ap (λ l. l ++ ys) are ∙ sym (append-nil ys))
 items_push o limit kind name (i ∷ items) one xs ys are at =
     (are.0, are.1 ++ ys, are.2, items_push o limit kind name items one are.1 ys are.3 at, ap (λ l. l ++ ys) are.4 ∙ append_assoc are.0 are.1 ys)
-
-items_at : (items : List Json) (i : ℕ) (one : Json) → i < length items → one ≡ get_or items i one → take (i + 1) items ≡ take i items ++ one ∷ []
-items_at items i one below is = take_more items i one below ∙ ap (λ x. take i items ++ x ∷ []) (sym is)
 
 pub items_start : (o : Origin) (limit : ℕ) (kind : Series) (name : List ℕ) → FirstOf (ItemsFaults o limit kind name no_items) None
 unfolding FaultsAt

@@ -108,6 +108,34 @@ FitsLeaf root leaf.Code d = (n : ℕ) × SpellsUpTo max_code d n
 FitsLeaf root leaf.ListenerId d = (n : ℕ) × SpellsUpTo max_listener_id d n
 FitsLeaf root (leaf.Constant which) d = IsTextOf (λ text. is_constant which text ≡ true) d
 
+-- a leaf of that kind is a text of which a fact holds
+abbrev pub is_of_text : Leaf → Bool
+is_of_text leaf.Null = false
+is_of_text leaf.Boolean = false
+is_of_text leaf.Integer = false
+is_of_text leaf.Text = false
+is_of_text leaf.ServerTime = false
+is_of_text leaf.Limit = false
+is_of_text leaf.Descendants = false
+is_of_text leaf.TargetId = false
+is_of_text leaf.Count = false
+is_of_text leaf.Code = false
+is_of_text leaf.ListenerId = false
+is_of_text _ = true
+
+-- that fact
+abbrev pub FitsText : Root → Leaf → List ℕ → Type 0
+FitsText root leaf.Time text = IsTimeText text
+FitsText root leaf.Bytes text = IsBytesText text
+FitsText root leaf.Reference text = IsReferenceText text
+FitsText root leaf.Name text = IsDocumentText root text
+FitsText root leaf.Path text = IsFieldPathText text
+FitsText root leaf.Id text = IsSegment text
+FitsText root leaf.Parent text = IsParentText root text
+FitsText root leaf.QueryPath text = IsQueryPathText text
+FitsText root (leaf.Constant which) text = is_constant which text ≡ true
+FitsText root _ text = ⊥
+
 -- ---- the faults of what may not
 
 -- the faults of a text that is to be a name: none, or one of these
@@ -181,6 +209,19 @@ DocumentFaults root text faults = NamingFaults (IsDocumentText root text) (HasDo
 -- of a text that is to name a document, or the root's `documents`
 abbrev pub ParentFaults : Root → List ℕ → List JsonFault → Type 0
 ParentFaults root text faults = ((text ≡ documents_text root) × (faults ≡ [])) ⊎ ((text ≢ documents_text root) × DocumentFaults root text faults)
+
+-- the faults of a text that is to be a leaf of that kind
+abbrev pub TextFaults : Root → Leaf → List ℕ → List ℕ → List JsonFault → Type 0
+TextFaults root leaf.Time name text faults = Unless (IsTimeText text) (json_fault.BadTime name) faults
+TextFaults root leaf.Bytes name text faults = Unless (IsBytesText text) (json_fault.BadBytes name) faults
+TextFaults root leaf.Reference name text faults = ReferenceFaults text faults
+TextFaults root leaf.Name name text faults = DocumentFaults root text faults
+TextFaults root leaf.Path name text faults = PathFaults text faults
+TextFaults root leaf.Id name text faults = IdFaults text faults
+TextFaults root leaf.Parent name text faults = ParentFaults root text faults
+TextFaults root leaf.QueryPath name text faults = QueryPathFaults text faults
+TextFaults root (leaf.Constant which) name text faults = faults ≡ constant_faults which name text
+TextFaults root _ name text faults = faults ≡ []
 
 -- the faults of a leaf of that kind, under that name
 abbrev pub LeafFaults : Root → Leaf → List ℕ → Json → List JsonFault → Type 0

@@ -23,6 +23,7 @@ use std::alloc::Global;
 ///
 /// # Errors
 /// The first fault of the least kind, or `NoMemory`.
+#[tactic(auto, using(crate::proofs::Firsts::none_found))]
 pub fn check(
     alloc: Global,
     setting: &Setting<'_>,
@@ -42,6 +43,7 @@ pub fn check(
 }
 
 /// The members of an object without faults.
+#[tactic(auto, using(crate::proofs::Sound::object_there))]
 pub fn clean_object<'a>(
     _setting: &Setting<'_>,
     _object: Object,
@@ -59,6 +61,7 @@ pub fn clean_object<'a>(
 }
 
 /// The items of a list without faults.
+#[tactic(auto, using(crate::proofs::Sound::list_there))]
 pub fn clean_list<'a>(_setting: &Setting<'_>, _series: Series, json: &'a Json) -> &'a Vec<Json>
     requires { IsClean _setting.now (places.Series _series) (view json.now) }
     ensures is { as_array (view json.now) ≡ Some (items_view result.now.items) }
@@ -72,6 +75,7 @@ pub fn clean_list<'a>(_setting: &Setting<'_>, _series: Series, json: &'a Json) -
 }
 
 /// What stands under the name in an object without faults. A required member is there.
+#[tactic(auto, using(crate::proofs::Sound::given_all))]
 pub fn clean_member<'a>(
     _setting: &Setting<'_>,
     _object: Object,
@@ -88,6 +92,7 @@ pub fn clean_member<'a>(
 }
 
 /// The alternative of an object without faults that must have exactly one, with its name.
+#[tactic(auto, using(crate::proofs::Choices::choice_clean, crate::proofs::Choices::chosen_choice, crate::proofs::Trees::choice_depth))]
 pub fn clean_choice<'a>(
     _setting: &Setting<'_>,
     object: Object,

@@ -1,6 +1,7 @@
 //! Leaves without faults, read.
 
-ghost use Rattle.std.specs.Prelude.{◌≡◌, ℤ, true, IfOk, IfSome};
+ghost use Rattle.std.specs.Prelude.{◌≡◌, ℕ, ℤ, true, IfOk, IfSome};
+ghost use Rattle.document_keys.specs.Names.{IsKey, name_text};
 ghost use Rattle.serde_json.specs.Data.{boolean, string};
 ghost use Rattle.serde_json.specs.View.{view};
 ghost use Rattle.value_model.specs.Storable.{IsStorableKey, IsStorableName, IsStorableSegment};
@@ -11,6 +12,7 @@ ghost use Rattle.json_model.specs.declared.fault.JsonFault.TheVariants as json_f
 ghost use Rattle.json_model.specs.Clean.{IsClean};
 ghost use Rattle.json_model.specs.Constants.{is_constant};
 ghost use Rattle.json_model.specs.Grammar.{SpellsTime, SpellsName, SpellsText, SpellsBytesTree, SpellsReferenceTree, SpellsPathTree, SpellsId, SpellsParent, SpellsQueryPathTree};
+ghost use Rattle.json_model.specs.Leaves.{FitsLeaf, is_of_text, FitsText, IsDocumentText};
 ghost use Rattle.json_model.specs.Numbers.{SpellsWhole, SpellsShort, SpellsUpTo, max_count, max_code, max_listener_id};
 ghost use Rattle.json_model.specs.Storable.{IsStorablePath, IsStorableQueryPath};
 
@@ -20,10 +22,10 @@ use crate::names::{
     is_documents, read_key, read_path, read_query_path, read_reference, read_segment,
 };
 use crate::numbers::{MAX_CODE, MAX_COUNT, MAX_LISTENER_ID, read_short, read_up_to, read_whole};
-use crate::place::Constants;
+use crate::place::{Constants, Leaf};
 use crate::setting::Setting;
 use crate::texts::{show_key, show_path, show_segment};
-use document_keys::{DocumentKey, FieldPath, NoMemory, Segment};
+use document_keys::{Database, DocumentKey, FieldPath, NoMemory, Segment};
 use serde_json::Value as Json;
 use std::alloc::Global;
 use value_model::{RefName, Timestamp};
@@ -38,11 +40,32 @@ fn want_of_memory(fault: JsonFault) -> NoMemory
     }
 }
 
+/// A leaf without faults is what may stand there. Nothing is done when this runs.
+#[tactic(auto, using(crate::proofs::Fine::clean_leaf))]
+fn show_leaf(_setting: &Setting<'_>, _leaf: Leaf, _json: &Json)
+    requires { IsClean _setting.now (places.Leaf _leaf) (view _json.now) }
+    ensures { FitsLeaf _setting.now.root _leaf (view _json.now) }
+{}
+
+/// The text of a leaf that is one.
+fn clean_leaf_text<'a>(_setting: &Setting<'_>, _leaf: Leaf, json: &'a Json) -> &'a str
+    requires clean { IsClean _setting.now (places.Leaf _leaf) (view json.now) }
+    requires of_text { is_of_text _leaf ≡ true }
+    ensures text { SpellsText (view json.now) result.now }
+    ensures fits { FitsText _setting.now.root _leaf result.now }
+{
+    match json.as_str() {
+        Some(text) => text,
+        None => unreachable!(),
+    }
+}
+
 /// true or false.
-pub fn clean_boolean(_setting: &Setting<'_>, json: &Json) -> bool
-    requires { IsClean _setting.now (places.Leaf leaves.Boolean) (view json.now) }
+pub fn clean_boolean(setting: &Setting<'_>, json: &Json) -> bool
+    requires { IsClean setting.now (places.Leaf leaves.Boolean) (view json.now) }
     ensures { view json.now ≡ boolean result }
 {
+    show_leaf(setting, Leaf::Boolean, json);
     match json.as_bool() {
         Some(is) => is,
         None => unreachable!(),
@@ -53,10 +76,11 @@ pub fn clean_boolean(_setting: &Setting<'_>, json: &Json) -> bool
 ///
 /// # Errors
 /// `NoMemory`
-pub fn clean_integer(alloc: Global, _setting: &Setting<'_>, json: &Json) -> Result<i64, NoMemory>
-    requires { IsClean _setting.now (places.Leaf leaves.Integer) (view json.now) }
+pub fn clean_integer(alloc: Global, setting: &Setting<'_>, json: &Json) -> Result<i64, NoMemory>
+    requires { IsClean setting.now (places.Leaf leaves.Integer) (view json.now) }
     ensures { IfOk result (λ z. SpellsWhole (view json.now) z) }
 {
+    show_leaf(setting, Leaf::Integer, json);
     match read_whole(alloc, json)? {
         Some(number) => Ok(number),
         None => unreachable!(),
@@ -64,14 +88,12 @@ pub fn clean_integer(alloc: Global, _setting: &Setting<'_>, json: &Json) -> Resu
 }
 
 /// A time.
-pub fn clean_time(_setting: &Setting<'_>, json: &Json) -> Timestamp
-    requires { IsClean _setting.now (places.Leaf leaves.Time) (view json.now) }
+pub fn clean_time(setting: &Setting<'_>, json: &Json) -> Timestamp
+    requires { IsClean setting.now (places.Leaf leaves.Time) (view json.now) }
     ensures time { SpellsTime (view json.now) result }
     ensures moment { IsMoment result }
 {
-    let Some(text) = json.as_str() else {
-        unreachable!();
-    };
+    let text = clean_leaf_text(setting, Leaf::Time, json);
     match Timestamp::read(text) {
         Some(time) => time,
         None => unreachable!(),
@@ -79,10 +101,11 @@ pub fn clean_time(_setting: &Setting<'_>, json: &Json) -> Timestamp
 }
 
 /// A text.
-pub fn clean_text<'a>(_setting: &Setting<'_>, json: &'a Json) -> &'a str
-    requires { IsClean _setting.now (places.Leaf leaves.Text) (view json.now) }
+pub fn clean_text<'a>(setting: &Setting<'_>, json: &'a Json) -> &'a str
+    requires { IsClean setting.now (places.Leaf leaves.Text) (view json.now) }
     ensures { SpellsText (view json.now) result.now }
 {
+    show_leaf(setting, Leaf::Text, json);
     match json.as_str() {
         Some(text) => text,
         None => unreachable!(),
@@ -93,13 +116,11 @@ pub fn clean_text<'a>(_setting: &Setting<'_>, json: &'a Json) -> &'a str
 ///
 /// # Errors
 /// `NoMemory`
-pub fn clean_bytes(alloc: Global, _setting: &Setting<'_>, json: &Json) -> Result<Vec<u8>, NoMemory>
-    requires { IsClean _setting.now (places.Leaf leaves.Bytes) (view json.now) }
+pub fn clean_bytes(alloc: Global, setting: &Setting<'_>, json: &Json) -> Result<Vec<u8>, NoMemory>
+    requires { IsClean setting.now (places.Leaf leaves.Bytes) (view json.now) }
     ensures { IfOk result (λ bytes. SpellsBytesTree (view json.now) bytes.items) }
 {
-    let Some(text) = json.as_str() else {
-        unreachable!();
-    };
+    let text = clean_leaf_text(setting, Leaf::Bytes, json);
     match read_bytes(alloc, text)? {
         Some(bytes) => Ok(bytes),
         None => unreachable!(),
@@ -112,18 +133,31 @@ pub fn clean_bytes(alloc: Global, _setting: &Setting<'_>, json: &Json) -> Result
 /// `NoMemory`
 pub fn clean_reference(
     alloc: Global,
-    _setting: &Setting<'_>,
+    setting: &Setting<'_>,
     json: &Json,
 ) -> Result<RefName, NoMemory>
-    requires { IsClean _setting.now (places.Leaf leaves.Reference) (view json.now) }
+    requires { IsClean setting.now (places.Leaf leaves.Reference) (view json.now) }
     ensures name { IfOk result (λ name. SpellsReferenceTree (view json.now) name) }
     ensures storable { IfOk result IsStorableName }
 {
-    let Some(text) = json.as_str() else {
-        unreachable!();
-    };
+    let text = clean_leaf_text(setting, Leaf::Reference, json);
     match read_reference(alloc, text) {
         Ok(name) => Ok(name),
+        Err(fault) => Err(want_of_memory(fault)),
+    }
+}
+
+/// The key of the document that the text names.
+fn clean_key(alloc: Global, root: &Database, text: &str) -> Result<DocumentKey, NoMemory>
+    requires { IsDocumentText root.now text.now }
+    ensures name { IfOk result (λ key. IsKey key × (text.now ≡ name_text root.now key)) }
+    ensures storable { IfOk result IsStorableKey }
+{
+    match read_key(alloc, root, text) {
+        Ok(key) => {
+            show_key(&key);
+            Ok(key)
+        }
         Err(fault) => Err(want_of_memory(fault)),
     }
 }
@@ -141,30 +175,21 @@ pub fn clean_name(
     ensures name { IfOk result (λ key. SpellsName setting.now.root (view json.now) key) }
     ensures storable { IfOk result IsStorableKey }
 {
-    let Some(text) = json.as_str() else {
-        unreachable!();
-    };
-    match read_key(alloc, setting.root, text) {
-        Ok(key) => {
-            show_key(&key);
-            Ok(key)
-        }
-        Err(fault) => Err(want_of_memory(fault)),
-    }
+    let text = clean_leaf_text(setting, Leaf::Name, json);
+    clean_key(alloc, setting.root, text)
 }
 
 /// The path of a field.
 ///
 /// # Errors
 /// `NoMemory`
-pub fn clean_path(alloc: Global, _setting: &Setting<'_>, json: &Json) -> Result<FieldPath, NoMemory>
-    requires { IsClean _setting.now (places.Leaf leaves.Path) (view json.now) }
+#[tactic(auto, using(crate::proofs::OneLeaf::no_path_fault))]
+pub fn clean_path(alloc: Global, setting: &Setting<'_>, json: &Json) -> Result<FieldPath, NoMemory>
+    requires { IsClean setting.now (places.Leaf leaves.Path) (view json.now) }
     ensures path { IfOk result (λ path. SpellsPathTree (view json.now) path) }
     ensures storable { IfOk result IsStorablePath }
 {
-    let Some(text) = json.as_str() else {
-        unreachable!();
-    };
+    let text = clean_leaf_text(setting, Leaf::Path, json);
     match read_path(alloc, text) {
         Ok(path) => {
             show_path(&path);
@@ -178,14 +203,12 @@ pub fn clean_path(alloc: Global, _setting: &Setting<'_>, json: &Json) -> Result<
 ///
 /// # Errors
 /// `NoMemory`
-pub fn clean_id(alloc: Global, _setting: &Setting<'_>, json: &Json) -> Result<Segment, NoMemory>
-    requires { IsClean _setting.now (places.Leaf leaves.Id) (view json.now) }
+pub fn clean_id(alloc: Global, setting: &Setting<'_>, json: &Json) -> Result<Segment, NoMemory>
+    requires { IsClean setting.now (places.Leaf leaves.Id) (view json.now) }
     ensures id { IfOk result (λ id. SpellsId (view json.now) id) }
     ensures storable { IfOk result IsStorableSegment }
 {
-    let Some(text) = json.as_str() else {
-        unreachable!();
-    };
+    let text = clean_leaf_text(setting, Leaf::Id, json);
     match read_segment(alloc, text)? {
         Some(id) => {
             show_segment(&id);
@@ -208,37 +231,28 @@ pub fn clean_parent(
     ensures parent { IfOk result (λ parent. SpellsParent setting.now.root (view json.now) parent) }
     ensures storable { IfOk result (λ parent. IfSome parent IsStorableKey) }
 {
-    let Some(text) = json.as_str() else {
-        unreachable!();
-    };
+    let text = clean_leaf_text(setting, Leaf::Parent, json);
     if is_documents(setting.root, text) {
         return Ok(None);
     }
-    match read_key(alloc, setting.root, text) {
-        Ok(key) => {
-            show_key(&key);
-            Ok(Some(key))
-        }
-        Err(fault) => Err(want_of_memory(fault)),
-    }
+    Ok(Some(clean_key(alloc, setting.root, text)?))
 }
 
 /// The path of a field in a query, or `__name__`.
 ///
 /// # Errors
 /// `NoMemory`
+#[tactic(auto, using(crate::proofs::OneLeaf::no_query_fault))]
 pub fn clean_query_path(
     alloc: Global,
-    _setting: &Setting<'_>,
+    setting: &Setting<'_>,
     json: &Json,
 ) -> Result<FieldPath, NoMemory>
-    requires { IsClean _setting.now (places.Leaf leaves.QueryPath) (view json.now) }
+    requires { IsClean setting.now (places.Leaf leaves.QueryPath) (view json.now) }
     ensures path { IfOk result (λ path. SpellsQueryPathTree (view json.now) path) }
     ensures storable { IfOk result IsStorableQueryPath }
 {
-    let Some(text) = json.as_str() else {
-        unreachable!();
-    };
+    let text = clean_leaf_text(setting, Leaf::QueryPath, json);
     match read_query_path(alloc, text) {
         Ok(path) => {
             show_path(&path);
@@ -248,12 +262,9 @@ pub fn clean_query_path(
     }
 }
 
-/// A whole number of 32 bits with sign.
-///
-/// # Errors
-/// `NoMemory`
-pub fn clean_limit(alloc: Global, _setting: &Setting<'_>, json: &Json) -> Result<i32, NoMemory>
-    requires { IsClean _setting.now (places.Leaf leaves.Limit) (view json.now) }
+/// The whole number of 32 bits with sign that the tree spells.
+fn clean_short(alloc: Global, json: &Json) -> Result<i32, NoMemory>
+    requires { (z : ℤ) × SpellsShort (view json.now) z }
     ensures { IfOk result (λ z. SpellsShort (view json.now) z) }
 {
     match read_short(alloc, json)? {
@@ -262,15 +273,36 @@ pub fn clean_limit(alloc: Global, _setting: &Setting<'_>, json: &Json) -> Result
     }
 }
 
+/// A whole number of 32 bits with sign.
+///
+/// # Errors
+/// `NoMemory`
+pub fn clean_limit(alloc: Global, setting: &Setting<'_>, json: &Json) -> Result<i32, NoMemory>
+    requires { IsClean setting.now (places.Leaf leaves.Limit) (view json.now) }
+    ensures { IfOk result (λ z. SpellsShort (view json.now) z) }
+{
+    show_leaf(setting, Leaf::Limit, json);
+    clean_short(alloc, json)
+}
+
 /// The id of a target.
 ///
 /// # Errors
 /// `NoMemory`
-pub fn clean_target_id(alloc: Global, _setting: &Setting<'_>, json: &Json) -> Result<i32, NoMemory>
-    requires { IsClean _setting.now (places.Leaf leaves.TargetId) (view json.now) }
+pub fn clean_target_id(alloc: Global, setting: &Setting<'_>, json: &Json) -> Result<i32, NoMemory>
+    requires { IsClean setting.now (places.Leaf leaves.TargetId) (view json.now) }
     ensures { IfOk result (λ z. SpellsShort (view json.now) z) }
 {
-    match read_short(alloc, json)? {
+    show_leaf(setting, Leaf::TargetId, json);
+    clean_short(alloc, json)
+}
+
+/// The whole number from 0 to the most that the tree spells.
+fn clean_up_to(alloc: Global, most: u32, json: &Json) -> Result<u32, NoMemory>
+    requires { (n : ℕ) × SpellsUpTo most (view json.now) n }
+    ensures { IfOk result (λ n. SpellsUpTo most (view json.now) n) }
+{
+    match read_up_to(alloc, most, json)? {
         Some(number) => Ok(number),
         None => unreachable!(),
     }
@@ -280,56 +312,43 @@ pub fn clean_target_id(alloc: Global, _setting: &Setting<'_>, json: &Json) -> Re
 ///
 /// # Errors
 /// `NoMemory`
-pub fn clean_count(alloc: Global, _setting: &Setting<'_>, json: &Json) -> Result<u32, NoMemory>
-    requires { IsClean _setting.now (places.Leaf leaves.Count) (view json.now) }
+pub fn clean_count(alloc: Global, setting: &Setting<'_>, json: &Json) -> Result<u32, NoMemory>
+    requires { IsClean setting.now (places.Leaf leaves.Count) (view json.now) }
     ensures { IfOk result (λ n. SpellsUpTo max_count (view json.now) n) }
 {
-    match read_up_to(alloc, MAX_COUNT, json)? {
-        Some(count) => Ok(count),
-        None => unreachable!(),
-    }
+    show_leaf(setting, Leaf::Count, json);
+    clean_up_to(alloc, MAX_COUNT, json)
 }
 
 /// The code of a status.
 ///
 /// # Errors
 /// `NoMemory`
-pub fn clean_code(alloc: Global, _setting: &Setting<'_>, json: &Json) -> Result<u8, NoMemory>
-    requires { IsClean _setting.now (places.Leaf leaves.Code) (view json.now) }
+pub fn clean_code(alloc: Global, setting: &Setting<'_>, json: &Json) -> Result<u8, NoMemory>
+    requires { IsClean setting.now (places.Leaf leaves.Code) (view json.now) }
     ensures { IfOk result (λ n. SpellsUpTo max_code (view json.now) n) }
 {
-    match read_up_to(alloc, MAX_CODE, json)? {
-        Some(code) => Ok(code as u8),
-        None => unreachable!(),
-    }
+    show_leaf(setting, Leaf::Code, json);
+    Ok(clean_up_to(alloc, MAX_CODE, json)? as u8)
 }
 
 /// The id of a listener.
 ///
 /// # Errors
 /// `NoMemory`
-pub fn clean_listener_id(
-    alloc: Global,
-    _setting: &Setting<'_>,
-    json: &Json,
-) -> Result<u32, NoMemory>
-    requires { IsClean _setting.now (places.Leaf leaves.ListenerId) (view json.now) }
+pub fn clean_listener_id(alloc: Global, setting: &Setting<'_>, json: &Json) -> Result<u32, NoMemory>
+    requires { IsClean setting.now (places.Leaf leaves.ListenerId) (view json.now) }
     ensures { IfOk result (λ n. SpellsUpTo max_listener_id (view json.now) n) }
 {
-    match read_up_to(alloc, MAX_LISTENER_ID, json)? {
-        Some(id) => Ok(id),
-        None => unreachable!(),
-    }
+    show_leaf(setting, Leaf::ListenerId, json);
+    clean_up_to(alloc, MAX_LISTENER_ID, json)
 }
 
 /// The text of a constant.
-pub fn clean_constant<'a>(_setting: &Setting<'_>, _which: Constants, json: &'a Json) -> &'a str
-    requires { IsClean _setting.now (places.Leaf (leaves.Constant _which)) (view json.now) }
+pub fn clean_constant<'a>(setting: &Setting<'_>, which: Constants, json: &'a Json) -> &'a str
+    requires { IsClean setting.now (places.Leaf (leaves.Constant which)) (view json.now) }
     ensures text { SpellsText (view json.now) result.now }
-    ensures constant { is_constant _which result.now ≡ true }
+    ensures constant { is_constant which result.now ≡ true }
 {
-    match json.as_str() {
-        Some(text) => text,
-        None => unreachable!(),
-    }
+    clean_leaf_text(setting, Leaf::Constant(which), json)
 }

@@ -3,16 +3,19 @@
 ghost use Rattle.json_model.specs.Laws.{ATreeSpellsOnce, FaultsAreOne, FitsWithoutFaults, NoFaultSpells, PrintedFieldsReadBack, ReadAscends};
 
 /// A tree is of the form exactly where it has no fault.
+#[tactic(auto, using(crate::proofs::Fitting::clean_fits, crate::proofs::Fitting::fits_clean))]
 pub fn fits_without_faults()
     ensures { FitsWithoutFaults }
 {}
 
 /// A tree without faults spells a value.
+#[tactic(auto, using(crate::proofs::Spelling::no_fault_spells))]
 pub fn no_fault_spells()
     ensures { NoFaultSpells }
 {}
 
 /// In a tree that is read from a text the names of each object ascend strictly.
+#[tactic(auto, using(crate::proofs::ReadAscending::read_ascends))]
 pub fn read_ascends()
     ensures { ReadAscends }
 {}
@@ -23,6 +26,7 @@ pub fn printed_fields_read_back()
 {}
 
 /// A tree has one list of faults at each place, and as the name of a document.
+#[tactic(auto, using(crate::proofs::OneList::faults_one, crate::proofs::OneList::name_faults_one))]
 pub fn faults_are_one()
     ensures { FaultsAreOne }
 {}

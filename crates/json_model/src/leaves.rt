@@ -7,7 +7,7 @@ ghost use Rattle.json_model.specs.declared.fault.JsonFault.TheVariants as json_f
 ghost use Rattle.json_model.specs.Ranks.{first_of_least};
 ghost use Rattle.json_model.specs.Numbers.{SpellsWhole, SpellsShort, SpellsUpTo};
 ghost use Rattle.json_model.specs.Faults.{FirstOf, FlatFaults, unknown_faults};
-ghost use Rattle.json_model.specs.Leaves.{Unless, InText, IsNullTree, IsText, IsTimeText, IsBytesText, ReferenceFaults, DocumentFaults, ParentFaults, PathFaults, QueryPathFaults, IdFaults, constant_faults, descendants_faults, LeafFaults};
+ghost use Rattle.json_model.specs.Leaves.{Unless, InText, IsNullTree, IsText, IsTimeText, IsBytesText, ReferenceFaults, DocumentFaults, ParentFaults, PathFaults, QueryPathFaults, IdFaults, constant_faults, descendants_faults, TextFaults, LeafFaults};
 
 use crate::bytes::read_bytes;
 use crate::constants::{is_constant, is_untaken};
@@ -76,6 +76,7 @@ fn find_in_text(alloc: Global, name: &str, json: &Json) -> Result<Option<JsonFau
     bad_shape_unless(alloc, json.is_string(), name)
 }
 
+#[tactic(auto, using(crate::proofs::Kinded::unless_some, crate::proofs::Kinded::no_time))]
 fn find_in_time_text(alloc: Global, name: &str, text: &str) -> Result<Option<JsonFault>, NoMemory>
     ensures { IfOk result (λ found. FirstOf (Unless (IsTimeText text.now) (json_fault.BadTime name.now)) found) }
 {
@@ -85,15 +86,7 @@ fn find_in_time_text(alloc: Global, name: &str, text: &str) -> Result<Option<Jso
     Ok(Some(JsonFault::BadTime(Text::from_str(alloc, name)?)))
 }
 
-fn find_in_time(alloc: Global, name: &str, json: &Json) -> Result<Option<JsonFault>, NoMemory>
-    ensures { IfOk result (λ found. FirstOf (InText (view json.now) name.now (λ text. Unless (IsTimeText text) (json_fault.BadTime name.now))) found) }
-{
-    match json.as_str() {
-        Some(text) => find_in_time_text(alloc, name, text),
-        None => bad_shape_unless(alloc, false, name),
-    }
-}
-
+#[tactic(auto, using(crate::proofs::Kinded::unless_none, crate::proofs::Kinded::unless_some, crate::proofs::Kinded::bytes_then, crate::proofs::Kinded::no_bytes))]
 fn find_in_bytes_text(alloc: Global, name: &str, text: &str) -> Result<Option<JsonFault>, NoMemory>
     ensures { IfOk result (λ found. FirstOf (Unless (IsBytesText text.now) (json_fault.BadBytes name.now)) found) }
 {
@@ -101,15 +94,6 @@ fn find_in_bytes_text(alloc: Global, name: &str, text: &str) -> Result<Option<Js
         return Ok(None);
     }
     Ok(Some(JsonFault::BadBytes(Text::from_str(alloc, name)?)))
-}
-
-fn find_in_bytes(alloc: Global, name: &str, json: &Json) -> Result<Option<JsonFault>, NoMemory>
-    ensures { IfOk result (λ found. FirstOf (InText (view json.now) name.now (λ text. Unless (IsBytesText text) (json_fault.BadBytes name.now))) found) }
-{
-    match json.as_str() {
-        Some(text) => find_in_bytes_text(alloc, name, text),
-        None => bad_shape_unless(alloc, false, name),
-    }
 }
 
 /// The fault, unless it is want of memory.
@@ -131,15 +115,6 @@ fn find_in_reference_text(alloc: Global, text: &str) -> Result<Option<JsonFault>
     }
 }
 
-fn find_in_reference(alloc: Global, name: &str, json: &Json) -> Result<Option<JsonFault>, NoMemory>
-    ensures { IfOk result (λ found. FirstOf (InText (view json.now) name.now ReferenceFaults) found) }
-{
-    match json.as_str() {
-        Some(text) => find_in_reference_text(alloc, text),
-        None => bad_shape_unless(alloc, false, name),
-    }
-}
-
 fn find_in_document_text(
     alloc: Global,
     root: &Database,
@@ -153,35 +128,12 @@ fn find_in_document_text(
     }
 }
 
-fn find_in_document(
-    alloc: Global,
-    root: &Database,
-    name: &str,
-    json: &Json,
-) -> Result<Option<JsonFault>, NoMemory>
-    ensures { IfOk result (λ found. FirstOf (InText (view json.now) name.now (DocumentFaults root.now)) found) }
-{
-    match json.as_str() {
-        Some(text) => find_in_document_text(alloc, root, text),
-        None => bad_shape_unless(alloc, false, name),
-    }
-}
-
 fn find_in_path_text(alloc: Global, text: &str) -> Result<Option<JsonFault>, NoMemory>
     ensures { IfOk result (λ found. FirstOf (PathFaults text.now) found) }
 {
     match read_path(alloc, text) {
         Ok(_) => Ok(None),
         Err(fault) => unless_memory(fault),
-    }
-}
-
-fn find_in_path(alloc: Global, name: &str, json: &Json) -> Result<Option<JsonFault>, NoMemory>
-    ensures { IfOk result (λ found. FirstOf (InText (view json.now) name.now PathFaults) found) }
-{
-    match json.as_str() {
-        Some(text) => find_in_path_text(alloc, text),
-        None => bad_shape_unless(alloc, false, name),
     }
 }
 
@@ -214,15 +166,6 @@ fn find_in_id_text(alloc: Global, text: &str) -> Result<Option<JsonFault>, NoMem
     Ok(Some(bad_name(alloc, NamingFault::BadSegment, text)?))
 }
 
-fn find_in_id(alloc: Global, name: &str, json: &Json) -> Result<Option<JsonFault>, NoMemory>
-    ensures { IfOk result (λ found. FirstOf (InText (view json.now) name.now IdFaults) found) }
-{
-    match json.as_str() {
-        Some(text) => find_in_id_text(alloc, text),
-        None => bad_shape_unless(alloc, false, name),
-    }
-}
-
 fn find_in_parent_text(
     alloc: Global,
     root: &Database,
@@ -236,35 +179,12 @@ fn find_in_parent_text(
     find_in_document_text(alloc, root, text)
 }
 
-fn find_in_parent(
-    alloc: Global,
-    root: &Database,
-    name: &str,
-    json: &Json,
-) -> Result<Option<JsonFault>, NoMemory>
-    ensures { IfOk result (λ found. FirstOf (InText (view json.now) name.now (ParentFaults root.now)) found) }
-{
-    match json.as_str() {
-        Some(text) => find_in_parent_text(alloc, root, text),
-        None => bad_shape_unless(alloc, false, name),
-    }
-}
-
 fn find_in_query_path_text(alloc: Global, text: &str) -> Result<Option<JsonFault>, NoMemory>
     ensures { IfOk result (λ found. FirstOf (QueryPathFaults text.now) found) }
 {
     match read_query_path(alloc, text) {
         Ok(_) => Ok(None),
         Err(fault) => unless_memory(fault),
-    }
-}
-
-fn find_in_query_path(alloc: Global, name: &str, json: &Json) -> Result<Option<JsonFault>, NoMemory>
-    ensures { IfOk result (λ found. FirstOf (InText (view json.now) name.now QueryPathFaults) found) }
-{
-    match json.as_str() {
-        Some(text) => find_in_query_path_text(alloc, text),
-        None => bad_shape_unless(alloc, false, name),
     }
 }
 
@@ -318,16 +238,42 @@ fn find_in_constant_text(
     bad_shape_unless(alloc, false, name)
 }
 
-fn find_in_constant(
+/// The fault of a text that is to be a leaf of that kind.
+fn find_in_leaf_text(
     alloc: Global,
-    which: Constants,
+    root: &Database,
+    leaf: Leaf,
+    name: &str,
+    text: &str,
+) -> Result<Option<JsonFault>, NoMemory>
+    ensures { IfOk result (λ found. FirstOf (TextFaults root.now leaf name.now text.now) found) }
+{
+    match leaf {
+        Leaf::Time => find_in_time_text(alloc, name, text),
+        Leaf::Bytes => find_in_bytes_text(alloc, name, text),
+        Leaf::Reference => find_in_reference_text(alloc, text),
+        Leaf::Name => find_in_document_text(alloc, root, text),
+        Leaf::Path => find_in_path_text(alloc, text),
+        Leaf::Id => find_in_id_text(alloc, text),
+        Leaf::Parent => find_in_parent_text(alloc, root, text),
+        Leaf::QueryPath => find_in_query_path_text(alloc, text),
+        Leaf::Constant(which) => find_in_constant_text(alloc, which, name, text),
+        _ => Ok(None),
+    }
+}
+
+/// The fault of a tree that is to be a text of that kind.
+fn find_by_text(
+    alloc: Global,
+    root: &Database,
+    leaf: Leaf,
     name: &str,
     json: &Json,
 ) -> Result<Option<JsonFault>, NoMemory>
-    ensures { IfOk result (λ found. FirstOf (InText (view json.now) name.now (λ text. λ faults. faults ≡ constant_faults which name.now text)) found) }
+    ensures { IfOk result (λ found. FirstOf (InText (view json.now) name.now (TextFaults root.now leaf name.now)) found) }
 {
     match json.as_str() {
-        Some(text) => find_in_constant_text(alloc, which, name, text),
+        Some(text) => find_in_leaf_text(alloc, root, leaf, name, text),
         None => bad_shape_unless(alloc, false, name),
     }
 }
@@ -346,23 +292,23 @@ fn find_in_leaf(
         Leaf::Null => find_in_null(alloc, name, json),
         Leaf::Boolean => find_in_boolean(alloc, name, json),
         Leaf::Integer => find_in_integer(alloc, name, json),
-        Leaf::Time => find_in_time(alloc, name, json),
         Leaf::Text => find_in_text(alloc, name, json),
-        Leaf::Bytes => find_in_bytes(alloc, name, json),
-        Leaf::Reference => find_in_reference(alloc, name, json),
-        Leaf::Name => find_in_document(alloc, root, name, json),
-        Leaf::Path => find_in_path(alloc, name, json),
         Leaf::ServerTime => find_in_server_time(alloc, name, json),
-        Leaf::Id => find_in_id(alloc, name, json),
-        Leaf::Parent => find_in_parent(alloc, root, name, json),
-        Leaf::QueryPath => find_in_query_path(alloc, name, json),
         Leaf::Limit => find_in_limit(alloc, name, json),
         Leaf::Descendants => find_in_descendants(alloc, name, json),
         Leaf::TargetId => find_in_limit(alloc, name, json),
         Leaf::Count => find_up_to(alloc, MAX_COUNT, name, json),
         Leaf::Code => find_up_to(alloc, MAX_CODE, name, json),
         Leaf::ListenerId => find_up_to(alloc, MAX_LISTENER_ID, name, json),
-        Leaf::Constant(which) => find_in_constant(alloc, which, name, json),
+        Leaf::Time
+        | Leaf::Bytes
+        | Leaf::Reference
+        | Leaf::Name
+        | Leaf::Path
+        | Leaf::Id
+        | Leaf::Parent
+        | Leaf::QueryPath
+        | Leaf::Constant(_) => find_by_text(alloc, root, leaf, name, json),
     }
 }
 

@@ -80,6 +80,7 @@ fn only_chosen(object: Object, members: &Map<String, Json>) -> Option<(&str, &Js
 }
 
 /// The name of the alternative that is given; none, where there isn't just one.
+#[tactic(auto, using(crate::proofs::Choices::no_only))]
 fn only_name(object: Object, members: &Map<String, Json>) -> &str
     ensures { result.now ≡ only_name_of (chosen_of object (members_view members.now.entries)) }
 {

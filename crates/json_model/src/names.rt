@@ -176,6 +176,7 @@ fn has_many_names(alloc: Global, text: &str) -> Result<bool, NoMemory>
 }
 
 /// The path of a field of a document that the text spells, whatever the number of its names.
+#[tactic(auto, using(crate::proofs::OneLeaf::document_name))]
 fn read_names(alloc: Global, text: &str) -> Result<FieldPath, JsonFault>
     ensures path { IfOk result (λ path. SpellsPath text.now path × All IsFieldName path) }
     ensures fault { IfErr result (λ fault. IsNameFault (HasFieldPathFault text.now) text.now fault) }

@@ -32,6 +32,7 @@ pub fn read_integer(alloc: Global, text: &str) -> Result<Option<i64>, NoMemory>
 ///
 /// # Errors
 /// `NoMemory`
+#[tactic(auto, using(crate::proofs::Wholes::no_whole))]
 pub fn read_whole(alloc: Global, json: &Json) -> Result<Option<i64>, NoMemory>
     ensures { IfOk result (λ found. MatchOption found ((z : ℤ) → SpellsWhole (view json.now) z → ⊥) (λ z. SpellsWhole (view json.now) z)) }
 {

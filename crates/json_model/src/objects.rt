@@ -56,6 +56,7 @@ pub fn text_tree(alloc: Global, text: &str) -> Result<Json, NoMemory>
 }
 
 /// A list as a tree, unless it is empty.
+#[tactic(auto, using(crate::proofs::Shown::list_shown))]
 pub fn unless_empty(items: Vec<Json>) -> Option<Json>
     ensures { option_map view result ≡ unless_empty_of (items_view items.items) }
 {

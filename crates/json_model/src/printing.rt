@@ -72,6 +72,7 @@ fn full_array_json(alloc: Global, values: Json) -> Result<Json, AllocError>
     json!(in alloc; {"arrayValue": {"values": values}})
 }
 
+#[tactic(auto, using(crate::proofs::Shown::full_array))]
 fn array_json(alloc: Global, values: Vec<Json>) -> Result<Json, AllocError>
     ensures { IfOk result (λ json. view json ≡ one (codes "arrayValue") (values_tree (items_view values.items))) }
 {
@@ -93,6 +94,7 @@ fn full_map_json(alloc: Global, fields: Json) -> Result<Json, AllocError>
     json!(in alloc; {"mapValue": {"fields": fields}})
 }
 
+#[tactic(auto, using(crate::proofs::Shown::full_map))]
 fn map_json(alloc: Global, fields: Map<String, Json>) -> Result<Json, AllocError>
     ensures { IfOk result (λ json. view json ≡ one (codes "mapValue") (fields_tree (members_view fields.entries))) }
 {
@@ -155,6 +157,7 @@ pub fn print_value(alloc: Global, value: &Value) -> Result<Json, NoMemory>
     }
 }
 
+#[tactic(auto, using(crate::proofs::Shown::items_more, value_model::proofs::Sizes::item_below))]
 #[cycle(print)]
 fn print_values(alloc: Global, values: &Vec<Value>) -> Result<Vec<Json>, NoMemory>
     ensures { IfOk result (λ trees. items_view trees.items ≡ printed_items (items_of values.now.items)) }
@@ -166,6 +169,7 @@ fn print_values(alloc: Global, values: &Vec<Value>) -> Result<Vec<Json>, NoMemor
     Ok(trees)
 }
 
+#[tactic(auto, using(crate::proofs::Shown::members_more, crate::proofs::Shown::field_below))]
 #[cycle(print)]
 fn print_members(alloc: Global, fields: &Fields) -> Result<Map<String, Json>, NoMemory>
     ensures { IfOk result (λ members. members_view members.entries ≡ printed_members (members_of fields.now)) }

@@ -169,6 +169,7 @@ fn build_kind(
 }
 
 /// The array or the map that stands under the name of its kind.
+#[tactic(auto, using(crate::proofs::Built::no_other_object))]
 #[cycle(build)]
 fn build_nested(
     alloc: Global,
@@ -189,6 +190,7 @@ fn build_nested(
 }
 
 /// The array that stands under `arrayValue`.
+#[tactic(auto, using(crate::proofs::Built::empty_array, crate::proofs::Built::full_array, crate::proofs::Stored::array_stored))]
 #[cycle(build)]
 fn build_array(alloc: Global, setting: &Setting<'_>, json: &Json) -> Result<Value, NoMemory>
     requires { IsClean setting.now (places.Object objects.Array) (view json.now) }
@@ -207,6 +209,7 @@ fn build_array(alloc: Global, setting: &Setting<'_>, json: &Json) -> Result<Valu
 ///
 /// # Errors
 /// `NoMemory`
+#[tactic(auto, using(crate::proofs::Built::no_items))]
 #[cycle(build)]
 pub fn clean_values(
     alloc: Global,
@@ -228,6 +231,7 @@ pub fn clean_values(
 }
 
 /// The map that stands under `mapValue`.
+#[tactic(auto, using(crate::proofs::Built::empty_map, crate::proofs::Built::full_map, crate::proofs::Stored::map_stored))]
 #[cycle(build)]
 fn build_map(alloc: Global, setting: &Setting<'_>, json: &Json) -> Result<Value, NoMemory>
     requires { IsClean setting.now (places.Object objects.Map) (view json.now) }
@@ -303,6 +307,7 @@ pub fn read_fields(
 /// # Errors
 /// `BadShape` of `name` where the tree is no text, `BadName` as `DocumentKey::read` says: the tree then names no document
 /// under the root. Or `NoMemory`.
+#[tactic(auto, using(crate::proofs::Answered::name_fault, crate::proofs::Fine::leaf_faults))]
 pub fn read_name(
     alloc: Global,
     root: &Database,

@@ -26,6 +26,7 @@ fn missing_fault(alloc: Global, object: Object, name: &str) -> Result<JsonFault,
 }
 
 /// The fault of required members that are missing: that of the first.
+#[tactic(auto, using(crate::proofs::Missing::told_first))]
 pub(crate) fn find_missing(
     alloc: Global,
     object: Object,
@@ -40,6 +41,7 @@ pub(crate) fn find_missing(
 }
 
 /// The fault of those of the required members that a member shows to be missing.
+#[tactic(auto, using(crate::proofs::Missing::told_missed))]
 pub(crate) fn find_missed(
     alloc: Global,
     object: Object,

@@ -39,6 +39,7 @@ fn own_fault(
 }
 
 /// Whether the list must have exactly one item, and hasn't.
+#[tactic(auto, using(crate::proofs::Walked::lacks_by))]
 fn lacks_only(series: Series, items: &Vec<Json>) -> bool
     ensures { result ≡ lacks_only_of series (items_view items.now.items) }
 {
@@ -61,6 +62,7 @@ fn own_list_fault(
 }
 
 /// How many names the path under `fieldPath` has; none where it isn't a path.
+#[tactic(auto, using(crate::proofs::Walked::no_given, crate::proofs::Walked::no_text_path, crate::proofs::Walked::counted, crate::proofs::Walked::no_names))]
 fn count_path(alloc: Global, members: &Map<String, Json>) -> Result<u64, NoMemory>
     ensures { IfOk result (λ count. CountsPath (given_of (codes "fieldPath") (members_view members.now.entries)) count) }
 {

@@ -22,7 +22,7 @@ use Rattle.json_model.proofs.Deep.{values_deep}
 use Rattle.json_model.proofs.Sound.{sound, member_clean, given_some}
 use Rattle.json_model.proofs.Trees.{object_at}
 use Rattle.mutations.specs.declared.transform.Change.{Change}
-use Rattle.mutations.specs.declared.transform.Change.TheVariants.{ServerTime, Increment, Maximum, Minimum, Append, RemoveAll}
+use Rattle.mutations.specs.declared.transform.Change.TheVariants.{ServerTime, Append, RemoveAll}
 use Rattle.json_rpc.specs.Grammar.{SpellsElements, SpellsChange}
 use Rattle.json_rpc.specs.Storable.{IsStorableWithin, AreStorableElements, IsStorableChange, HoldsStorable}
 use Rattle.json_rpc.proofs.Names.{transform_place}
@@ -66,21 +66,12 @@ array_storable o ms name inner p path vs (limit, own, room, clean) at reads only
     let fits = inside.room in
     record { room = omega arith; each = record { count = stored.1; each = each_within (max_nesting - length path) vs stored.0 (omega arith) } }
 
-append_place : placed transform_rows (codes "appendMissingElements") ≡ place.Object object.Elements
-unfolding transform_rows
-append_place = refl
-
-remove_place : placed transform_rows (codes "removeAllFromArray") ≡ place.Object object.Elements
-unfolding transform_rows
-remove_place = refl
-
 pub change_storable : (o : Origin) (ms : Members) (name : List ℕ) (inner p : Json) (path : List (List ℕ)) (change : Change) → AreClean o object.Transform ms → Some p ≡ given (codes "fieldPath") ms → SpellsPathTree p path → chosen object.Transform ms ≡ (name, inner) ∷ []
     → SpellsChange name inner change → HoldsStorable change → IsStorableChange (length path) change
+unfolding transform_rows
 change_storable o ms name inner p path ServerTime clean at reads only spelled holds = tt
-change_storable o ms name inner p path (Increment by) clean at reads only spelled holds = holds
-change_storable o ms name inner p path (Maximum other) clean at reads only spelled holds = holds
-change_storable o ms name inner p path (Minimum other) clean at reads only spelled holds = holds
 change_storable o ms name inner p path (Append vs) clean at reads only spelled holds =
-    array_storable o ms name inner p path vs clean (sym at) reads only (ap is_of_array spelled.0) (ap (placed transform_rows) spelled.0 ∙ append_place) spelled.1 holds
+    array_storable o ms name inner p path vs clean (sym at) reads only (ap is_of_array spelled.0) (ap (placed transform_rows) spelled.0) spelled.1 holds
 change_storable o ms name inner p path (RemoveAll vs) clean at reads only spelled holds =
-    array_storable o ms name inner p path vs clean (sym at) reads only (ap is_of_array spelled.0) (ap (placed transform_rows) spelled.0 ∙ remove_place) spelled.1 holds
+    array_storable o ms name inner p path vs clean (sym at) reads only (ap is_of_array spelled.0) (ap (placed transform_rows) spelled.0) spelled.1 holds
+change_storable o ms name inner p path _ clean at reads only spelled holds = holds

@@ -1,5 +1,6 @@
 pub mod Names
 pub mod Given
+pub mod Rows
 pub mod Deep
 pub mod Stored
 pub mod Once

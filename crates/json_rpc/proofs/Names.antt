@@ -42,20 +42,16 @@ transform_place ms name = by (is_of_array (only_name (chosen object.Transform ms
     by true = refl
     by false = refl
 
-at_path : placed transform_rows (codes "fieldPath") ≡ place.Leaf leaf.Path
-unfolding transform_rows
-at_path = refl
-
 -- what stands at its path
 pub path_clean : (o : Origin) (ms : Members) (d : Json) → IsClean o (member_place (refined object.Transform ms) (codes "fieldPath")) d → IsClean o (place.Leaf leaf.Path) d
-path_clean o ms d clean = subst (λ p. IsClean o p d) (transform_place ms (codes "fieldPath") ∙ at_path) clean
+unfolding transform_rows
+path_clean o ms d clean = subst (λ p. IsClean o p d) (transform_place ms (codes "fieldPath")) clean
 
 -- what object a write is, by the name of its alternative
-updates : (ms : Members) (name : List ℕ) (d : Json) → chosen object.Write ms ≡ (name, d) ∷ [] → bytes_eq name (codes "delete") ≡ false → refined object.Write ms ≡ object.Write
-updates ms name d only other = ap (λ n. if bytes_eq n (codes "delete") then object.DeleteWrite else object.Write) (only_is object.Write ms name d only) ∙ ap (λ (b : Bool). if b then object.DeleteWrite else object.Write) other
-
-deletes : (ms : Members) (name : List ℕ) (d : Json) → chosen object.Write ms ≡ (name, d) ∷ [] → bytes_eq name (codes "delete") ≡ true → refined object.Write ms ≡ object.DeleteWrite
-deletes ms name d only this = ap (λ n. if bytes_eq n (codes "delete") then object.DeleteWrite else object.Write) (only_is object.Write ms name d only) ∙ ap (λ (b : Bool). if b then object.DeleteWrite else object.Write) this
+write_is : (ms : Members) (name : List ℕ) (d : Json) (b : Bool) → chosen object.Write ms ≡ (name, d) ∷ [] → bytes_eq name (codes "delete") ≡ b → refined object.Write ms ≡ (if b then object.DeleteWrite else object.Write)
+write_is ms name d b only is =
+    ap (λ n. if bytes_eq n (codes "delete") then object.DeleteWrite else object.Write) (only_is object.Write ms name d only)
+    ∙ ap (λ (c : Bool). if c then object.DeleteWrite else object.Write) is
 
 -- and what stands under it
 stands : (o : Origin) (ms : Members) (name : List ℕ) (d : Json) (kind : Object) (n : List ℕ) (p : Place) → refined object.Write ms ≡ kind → name ≡ n → member_place kind n ≡ p → IsClean o (member_place (refined object.Write ms) name) d → IsClean o p d
@@ -64,11 +60,13 @@ stands o ms name d kind n p is named at clean =
 
 pub update_clean : (o : Origin) (ms : Members) (name : List ℕ) (d : Json) → chosen object.Write ms ≡ (name, d) ∷ [] → name ≡ codes "update" → IsClean o (member_place (refined object.Write ms) name) d → IsClean o (place.Object object.Update) d
 unfolding write_rows
-update_clean o ms name d only named clean = stands o ms name d object.Write (codes "update") (place.Object object.Update) (updates ms name d only (ap (λ n. bytes_eq n (codes "delete")) named)) named refl clean
+update_clean o ms name d only named clean =
+    stands o ms name d object.Write (codes "update") (place.Object object.Update) (write_is ms name d false only (ap (λ n. bytes_eq n (codes "delete")) named)) named refl clean
 
 pub delete_clean : (o : Origin) (ms : Members) (name : List ℕ) (d : Json) → chosen object.Write ms ≡ (name, d) ∷ [] → name ≡ codes "delete" → IsClean o (member_place (refined object.Write ms) name) d → IsClean o (place.Leaf leaf.Name) d
 unfolding delete_write_rows
-delete_clean o ms name d only named clean = stands o ms name d object.DeleteWrite (codes "delete") (place.Leaf leaf.Name) (deletes ms name d only (ap (λ n. bytes_eq n (codes "delete")) named)) named refl clean
+delete_clean o ms name d only named clean =
+    stands o ms name d object.DeleteWrite (codes "delete") (place.Leaf leaf.Name) (write_is ms name d true only (ap (λ n. bytes_eq n (codes "delete")) named)) named refl clean
 
 -- there is no other
 pub no_other_write : (o : Origin) (ms : Members) (name : List ℕ) (d : Json) → is_write_choice name ≡ true → (name ≡ codes "update" → ⊥) → (name ≡ codes "delete" → ⊥) → chosen object.Write ms ≡ (name, d) ∷ [] → IsClean o (member_place (refined object.Write ms) name) d → ⊥
@@ -78,7 +76,7 @@ no_other_write o ms name d choice not_update not_delete only clean = by (bytes_e
     by : (a b c : Bool) → bytes_eq name (codes "delete") ≡ a → bytes_eq name (codes "transform") ≡ b → bytes_eq name (codes "update") ≡ c → (a || (b || c)) ≡ true → ⊥
     by true b c first second third one = not_delete (same name (codes "delete") first)
     by false true c first second third one =
-        let fine = stands o ms name d object.Write (codes "transform") place.Unsupported (updates ms name d only first) (same name (codes "transform") second) refl clean in
+        let fine = stands o ms name d object.Write (codes "transform") place.Unsupported (write_is ms name d false only first) (same name (codes "transform") second) refl clean in
         unsupported o fine.0 fine.1 d fine.3
     by false false true first second third one = not_update (same name (codes "update") third)
     by false false false first second third one = cc

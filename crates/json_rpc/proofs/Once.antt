@@ -1,5 +1,5 @@
 -- A tree spells one write at most.
-use Rattle.std.proofs.Common.{◌≡◌, ℕ, List, Option, Some, None, codes, refl, sym, ap, subst, ◌∙◌}
+use Rattle.std.proofs.Common.{arith, ◌≡◌, ℕ, List, Option, Some, None, codes, refl, sym, ap, subst, ◌∙◌}
 use Rattle.serde_json.specs.Data.{Data as Json, string, Members}
 use Rattle.document_keys.specs.Names.{Root}
 use Rattle.document_keys.proofs.Spelled.{spells_one}
@@ -22,10 +22,9 @@ use Rattle.json_rpc.specs.Grammar.{SpellsConditionUnder, SpellsCondition, Spells
 
 condition_under_once : (name : List ℕ) (d : Json) → IsOnce (SpellsConditionUnder name d)
 condition_under_once name d Free b first second = absurd first
-condition_under_once name d (Exists a) Free first second = absurd second
+condition_under_once name d a Free first second = absurd second
 condition_under_once name d (Exists a) (Exists b) first second = let e = sym first.1 ∙ second.1 in let same : a ≡ b = cc in ap Exists same
 condition_under_once name d (Exists a) (UpdateTime t) first second = absurd (apart (codes "exists") (codes "updateTime") refl (sym first.0 ∙ second.0))
-condition_under_once name d (UpdateTime t) Free first second = absurd second
 condition_under_once name d (UpdateTime t) (Exists b) first second = absurd (apart (codes "updateTime") (codes "exists") refl (sym first.0 ∙ second.0))
 condition_under_once name d (UpdateTime t) (UpdateTime u) first second = ap UpdateTime (time_once d t u first.1 second.1)
 
@@ -50,11 +49,7 @@ change_name (RemoveAll values) = codes "removeAllFromArray"
 
 named : (name : List ℕ) (d : Json) (change : Change) → SpellsChange name d change → name ≡ change_name change
 named name d ServerTime spelled = spelled
-named name d (Increment by) spelled = spelled.0
-named name d (Maximum other) spelled = spelled.0
-named name d (Minimum other) spelled = spelled.0
-named name d (Append values) spelled = spelled.0
-named name d (RemoveAll values) spelled = spelled.0
+named name d _ spelled = spelled.0
 
 change_once : (name : List ℕ) (d : Json) → IsOnce (SpellsChange name d)
 change_once name d ServerTime ServerTime first second = refl
@@ -105,19 +100,20 @@ document_in_once root ms a b first second =
 document_once : (root : Root) (d : Json) → IsOnce (λ (x : Document). SpellsDocument root d x.0 x.1)
 document_once root d a b first second = object_once d (λ ms (x : Document). SpellsDocumentIn root ms x.0 x.1) (document_in_once root) a b first second
 
+changes_once : (found : Option Json) → IsOnce (SpellsEach SpellsTransform found)
+changes_once found a b first second = spells_each_once found SpellsTransform transform_once a b first second
+
 write_under_once : (root : Root) (ms : Members) (name : List ℕ) (d : Json) → IsOnce (SpellsWriteUnder root ms name d)
 write_under_once root ms name d (Update key fields mask transforms condition) (Update key_2 fields_2 mask_2 transforms_2 condition_2) first second =
     let documents = document_once root d (key, fields) (key_2, fields_2) first.1.document second.1.document in
-    let masks = mask_in_once (given (codes "updateMask") ms) mask mask_2 first.1.masks second.1.masks in
-    let changes = spells_each_once (given (codes "updateTransforms") ms) SpellsTransform transform_once transforms transforms_2 first.1.changes second.1.changes in
-    let conditions = condition_once (given (codes "currentDocument") ms) condition condition_2 first.1.asks second.1.asks in
-    λ i. Update (documents i).0 (documents i).1 (masks i) (changes i) (conditions i)
+    let keys = ap (λ (x : Document). x.0) documents in
+    let holds = ap (λ (x : Document). x.1) documents in
+    grind (arith, mask_in_once, mask_once, changes_once, condition_once)
 write_under_once root ms name d (Update key fields mask transforms condition) (Delete key_2 condition_2) first second = absurd (apart (codes "update") (codes "delete") refl (sym first.0 ∙ second.0))
 write_under_once root ms name d (Delete key condition) (Update key_2 fields_2 mask_2 transforms_2 condition_2) first second = absurd (apart (codes "delete") (codes "update") refl (sym first.0 ∙ second.0))
 write_under_once root ms name d (Delete key condition) (Delete key_2 condition_2) first second =
     let keys = spells_name_one root d key key_2 first.1.names second.1.names in
-    let conditions = condition_once (given (codes "currentDocument") ms) condition condition_2 first.1.asks second.1.asks in
-    λ i. Delete (keys i) (conditions i)
+    grind (arith, condition_once)
 
 pub write_once : (root : Root) (d : Json) → IsOnce (SpellsWrite root d)
 write_once root d a b first second = choice_once object.Write d (SpellsWriteUnder root) (write_under_once root) a b first second

@@ -4,12 +4,12 @@ use Rattle.std.specs.Fmt.{signed_decimal}
 use Rattle.std.specs.Int.{w64}
 use Rattle.std.specs.Prelude.{FitsSigned}
 use Rattle.std.specs.List.{All}
-use Rattle.std.proofs.lemmas.List.Elements.{All-head, All-tail}
+use Rattle.std.proofs.lemmas.List.Elements.{All-head, All-tail, All-weaker}
 use Rattle.document_keys.specs.Paths.{printed_path}
 use Rattle.document_keys.proofs.Fields.{printed_spells}
-use Rattle.serde_json.specs.Data.{Data as Json, boolean, string, array, item, Members, no_members, member}
-use Rattle.value_model.specs.Data.{Data, integer, items_of, list_of, items_depth}
-use Rattle.value_model.specs.Storable.{AreStorableItems}
+use Rattle.serde_json.specs.Data.{Data as Json, boolean, string, array, object as an_object, Items, no_items, item, Members, no_members, member}
+use Rattle.value_model.specs.Data.{Data, integer, items_of, items_depth}
+use Rattle.value_model.specs.Storable.{IsStorable, AreStorableItems}
 use Rattle.value_model.specs.Time.{time_text}
 use Rattle.value_model.proofs.ReadBack.{time_read}
 use Rattle.json_model.specs.declared.place.Place.{Place}
@@ -21,15 +21,17 @@ use Rattle.json_model.specs.declared.place.Series.TheVariants as series
 use Rattle.json_model.specs.declared.place.Leaf.TheVariants as leaf
 use Rattle.json_model.specs.Faults.{of_path, max_nesting}
 use Rattle.json_model.specs.Fits.{Fits, FitsName, ItemsFit, MembersFit}
-use Rattle.json_model.specs.Forms.{Each, no_more, one_more, SpellsEach, before, unless_empty, printed_each}
+use Rattle.json_model.specs.Forms.{Each, no_more, one_more, SpellsEach, before, unless_empty, printed_each, present}
 use Rattle.json_model.specs.Grammar.{SpellsPathTree, SpellsItems, no_list, a_list}
 use Rattle.json_model.specs.Leaves.{SpellsFieldPath}
-use Rattle.json_model.specs.Members.{is_null}
+use Rattle.json_model.specs.Members.{is_null, given, chosen, lacks_only}
 use Rattle.json_model.specs.Numbers.{SpellsWhole, as_text as by_text}
 use Rattle.json_model.specs.Origin.{Origin}
 use Rattle.json_model.specs.Places.{member_place, item_place, condition_rows, operand_rows, value_rows, transform_rows, mask_rows}
 use Rattle.json_model.specs.Printed.{printed_value, printed_items}
 use Rattle.json_model.specs.Storable.{IsStorablePath}
+use Rattle.value_model.proofs.Parts.{list_items, items_storable}
+use Rattle.json_model.proofs.Fitting.{object_fits, flat_object_fits}
 use Rattle.json_model.proofs.ReadBack.{items_fit, items_spelled}
 use Rattle.json_model.proofs.Sound.{not_out}
 use Rattle.mutations.specs.declared.transform.Change.{Change}
@@ -37,7 +39,7 @@ use Rattle.mutations.specs.declared.transform.Change.TheVariants.{ServerTime, In
 use Rattle.mutations.specs.declared.transform.Transform.{Transform}
 use Rattle.mutations.specs.declared.write.Precondition.{Precondition}
 use Rattle.mutations.specs.declared.write.Precondition.TheVariants.{Free, Exists, UpdateTime}
-use Rattle.json_rpc.specs.Grammar.{SpellsCondition, SpellsOperand, SpellsElements, SpellsTransform, SpellsMask, SpellsMaskIn}
+use Rattle.json_rpc.specs.Grammar.{SpellsCondition, SpellsOperand, SpellsElements, SpellsChange, SpellsTransform, SpellsMask, SpellsMaskIn}
 use Rattle.json_rpc.specs.Printed.{printed_condition, printed_elements, printed_change, printed_transform, path_tree, printed_mask}
 use Rattle.json_rpc.specs.Storable.{AreAllStorable, IsStorableCondition, IsStorableWithin, IsStorableChange, IsStorableTransform}
 
@@ -66,13 +68,30 @@ pub list_spelled : {X : Type 0} (print : X → Json) (Spells : Json → X → Ty
 list_spelled print Spells Fact spells [] all = refl
 list_spelled print Spells Fact spells (x ∷ xs) all = (printed_each print (x ∷ xs), refl, each_spelled print Spells Fact spells (x ∷ xs) all)
 
+-- a list, unless it is empty
+list_fits : (o : Origin) (limit : ℕ) (kind : Series) (ds : Items) → lacks_only kind ds ≡ false → ItemsFit o limit kind ds → FitsFound o limit (place.Series kind) (unless_empty ds)
+unfolding Fits
+list_fits o limit kind no_items only fits = tt
+list_fits o limit kind (item d ds) only fits = (refl, (only, fits))
+
+-- the rows of an object that requires none
+abbrev pub RowsFit : Origin → ℕ → Object → List (List ℕ × Option Json) → Type 0
+RowsFit o limit kind [] = Unit {0}
+RowsFit o limit kind (row ∷ rows) = FitsName kind row.0 × FitsFound o limit (member_place kind row.0) row.1 × RowsFit o limit kind rows
+
+pub rows_fit : (o : Origin) (limit : ℕ) (kind : Object) (rows : List (List ℕ × Option Json)) → RowsFit o limit kind rows → MembersFit o limit kind [] (present rows)
+unfolding Fits
+rows_fit o limit kind [] all = refl
+rows_fit o limit kind (row ∷ rows) all = row_fits o limit kind row.0 row.1 (present rows) all.0 all.1 (rows_fit o limit kind rows all.2)
+
 -- ---- preconditions
 
 pub condition_fits : (o : Origin) (condition : Precondition) → IsStorableCondition condition → FitsFound o max_nesting (place.Object object.Condition) (printed_condition condition)
 unfolding Fits condition_rows
 condition_fits o Free stored = tt
-condition_fits o (Exists is) stored = (refl, record { chooses = refl; no_vector = refl; levels = 0; takes = refl; room = omega arith; inside = (refl, inr (refl, (tt, (is, refl))), refl) })
-condition_fits o (UpdateTime time) stored = (refl, record { chooses = refl; no_vector = refl; levels = 0; takes = refl; room = omega arith; inside = (refl, inr (refl, (tt, (time_text time, (refl, (time, time_read time stored))))), refl) })
+condition_fits o (Exists is) stored = (refl, flat_object_fits o max_nesting object.Condition _ refl refl refl (refl, inr (refl, (tt, (is, refl))), refl))
+condition_fits o (UpdateTime time) stored =
+    (refl, flat_object_fits o max_nesting object.Condition _ refl refl refl (refl, inr (refl, (tt, (time_text time, (refl, (time, time_read time stored))))), refl))
 
 pub condition_spelled : (condition : Precondition) → IsStorableCondition condition → SpellsCondition (printed_condition condition) condition
 unfolding condition_rows
@@ -93,16 +112,11 @@ path_spelled : (path : List (List ℕ)) → IsStorablePath path → SpellsPathTr
 path_spelled path stored = (printed_path path, (refl, path_read path stored))
 
 mask_tree_fits : (o : Origin) (mask : List (List (List ℕ))) → All IsStorablePath mask → Fits o max_nesting (place.Object object.Mask) (printed_mask mask)
-unfolding Fits mask_rows
-mask_tree_fits o [] all = record { chooses = refl; no_vector = refl; levels = 0; takes = refl; room = omega arith; inside = refl }
-mask_tree_fits o (path ∷ mask) all = record {
-  chooses = refl;
-  no_vector = refl;
-  levels = 0;
-  takes = refl;
-  room = omega arith;
-  inside = (refl, inr (refl, (tt, (refl, each_fits o max_nesting (place.Leaf leaf.Path) path_tree IsStorablePath (path_fits o max_nesting) series.Paths refl (path ∷ mask) all))), refl);
-}
+unfolding mask_rows
+mask_tree_fits o mask all =
+    let paths = each_fits o max_nesting (place.Leaf leaf.Path) path_tree IsStorablePath (path_fits o max_nesting) series.Paths refl mask all in
+    flat_object_fits o max_nesting object.Mask _ refl refl refl
+    (rows_fit o max_nesting object.Mask ((codes "fieldPaths", unless_empty (printed_each path_tree mask)) ∷ []) (tt, list_fits o max_nesting series.Paths (printed_each path_tree mask) refl paths, tt))
 
 mask_tree_spelled : (mask : List (List (List ℕ))) → All IsStorablePath mask → SpellsMask (printed_mask mask) mask
 mask_tree_spelled [] all = record { members = no_members; is = refl; spells = refl }
@@ -114,13 +128,8 @@ same_items : (vs : List Data) → printed_items (items_of vs) ≡ printed_each p
 same_items [] = refl
 same_items (v ∷ vs) = ap (λ ds. item (printed_value v) ds) (same_items vs)
 
-same_list : (vs : List Data) → list_of (items_of vs) ≡ vs
-same_list [] = refl
-same_list (v ∷ vs) = ap (λ l. v ∷ l) (same_list vs)
-
 all_stored : (limit : ℕ) (vs : List Data) → All (IsStorableWithin limit) vs → AreStorableItems (items_of vs)
-all_stored limit [] all = tt
-all_stored limit (v ∷ vs) all = ((All-head (IsStorableWithin limit) v vs all).storable, all_stored limit vs (All-tail (IsStorableWithin limit) v vs all))
+all_stored limit vs all = items_storable vs (All-weaker (IsStorableWithin limit) IsStorable (λ v is. is.storable) vs all)
 
 all_deep : (limit : ℕ) (vs : List Data) → All (IsStorableWithin limit) vs → items_depth (items_of vs) ≤ limit
 all_deep limit [] all = omega arith
@@ -130,24 +139,16 @@ values_fit : (o : Origin) (limit : ℕ) (vs : List Data) → All (IsStorableWith
 values_fit o limit vs all = subst (ItemsFit o limit series.Values) (same_items vs) (items_fit time_read o limit (items_of vs) (all_stored limit vs all) (all_deep limit vs all))
 
 values_spelled : (limit : ℕ) (vs : List Data) → All (IsStorableWithin limit) vs → SpellsItems (printed_each printed_value vs) vs
-values_spelled limit vs all = subst (λ ds. SpellsItems ds vs) (same_items vs) (subst (SpellsItems (printed_items (items_of vs))) (same_list vs) (items_spelled time_read (items_of vs) (all_stored limit vs all)))
+values_spelled limit vs all =
+    subst (λ ds. SpellsItems ds vs) (same_items vs) (subst (SpellsItems (printed_items (items_of vs))) (list_items vs) (items_spelled time_read (items_of vs) (all_stored limit vs all)))
 
 -- ---- transforms
 
 elements_fit : (o : Origin) (limit : ℕ) (vs : List Data) → All (IsStorableWithin limit) vs → Fits o limit (place.Object object.Elements) (printed_elements vs)
-unfolding Fits
-elements_fit o limit [] all = record { chooses = refl; no_vector = refl; levels = 0; takes = refl; room = omega arith; inside = refl }
-elements_fit o limit (v ∷ vs) all = record {
-  chooses = refl;
-  no_vector = refl;
-  levels = 0;
-  takes = refl;
-  room = omega arith;
-  inside = (refl, inr (refl, (tt, (refl, subst (λ n. ItemsFit o n series.Values (printed_each printed_value (v ∷ vs))) (all_levels limit) (values_fit o limit (v ∷ vs) all)))), refl);
-}
-  where
-    all_levels : (n : ℕ) → n ≡ n - 0
-    all_levels n = omega arith
+elements_fit o limit vs all =
+    flat_object_fits o limit object.Elements _ refl refl refl
+    (rows_fit o limit object.Elements ((codes "values", unless_empty (printed_each printed_value vs)) ∷ [])
+    (tt, list_fits o limit series.Values (printed_each printed_value vs) refl (values_fit o limit vs all), tt))
 
 elements_spelled : (limit : ℕ) (vs : List Data) → All (IsStorableWithin limit) vs → SpellsElements (printed_elements vs) vs
 elements_spelled limit [] all = record { members = no_members; is = refl; spells = no_list }
@@ -158,7 +159,7 @@ whole z fits = by_text (signed_decimal z) refl (record { fits = fits; is = inl r
 
 operand_fits : (o : Origin) (z : ℤ) → FitsSigned w64 z → Fits o max_nesting (place.Object object.Operand) (printed_value (integer z))
 unfolding Fits operand_rows value_rows
-operand_fits o z fits = record { chooses = refl; no_vector = refl; levels = 0; takes = refl; room = omega arith; inside = (refl, inr (refl, (tt, (z, whole z fits))), refl) }
+operand_fits o z fits = flat_object_fits o max_nesting object.Operand _ refl refl refl (refl, inr (refl, (tt, (z, whole z fits))), refl)
 
 operand_spelled : (z : ℤ) → FitsSigned w64 z → SpellsOperand (printed_value (integer z)) z
 unfolding operand_rows value_rows
@@ -166,77 +167,36 @@ operand_spelled z fits = record { members = member (codes "integerValue") (strin
 
 change_fits : (o : Origin) (path : List (List ℕ)) (change : Change) → IsStorablePath path → IsStorableChange (length path) change → Fits o max_nesting (place.Object object.Transform) (printed_change (printed_path path) change)
 unfolding Fits transform_rows
-change_fits o path ServerTime stored holds = record { chooses = refl; no_vector = refl; levels = 0; takes = refl; room = omega arith; inside = (refl, inr (refl, (tt, path_fits o max_nesting path stored)), (refl, inr (refl, (tt, refl)), refl)) }
-change_fits o path (Increment by) stored holds = record { chooses = refl; no_vector = refl; levels = 0; takes = refl; room = omega arith; inside = (refl, inr (refl, (tt, path_fits o max_nesting path stored)), (refl, inr (refl, (tt, operand_fits o by holds)), refl)) }
-change_fits o path (Maximum other) stored holds = record { chooses = refl; no_vector = refl; levels = 0; takes = refl; room = omega arith; inside = (refl, inr (refl, (tt, path_fits o max_nesting path stored)), (refl, inr (refl, (tt, operand_fits o other holds)), refl)) }
-change_fits o path (Minimum other) stored holds = record { chooses = refl; no_vector = refl; levels = 0; takes = refl; room = omega arith; inside = (refl, inr (refl, (tt, path_fits o max_nesting path stored)), (refl, inr (refl, (tt, operand_fits o other holds)), refl)) }
-change_fits o path (Append vs) stored holds = record {
-  chooses = refl;
-  no_vector = refl;
-  levels = length path;
-  takes = of_path (printed_path path) path refl (printed_spells path stored.some);
-  room = holds.room;
-  inside = (refl, inr (refl, (tt, elements_fit o (max_nesting - length path) vs holds.each.each)), (refl, inr (refl, (tt, path_fits o (max_nesting - length path) path stored)), refl));
-}
-change_fits o path (RemoveAll vs) stored holds = record {
-  chooses = refl;
-  no_vector = refl;
-  levels = length path;
-  takes = of_path (printed_path path) path refl (printed_spells path stored.some);
-  room = holds.room;
-  inside = (refl, inr (refl, (tt, path_fits o (max_nesting - length path) path stored)), (refl, inr (refl, (tt, elements_fit o (max_nesting - length path) vs holds.each.each)), refl));
-}
+change_fits o path ServerTime stored holds =
+    flat_object_fits o max_nesting object.Transform _ refl refl refl (refl, inr (refl, (tt, path_fits o max_nesting path stored)), (refl, inr (refl, (tt, refl)), refl))
+change_fits o path (Increment by) stored holds =
+    flat_object_fits o max_nesting object.Transform _ refl refl refl (refl, inr (refl, (tt, path_fits o max_nesting path stored)), (refl, inr (refl, (tt, operand_fits o by holds)), refl))
+change_fits o path (Maximum other) stored holds =
+    flat_object_fits o max_nesting object.Transform _ refl refl refl (refl, inr (refl, (tt, path_fits o max_nesting path stored)), (refl, inr (refl, (tt, operand_fits o other holds)), refl))
+change_fits o path (Minimum other) stored holds =
+    flat_object_fits o max_nesting object.Transform _ refl refl refl (refl, inr (refl, (tt, path_fits o max_nesting path stored)), (refl, inr (refl, (tt, operand_fits o other holds)), refl))
+change_fits o path (Append vs) stored holds =
+    object_fits o max_nesting object.Transform _ (length path) refl refl (of_path (printed_path path) path refl (printed_spells path stored.some)) holds.room
+    (refl, inr (refl, (tt, elements_fit o (max_nesting - length path) vs holds.each.each)), (refl, inr (refl, (tt, path_fits o (max_nesting - length path) path stored)), refl))
+change_fits o path (RemoveAll vs) stored holds =
+    object_fits o max_nesting object.Transform _ (length path) refl refl (of_path (printed_path path) path refl (printed_spells path stored.some)) holds.room
+    (refl, inr (refl, (tt, path_fits o (max_nesting - length path) path stored)), (refl, inr (refl, (tt, elements_fit o (max_nesting - length path) vs holds.each.each)), refl))
+
+-- a transform whose members hold the path, and this change alone
+spelled_by : (path : List (List ℕ)) (ms : Members) (name : List ℕ) (inner : Json) (change : Change) → IsStorablePath path
+    → given (codes "fieldPath") ms ≡ Some (path_tree path) → chosen object.Transform ms ≡ (name, inner) ∷ [] → SpellsChange name inner change
+    → SpellsTransform (an_object ms) (record { path = path; change = change })
+spelled_by path ms name inner change stored at only spelled =
+    record { members = ms; is = refl; name = name; inner = inner; only = only; spells = record { path = record { tree = path_tree path; is = at; spells = path_spelled path stored }; change = spelled } }
 
 change_spelled : (path : List (List ℕ)) (change : Change) → IsStorablePath path → IsStorableChange (length path) change → SpellsTransform (printed_change (printed_path path) change) (record { path = path; change = change })
 unfolding transform_rows
-change_spelled path ServerTime stored holds = record {
-  members = member (codes "fieldPath") (path_tree path) (member (codes "setToServerValue") (string (codes "REQUEST_TIME")) no_members);
-  is = refl;
-  name = codes "setToServerValue";
-  inner = string (codes "REQUEST_TIME");
-  only = refl;
-  spells = record { path = record { tree = path_tree path; is = refl; spells = path_spelled path stored }; change = refl };
-}
-change_spelled path (Increment by) stored holds = record {
-  members = member (codes "fieldPath") (path_tree path) (member (codes "increment") (printed_value (integer by)) no_members);
-  is = refl;
-  name = codes "increment";
-  inner = printed_value (integer by);
-  only = refl;
-  spells = record { path = record { tree = path_tree path; is = refl; spells = path_spelled path stored }; change = (refl, operand_spelled by holds) };
-}
-change_spelled path (Maximum other) stored holds = record {
-  members = member (codes "fieldPath") (path_tree path) (member (codes "maximum") (printed_value (integer other)) no_members);
-  is = refl;
-  name = codes "maximum";
-  inner = printed_value (integer other);
-  only = refl;
-  spells = record { path = record { tree = path_tree path; is = refl; spells = path_spelled path stored }; change = (refl, operand_spelled other holds) };
-}
-change_spelled path (Minimum other) stored holds = record {
-  members = member (codes "fieldPath") (path_tree path) (member (codes "minimum") (printed_value (integer other)) no_members);
-  is = refl;
-  name = codes "minimum";
-  inner = printed_value (integer other);
-  only = refl;
-  spells = record { path = record { tree = path_tree path; is = refl; spells = path_spelled path stored }; change = (refl, operand_spelled other holds) };
-}
-change_spelled path (Append vs) stored holds = record {
-  members = member (codes "appendMissingElements") (printed_elements vs) (member (codes "fieldPath") (path_tree path) no_members);
-  is = refl;
-  name = codes "appendMissingElements";
-  inner = printed_elements vs;
-  only = refl;
-  spells = record { path = record { tree = path_tree path; is = refl; spells = path_spelled path stored }; change = (refl, elements_spelled (max_nesting - length path) vs holds.each.each) };
-}
-change_spelled path (RemoveAll vs) stored holds = record {
-  members = member (codes "fieldPath") (path_tree path) (member (codes "removeAllFromArray") (printed_elements vs) no_members);
-  is = refl;
-  name = codes "removeAllFromArray";
-  inner = printed_elements vs;
-  only = refl;
-  spells = record { path = record { tree = path_tree path; is = refl; spells = path_spelled path stored }; change = (refl, elements_spelled (max_nesting - length path) vs holds.each.each) };
-}
+change_spelled path ServerTime stored holds = spelled_by path _ (codes "setToServerValue") _ _ stored refl refl refl
+change_spelled path (Increment by) stored holds = spelled_by path _ (codes "increment") _ _ stored refl refl (refl, operand_spelled by holds)
+change_spelled path (Maximum other) stored holds = spelled_by path _ (codes "maximum") _ _ stored refl refl (refl, operand_spelled other holds)
+change_spelled path (Minimum other) stored holds = spelled_by path _ (codes "minimum") _ _ stored refl refl (refl, operand_spelled other holds)
+change_spelled path (Append vs) stored holds = spelled_by path _ (codes "appendMissingElements") _ _ stored refl refl (refl, elements_spelled (max_nesting - length path) vs holds.each.each)
+change_spelled path (RemoveAll vs) stored holds = spelled_by path _ (codes "removeAllFromArray") _ _ stored refl refl (refl, elements_spelled (max_nesting - length path) vs holds.each.each)
 
 transform_fits : (o : Origin) (transform : Transform) → IsStorableTransform transform → Fits o max_nesting (place.Object object.Transform) (printed_transform transform)
 transform_fits o transform stored = change_fits o transform.path transform.change stored.path stored.change
@@ -246,8 +206,9 @@ transform_spelled transform stored = change_spelled transform.path transform.cha
 
 pub transforms_fit : (o : Origin) (transforms : List Transform) → All IsStorableTransform transforms → FitsFound o max_nesting (place.Series series.Transforms) (unless_empty (printed_each printed_transform transforms))
 unfolding Fits
-transforms_fit o [] all = tt
-transforms_fit o (transform ∷ transforms) all = (refl, (refl, each_fits o max_nesting (place.Object object.Transform) printed_transform IsStorableTransform (transform_fits o) series.Transforms refl (transform ∷ transforms) all))
+transforms_fit o transforms all =
+    list_fits o max_nesting series.Transforms (printed_each printed_transform transforms) refl
+    (each_fits o max_nesting (place.Object object.Transform) printed_transform IsStorableTransform (transform_fits o) series.Transforms refl transforms all)
 
 -- ---- masks that may be left out
 

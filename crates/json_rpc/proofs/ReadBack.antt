@@ -1,9 +1,9 @@
 -- What is printed of a write that can be stored is of the form, and spells it.
-use Rattle.std.proofs.Common.{◌≡◌, ◌≤◌, ℕ, List, [], ◌∷◌, true, not, codes, Option, Some, None, option_map, refl, sym, ap, subst, inr, ◌∙◌, arith}
+use Rattle.std.proofs.Common.{◌≡◌, ◌≤◌, ℕ, List, [], ◌∷◌, true, not, codes, Option, Some, None, option_map, refl, sym, ap, subst, inr, ◌∙◌}
 use Rattle.std.specs.Bool.{if◌then◌else◌}
 use Rattle.std.specs.Str.{bytes_eq}
 use Rattle.document_keys.specs.Names.{Root, name_text}
-use Rattle.serde_json.specs.Data.{Data as Json, string, object as an_object, Members, no_members, member}
+use Rattle.serde_json.specs.Data.{Data as Json, string, object as an_object, Members}
 use Rattle.value_model.specs.Data.{Entries, entries_depth}
 use Rattle.value_model.specs.Storable.{AreStorable, IsStorableKey}
 use Rattle.value_model.proofs.ReadBack.{time_read}
@@ -18,22 +18,19 @@ use Rattle.json_model.specs.Grammar.{SpellsName}
 use Rattle.json_model.specs.Members.{given, chosen, refined, only_name, is_one_known}
 use Rattle.json_model.specs.Origin.{Origin}
 use Rattle.json_model.specs.Places.{write_rows, delete_write_rows, update_rows, is_write_choice, required}
-use Rattle.json_model.specs.Printed.{printed_fields}
-use Rattle.json_model.proofs.Fitting.{fits_clean}
+use Rattle.json_model.proofs.Fitting.{fits_clean, flat_object_fits}
 use Rattle.json_model.proofs.ReadBack.{fields_spelled, printed_fits}
 use Rattle.mutations.specs.declared.transform.Transform.{Transform}
 use Rattle.mutations.specs.declared.write.Precondition.{Precondition}
-use Rattle.mutations.specs.declared.write.Precondition.TheVariants.{Free, Exists, UpdateTime}
+use Rattle.mutations.specs.declared.write.Precondition.TheVariants.{Free}
 use Rattle.mutations.specs.declared.write.Write.{Write}
 use Rattle.mutations.specs.declared.write.Write.TheVariants.{Update, Delete}
-use Rattle.json_rpc.specs.Grammar.{SpellsCondition, SpellsMaskIn, SpellsTransform, SpellsDocument, SpellsWrite}
+use Rattle.json_rpc.specs.Grammar.{SpellsCondition, SpellsMaskIn, SpellsFieldsIn, SpellsTransform, SpellsDocument, SpellsWrite}
 use Rattle.json_rpc.specs.Laws.{PrintedWritesReadBack}
 use Rattle.json_rpc.specs.Printed.{printed_condition, printed_mask, printed_transform, printed_update, printed_write}
 use Rattle.json_rpc.specs.Storable.{IsStorableTransform, IsStorableUpdate, IsStorableDelete, IsStorableWrite}
-use Rattle.json_rpc.proofs.Parts.{row_fits, condition_fits, condition_spelled, mask_fits, mask_spelled, transforms_fit, transform_spelled, list_spelled}
-
-abbrev Row : Type 0
-Row = List ℕ × Option Json
+use Rattle.json_rpc.proofs.Rows.{rows_of_update, rows_of_delete}
+use Rattle.json_rpc.proofs.Parts.{rows_fit, condition_fits, condition_spelled, mask_fits, mask_spelled, transforms_fit, transform_spelled, list_spelled}
 
 -- ---- names
 
@@ -48,50 +45,32 @@ name_spelled root key stored = record { names = stored.sound; is = refl }
 
 update_fits : (o : Origin) (key : List (List ℕ)) (fields : Entries) → IsStorableKey key → AreStorable fields → entries_depth fields ≤ max_nesting → Fits o max_nesting (place.Object object.Update) (printed_update o.root key fields)
 unfolding Fits update_rows
-update_fits o key [] stored holds deep = record { chooses = refl; no_vector = refl; levels = 0; takes = refl; room = omega arith; inside = (refl, inr (refl, (tt, name_fits o max_nesting key stored)), refl) }
-update_fits o key (field ∷ fields) stored holds deep = record {
-  chooses = refl;
-  no_vector = refl;
-  levels = 0;
-  takes = refl;
-  room = omega arith;
-  inside = (refl, inr (refl, (tt, printed_fits time_read o max_nesting (field ∷ fields) holds deep)), (refl, inr (refl, (tt, name_fits o max_nesting key stored)), refl));
-}
+update_fits o key [] stored holds deep = flat_object_fits o max_nesting object.Update _ refl refl refl (refl, inr (refl, (tt, name_fits o max_nesting key stored)), refl)
+update_fits o key (field ∷ fields) stored holds deep =
+    flat_object_fits o max_nesting object.Update _ refl refl refl
+    (refl, inr (refl, (tt, printed_fits time_read o max_nesting (field ∷ fields) holds deep)), (refl, inr (refl, (tt, name_fits o max_nesting key stored)), refl))
+
+spelled_in : (root : Root) (key : List (List ℕ)) (fields : Entries) (ms : Members) → IsStorableKey key
+    → given (codes "name") ms ≡ Some (string (name_text root key)) → SpellsFieldsIn (given (codes "fields") ms) fields → SpellsDocument root (an_object ms) key fields
+spelled_in root key fields ms stored at holds =
+    record { members = ms; is = refl; spells = record { names = record { tree = string (name_text root key); is = at; spells = name_spelled root key stored }; holds = holds } }
 
 update_spelled : (root : Root) (key : List (List ℕ)) (fields : Entries) → IsStorableKey key → AreStorable fields → SpellsDocument root (printed_update root key fields) key fields
-update_spelled root key [] stored holds = record { members = member (codes "name") (string (name_text root key)) no_members; is = refl; spells = record { names = record { tree = string (name_text root key); is = refl; spells = name_spelled root key stored }; holds = refl } }
-update_spelled root key (field ∷ fields) stored holds = record {
-  members = member (codes "fields") (printed_fields (field ∷ fields)) (member (codes "name") (string (name_text root key)) no_members);
-  is = refl;
-  spells = record { names = record { tree = string (name_text root key); is = refl; spells = name_spelled root key stored }; holds = fields_spelled time_read (field ∷ fields) holds };
-}
+update_spelled root key [] stored holds = spelled_in root key [] _ stored refl refl
+update_spelled root key (field ∷ fields) stored holds = spelled_in root key _ _ stored refl (fields_spelled time_read (field ∷ fields) holds)
 
 -- ---- an update with what stands beside it
 
 module _ (root : Root) (key : List (List ℕ)) (fields : Entries) where
   abbrev Beside : Option (List (List (List ℕ))) → List Transform → Precondition → Members
-  Beside mask transforms condition =
-      present (
-      (codes "currentDocument", printed_condition condition) ∷
-      (codes "update", Some (printed_update root key fields)) ∷
-      (codes "updateMask", option_map printed_mask mask) ∷
-      (codes "updateTransforms", unless_empty (printed_each printed_transform transforms)) ∷
-      [])
+  Beside mask transforms condition = present (rows_of_update root key fields mask transforms condition)
 
   update_chosen : (mask : Option (List (List (List ℕ)))) (transforms : List Transform) (condition : Precondition) → chosen object.Write (Beside mask transforms condition) ≡ (codes "update", printed_update root key fields) ∷ []
   unfolding write_rows is_write_choice
   update_chosen None [] Free = refl
-  update_chosen None [] (Exists is) = refl
-  update_chosen None [] (UpdateTime time) = refl
-  update_chosen None (t ∷ ts) Free = refl
-  update_chosen None (t ∷ ts) (Exists is) = refl
-  update_chosen None (t ∷ ts) (UpdateTime time) = refl
   update_chosen (Some mask) [] Free = refl
-  update_chosen (Some mask) [] (Exists is) = refl
-  update_chosen (Some mask) [] (UpdateTime time) = refl
-  update_chosen (Some mask) (t ∷ ts) Free = refl
-  update_chosen (Some mask) (t ∷ ts) (Exists is) = refl
-  update_chosen (Some mask) (t ∷ ts) (UpdateTime time) = refl
+  update_chosen _ _ Free = refl
+  update_chosen _ _ _ = refl
 
   -- what is given beside it
   record Beside_is (mask : Option (List (List (List ℕ)))) (transforms : List Transform) (condition : Precondition) : Type 0 where
@@ -101,17 +80,9 @@ module _ (root : Root) (key : List (List ℕ)) (fields : Entries) where
 
   beside_is : (mask : Option (List (List (List ℕ)))) (transforms : List Transform) (condition : Precondition) → Beside_is mask transforms condition
   beside_is None [] Free = record { condition_is = refl; mask_is = refl; transforms_are = refl }
-  beside_is None [] (Exists is) = record { condition_is = refl; mask_is = refl; transforms_are = refl }
-  beside_is None [] (UpdateTime time) = record { condition_is = refl; mask_is = refl; transforms_are = refl }
-  beside_is None (t ∷ ts) Free = record { condition_is = refl; mask_is = refl; transforms_are = refl }
-  beside_is None (t ∷ ts) (Exists is) = record { condition_is = refl; mask_is = refl; transforms_are = refl }
-  beside_is None (t ∷ ts) (UpdateTime time) = record { condition_is = refl; mask_is = refl; transforms_are = refl }
   beside_is (Some mask) [] Free = record { condition_is = refl; mask_is = refl; transforms_are = refl }
-  beside_is (Some mask) [] (Exists is) = record { condition_is = refl; mask_is = refl; transforms_are = refl }
-  beside_is (Some mask) [] (UpdateTime time) = record { condition_is = refl; mask_is = refl; transforms_are = refl }
-  beside_is (Some mask) (t ∷ ts) Free = record { condition_is = refl; mask_is = refl; transforms_are = refl }
-  beside_is (Some mask) (t ∷ ts) (Exists is) = record { condition_is = refl; mask_is = refl; transforms_are = refl }
-  beside_is (Some mask) (t ∷ ts) (UpdateTime time) = record { condition_is = refl; mask_is = refl; transforms_are = refl }
+  beside_is _ _ Free = record { condition_is = refl; mask_is = refl; transforms_are = refl }
+  beside_is _ _ _ = record { condition_is = refl; mask_is = refl; transforms_are = refl }
 
   update_write_spelled : (mask : Option (List (List (List ℕ)))) (transforms : List Transform) (condition : Precondition) → IsStorableUpdate key fields mask transforms condition → SpellsWrite root (an_object (Beside mask transforms condition)) (Update key fields mask transforms condition)
   update_write_spelled mask transforms condition stored =
@@ -139,44 +110,37 @@ write_fits : (o : Origin) (ms : Members) (name : List ℕ) (d : Json) (kind : Ob
 unfolding Fits
 write_fits o ms name d kind only known is none takes members =
     let same : refined object.Write ms ≡ kind = ap (λ l. if bytes_eq (only_name l) (codes "delete") then object.DeleteWrite else object.Write) only ∙ is in
-    record {
-      chooses = ap (λ l. not (is_one_known object.Write l)) only ∙ ap not known;
-      no_vector = refl;
-      levels = 0;
-      takes = subst (λ k. Takes k ms 0) (sym same) takes;
-      room = omega arith;
-      inside = subst (λ k. MembersFit o max_nesting k (required k) ms) (sym same) (subst (λ l. MembersFit o max_nesting kind l ms) (sym none) members);
-    }
+    flat_object_fits o max_nesting object.Write ms (ap (λ l. not (is_one_known object.Write l)) only ∙ ap not known) refl (subst (λ k. Takes k ms 0) (sym same) takes)
+    (subst (λ k. MembersFit o max_nesting k (required k) ms) (sym same) (subst (λ l. MembersFit o max_nesting kind l ms) (sym none) members))
 
 update_write_fits : (o : Origin) (key : List (List ℕ)) (fields : Entries) (mask : Option (List (List (List ℕ)))) (transforms : List Transform) (condition : Precondition) → IsStorableUpdate key fields mask transforms condition
     → Fits o max_nesting (place.Object object.Write) (an_object (Beside o.root key fields mask transforms condition))
 unfolding write_rows is_write_choice Fits
 update_write_fits o key fields mask transforms condition stored =
-    let the_update : Row = (codes "update", Some (printed_update o.root key fields)) in
-    let the_mask : Row = (codes "updateMask", option_map printed_mask mask) in
-    let the_transforms : Row = (codes "updateTransforms", unless_empty (printed_each printed_transform transforms)) in
     write_fits o (Beside o.root key fields mask transforms condition) (codes "update") (printed_update o.root key fields) object.Write (update_chosen o.root key fields mask transforms condition) refl refl refl refl
-    (row_fits o max_nesting object.Write (codes "currentDocument") (printed_condition condition) (present (the_update ∷ the_mask ∷ the_transforms ∷ [])) tt (condition_fits o condition stored.asks)
-    (row_fits o max_nesting object.Write (codes "update") (Some (printed_update o.root key fields)) (present (the_mask ∷ the_transforms ∷ [])) tt (refl, update_fits o key fields stored.names stored.holds stored.deep)
-    (row_fits o max_nesting object.Write (codes "updateMask") (option_map printed_mask mask) (present (the_transforms ∷ [])) tt (mask_fits o mask stored.masks)
-    (row_fits o max_nesting object.Write (codes "updateTransforms") (unless_empty (printed_each printed_transform transforms)) no_members tt (transforms_fit o transforms stored.changes.each)
-    refl))))
+    (rows_fit o max_nesting object.Write (rows_of_update o.root key fields mask transforms condition) (
+      tt,
+      condition_fits o condition stored.asks,
+      (
+        tt,
+        (refl, update_fits o key fields stored.names stored.holds stored.deep),
+        (tt, mask_fits o mask stored.masks, (tt, transforms_fit o transforms stored.changes.each, tt)),
+      ),
+    ))
 
 -- ---- a delete
 
 abbrev Deleted : Root → List (List ℕ) → Precondition → Members
-Deleted root key condition = present ((codes "currentDocument", printed_condition condition) ∷ (codes "delete", Some (string (name_text root key))) ∷ [])
+Deleted root key condition = present (rows_of_delete root key condition)
 
 delete_chosen : (root : Root) (key : List (List ℕ)) (condition : Precondition) → chosen object.Write (Deleted root key condition) ≡ (codes "delete", string (name_text root key)) ∷ []
 unfolding write_rows is_write_choice
 delete_chosen root key Free = refl
-delete_chosen root key (Exists is) = refl
-delete_chosen root key (UpdateTime time) = refl
+delete_chosen root key _ = refl
 
 delete_asks : (root : Root) (key : List (List ℕ)) (condition : Precondition) → given (codes "currentDocument") (Deleted root key condition) ≡ printed_condition condition
 delete_asks root key Free = refl
-delete_asks root key (Exists is) = refl
-delete_asks root key (UpdateTime time) = refl
+delete_asks root key _ = refl
 
 delete_write_spelled : (root : Root) (key : List (List ℕ)) (condition : Precondition) → IsStorableDelete key condition → SpellsWrite root (an_object (Deleted root key condition)) (Delete key condition)
 delete_write_spelled root key condition stored = record {
@@ -192,9 +156,7 @@ delete_write_fits : (o : Origin) (key : List (List ℕ)) (condition : Preconditi
 unfolding write_rows delete_write_rows is_write_choice Fits
 delete_write_fits o key condition stored =
     write_fits o (Deleted o.root key condition) (codes "delete") (string (name_text o.root key)) object.DeleteWrite (delete_chosen o.root key condition) refl refl refl refl
-    (row_fits o max_nesting object.DeleteWrite (codes "currentDocument") (printed_condition condition) (present ((codes "delete", Some (string (name_text o.root key))) ∷ [])) tt (condition_fits o condition stored.asks)
-    (row_fits o max_nesting object.DeleteWrite (codes "delete") (Some (string (name_text o.root key))) no_members tt (refl, name_fits o max_nesting key stored.names)
-    refl))
+    (rows_fit o max_nesting object.DeleteWrite (rows_of_delete o.root key condition) (tt, condition_fits o condition stored.asks, (tt, (refl, name_fits o max_nesting key stored.names), tt)))
 
 -- ---- a write
 

@@ -23,6 +23,7 @@ use serde_json::Value as Json;
 use std::alloc::Global;
 
 /// The paths of a list.
+#[tactic(auto, using(json_model::proofs::Forms::all_spelled))]
 fn clean_paths(
     alloc: Global,
     setting: &Setting<'_>,
@@ -81,6 +82,7 @@ fn print_path(alloc: Global, path: &FieldPath) -> Result<Json, NoMemory>
 }
 
 /// The trees of paths.
+#[tactic(auto, using(json_model::proofs::PrintedLists::printed_more))]
 fn print_paths(alloc: Global, paths: &[FieldPath]) -> Result<Vec<Json>, NoMemory>
     ensures { IfOk result (λ trees. items_view trees.items ≡ printed_each path_tree paths.now) }
 {

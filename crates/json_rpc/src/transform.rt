@@ -57,6 +57,7 @@ fn clean_operand(alloc: Global, setting: &Setting<'_>, json: &Json) -> Result<i6
 }
 
 /// The elements of a transform of an array.
+#[tactic(auto, using(crate::proofs::Given::no_elements))]
 fn clean_elements(alloc: Global, setting: &Setting<'_>, json: &Json) -> Result<Values, NoMemory>
     requires { IsClean setting.now (places.Object objects.Elements) (view json.now) }
     ensures elements { IfOk result (λ values. SpellsElements (view json.now) values) }
@@ -112,6 +113,7 @@ fn clean_transform(alloc: Global, setting: &Setting<'_>, json: &Json) -> Result<
 }
 
 /// The transforms of a list.
+#[tactic(auto, using(json_model::proofs::Forms::all_spelled))]
 fn clean_items(
     alloc: Global,
     setting: &Setting<'_>,
@@ -158,6 +160,7 @@ fn print_operand(alloc: Global, number: i64) -> Result<Json, NoMemory>
 }
 
 /// The trees of values.
+#[tactic(auto, using(json_model::proofs::PrintedLists::printed_more))]
 fn print_values(alloc: Global, values: &[Value]) -> Result<Vec<Json>, NoMemory>
     ensures { IfOk result (λ trees. items_view trees.items ≡ printed_each printed_value values.now) }
 {
@@ -224,6 +227,7 @@ fn print_transform(alloc: Global, transform: &Transform) -> Result<Json, NoMemor
 }
 
 /// The trees of transforms.
+#[tactic(auto, using(json_model::proofs::PrintedLists::printed_more))]
 fn print_items(alloc: Global, transforms: &[Transform]) -> Result<Vec<Json>, NoMemory>
     ensures { IfOk result (λ trees. items_view trees.items ≡ printed_each printed_transform transforms.now) }
 {

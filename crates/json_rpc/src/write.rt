@@ -163,6 +163,7 @@ pub fn clean_write(alloc: Global, setting: &Setting<'_>, json: &Json) -> Result<
 ///
 /// # Errors
 /// `NoMemory`
+#[tactic(auto, using(json_model::proofs::Forms::all_spelled))]
 pub fn clean_writes(
     alloc: Global,
     setting: &Setting<'_>,

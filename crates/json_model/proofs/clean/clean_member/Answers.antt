@@ -1,9 +1,6 @@
-use Rattle.json_model.proofs.Sound.{given_all, required_there}
+use Rattle.json_model.proofs.Sound.{required_there}
 use Rattle.json_model.proofs.Trees.{given_within}
 use Rattle.json_model.proofs.clean.clean_member.Goals as goal
-
-pub returns-clause-clean : goal.returns-clause-clean
-returns-clause-clean c = given_all _ _ _ _ c.given.result c.requires c.given.ensures
 
 pub returns-clause-there : goal.returns-clause-there
 returns-clause-there c = required_there _ _ _ _ c.given.result c.requires c.given.ensures

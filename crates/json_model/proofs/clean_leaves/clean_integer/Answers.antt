@@ -3,14 +3,10 @@ use Rattle.std.proofs.lemmas.Int.{to_z-of_z}
 use Rattle.serde_json.specs.View.{view}
 use Rattle.json_model.specs.Numbers.{SpellsWhole}
 use Rattle.json_model.proofs.Stored.{whole_fits}
-use Rattle.json_model.proofs.Fine.{clean_leaf}
 use Rattle.json_model.proofs.clean_leaves.clean_integer.Goals as goal
 
 pub unreachable-requires : goal.unreachable-requires
-unreachable-requires c =
-    let f = clean_leaf _ _ _ c.requires in
-    let none = rw c.in-None.is at c.in_ok-number.ensures in
-    none f.0 f.1
+unreachable-requires c = (rw c.in-None.is at c.in_ok-number.ensures) c.show_leaf.ensures.0 c.show_leaf.ensures.1
 
 pub returns : goal.returns
 returns c =

@@ -1,17 +1,5 @@
-use Rattle.std.proofs.Common.{ap, sym, subst, ◌∙◌}
-use Rattle.serde_json.specs.Find.{as_str}
-use Rattle.json_model.specs.Leaves.{IsReferenceText}
-use Rattle.json_model.proofs.Fine.{clean_leaf}
-use Rattle.json_model.proofs.Kinded.{same_text}
 use Rattle.json_model.proofs.OneLeaf.{no_reference_fault}
 use Rattle.json_model.proofs.clean_leaves.clean_reference.Goals as goal
 
-pub unreachable-requires : goal.unreachable-requires
-unreachable-requires c =
-    let f = clean_leaf _ _ _ c.requires in
-    let e = c.in_default.ensures ∙ ap as_str f.1.0 in cc
-
 pub want_of_memory-requires : goal.want_of_memory-requires
-want_of_memory-requires c =
-    let f = clean_leaf _ _ _ c.requires in
-    no_reference_fault _ _ (subst IsReferenceText (sym (same_text _ _ _ c.in-Some.ensures f.1.0)) f.1.1) c.in-Err.ensures.fault
+want_of_memory-requires c = no_reference_fault _ _ c.clean_leaf_text-text.ensures.fits c.in-Err.ensures.fault

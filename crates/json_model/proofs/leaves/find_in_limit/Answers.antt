@@ -1,10 +1,7 @@
-use Rattle.std.proofs.Common.{sym, ◌∙◌, ℤ}
 use Rattle.serde_json.specs.View.{view}
 use Rattle.json_model.specs.Numbers.{SpellsShort}
-use Rattle.json_model.proofs.Kinded.{unless_test, some_then, then_some}
+use Rattle.json_model.proofs.Kinded.{unless_found}
 use Rattle.json_model.proofs.leaves.find_in_limit.Goals as goal
 
 pub returns : goal.returns
-returns c =
-    let Fact = λ (z : ℤ). SpellsShort (view c.args.json.now) z in
-    unless_test _ _ c.is_some.result c.bad_shape_unless.result (λ e. some_then Fact c.in_ok-number.number c.in_ok-number.ensures (sym c.is_some.ensures ∙ e)) (λ fact. c.is_some.ensures ∙ then_some Fact c.in_ok-number.number c.in_ok-number.ensures fact) c.bad_shape_unless.ensures
+returns c = unless_found (SpellsShort (view c.args.json.now)) _ c.in_ok-number.number _ c.bad_shape_unless.result c.in_ok-number.ensures c.is_some.ensures c.bad_shape_unless.ensures

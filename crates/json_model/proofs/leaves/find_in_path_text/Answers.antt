@@ -1,5 +1,5 @@
 use Rattle.std.proofs.Common.{inl, refl}
-use Rattle.json_model.specs.Leaves.{IsFieldPathText, PathFaults, few}
+use Rattle.json_model.specs.Leaves.{PathFaults, few}
 use Rattle.json_model.proofs.Fine.{not_many}
 use Rattle.json_model.proofs.Kinded.{found_fault}
 use Rattle.json_model.proofs.Naming.{none}
@@ -9,6 +9,4 @@ pub returns : goal.returns
 returns c = found_fault _ _ c.unless_memory.result c.in-Err.ensures.fault c.unless_memory.ensures
 
 pub returns-in-Ok : goal.returns-in-Ok
-returns-in-Ok c =
-    let is : IsFieldPathText c.args.text.now = (c.in-Ok.field-0, c.in-Ok.ensures.path) in
-    none (PathFaults c.args.text.now) (few (not_many _ is) (inl (is, refl)))
+returns-in-Ok c = none (PathFaults c.args.text.now) (few (not_many _ _ c.in-Ok.ensures.path.spelled c.in-Ok.ensures.path.few) (inl ((c.in-Ok.field-0, c.in-Ok.ensures.path), refl)))

@@ -11,41 +11,17 @@ use Rattle.serde_json.specs.View.{view, items_view, members_view}
 use Rattle.json_model.specs.declared.place.Series.TheVariants as series
 use Rattle.json_model.specs.Clean.{ItemsAreClean}
 use Rattle.json_model.specs.Grammar.{SpellsKind, SpellsItems, SpellsMembers, as_scalar, no_member}
-use Rattle.json_model.proofs.Built.{kind_known, no_other_kind, no_other_object, whole_list, no_items, one_more, item_clean, field_clean, member_skip, member_more, empty_array, full_array, empty_map, full_map, a_value, a_full_list}
+use Rattle.json_model.proofs.Built.{kind_known, no_other_kind, whole_list, one_more, item_clean, field_clean, member_skip, member_more, a_value, a_full_list}
 use Rattle.json_model.proofs.Deep.{clean_deep, value_within, values_within}
-use Rattle.json_model.proofs.Stored.{keys_put, members_put, array_stored, map_stored}
+use Rattle.json_model.proofs.Stored.{keys_put, members_put}
 use Rattle.json_model.proofs.Trees.{null_test, item_depth, entry_depth}
 use Rattle.json_model.proofs.reading.+build.Goals as goal
-
-pub build_array-returns-in_default-clause-found : goal.build_array-returns-in_default-clause-found
-build_array-returns-in_default-clause-found t c = empty_array _ _ _ _ c.clean_object-members.ensures.is c.in_default.ensures.is c.new.ensures.items c.array.ensures
-
-pub build_array-returns-clause-found : goal.build_array-returns-clause-found
-build_array-returns-clause-found t c = full_array _ _ _ _ _ c.clean_object-members.ensures.is c.in-Some.ensures.is c.in_ok-values.ensures.values c.array-2.ensures
-
-pub build_array-returns-clause-storable : goal.build_array-returns-clause-storable
-build_array-returns-clause-storable t c = array_stored c.in_ok-values.values _ c.array-2.ensures c.in_ok-values.ensures.storable (search rules)
 
 pub build_kind-unreachable-requires : goal.build_kind-unreachable-requires
 build_kind-unreachable-requires t c = no_other_kind _ _ _ c.requires.kind c.requires.clean c.in_default.not-Object c.in_default.not-Leaf
 
-pub build_kind-returns-in-Object-clause-found : goal.build_kind-returns-in-Object-clause-found
-build_kind-returns-in-Object-clause-found t c = rw c.in-Object.is c.build_nested.ensures.found
-
-pub build_nested-unreachable-requires : goal.build_nested-unreachable-requires
-build_nested-unreachable-requires t c = no_other_object _ c.requires.kind c.in_default.not-Array c.in_default.not-Map
-
 pub build_kind-returns-in-Leaf-clause-found : goal.build_kind-returns-in-Leaf-clause-found
 build_kind-returns-in-Leaf-clause-found t c = rw c.in-Leaf.is (IfOk-weaker c.build_scalar.result _ _ (λ v s. as_scalar s) c.build_scalar.ensures.found)
-
-pub build_map-returns-in_default-clause-found : goal.build_map-returns-in_default-clause-found
-build_map-returns-in_default-clause-found t c = empty_map _ _ _ _ c.clean_object-members.ensures.is c.in_default.ensures.is c.new.ensures c.map.ensures
-
-pub build_map-returns-clause-found : goal.build_map-returns-clause-found
-build_map-returns-clause-found t c = full_map _ _ _ _ _ c.clean_object-members.ensures.is c.in-Some.ensures.is c.in_ok-fields.ensures.fields c.map-2.ensures
-
-pub build_map-returns-clause-storable : goal.build_map-returns-clause-storable
-build_map-returns-clause-storable t c = map_stored _ _ c.map-2.ensures c.in_ok-fields.ensures.storable
 
 pub clean_fields-loop-key-init : goal.clean_fields-loop-key-init
 clean_fields-loop-key-init t c = (tt, tt, rw c.in_ok-fields.ensures no_member, rw c.in_ok-fields.ensures (All-nil IsUtf8), rw c.in_ok-fields.ensures tt)
@@ -104,9 +80,6 @@ pub clean_value-returns-clause-deep : goal.clean_value-returns-clause-deep
 clean_value-returns-clause-deep t c =
     IfOk-weaker c.build_kind.result _ _
     (λ v spells. value_within _ _ v c.requires (a_value _ _ _ _ v c.clean_object-members.ensures.is c.clean_choice.ensures.only (subst (λ p. SpellsKind p (view c.clean_choice.result.1.now) v) c.value_member.ensures spells))) c.build_kind.ensures.found
-
-pub clean_values-loop-item-init : goal.clean_values-loop-item-init
-clean_values-loop-item-init t c = no_items _ c.in_ok-values.ensures.items
 
 pub clean_values-clean_value-requires : goal.clean_values-clean_value-requires
 clean_values-clean_value-requires t c =

@@ -1,12 +1,5 @@
 use Rattle.json_model.proofs.Answered.{name_fault, names_none}
-use Rattle.json_model.proofs.Fine.{leaf_faults}
 use Rattle.json_model.proofs.reading.read_name.Goals as goal
-
-pub returns-in-Err-clause-fault : goal.returns-in-Err-clause-fault
-returns-in-Err-clause-fault c = name_fault _ _ _ c.in-Err.ensures.fault
 
 pub returns-in-Err-clause-names_none : goal.returns-in-Err-clause-names_none
 returns-in-Err-clause-names_none c = names_none _ _ _ (name_fault _ _ _ c.in-Err.ensures.fault)
-
-pub returns-clause-clean : goal.returns-clause-clean
-returns-clause-clean c = leaf_faults _ _ _ _ _ _ c.in_default.ensures.clean

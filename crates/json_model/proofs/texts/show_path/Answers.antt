@@ -11,8 +11,5 @@ loop-i-preserved c =
       | in_default w ↦ let within : c.loop-i.i < length c.args.path.now = omega (arith, c.loop-i-test.true, c.len-i-end.ensures.count) in let there = slice_get-get_or c.args.path.now c.loop-i.i d within in let none = w.in_default.ensures in cc
     ])
 
-pub returns-clause-some : goal.returns-clause-some
-returns-clause-some c = c.len-i-end.ensures.path.some
-
 pub returns-clause-utf8 : goal.returns-clause-utf8
 returns-clause-utf8 c = λ k d within. c.loop-i.invariant k (omega (arith, c.loop-i-test.false, c.len-i-end.ensures.count, within)) d

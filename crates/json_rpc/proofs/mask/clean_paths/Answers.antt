@@ -5,7 +5,7 @@ use Rattle.json_model.specs.Clean.{ItemsAreClean}
 use Rattle.json_model.specs.Grammar.{SpellsPathTree}
 use Rattle.json_model.specs.Storable.{IsStorablePath}
 use Rattle.json_model.proofs.Built.{item_clean}
-use Rattle.json_model.proofs.Forms.{none_spelled, more_spelled, all_spelled}
+use Rattle.json_model.proofs.Forms.{none_spelled, more_spelled}
 use Rattle.json_rpc.proofs.mask.clean_paths.Goals as goal
 
 pub loop-item-init : goal.loop-item-init
@@ -18,6 +18,3 @@ clean_path-requires c =
 
 pub loop-item-preserved : goal.loop-item-preserved
 loop-item-preserved c = more_spelled SpellsPathTree IsStorablePath _ c.loop-item.item-index c.item-item.result _ _ _ c.loop-item-test.true c.item-item.is c.loop-item.invariant c.in_ok-clean_path.ensures.path c.in_ok-clean_path.ensures.storable c.in_ok-push.ensures.items
-
-pub returns-clause-paths : goal.returns-clause-paths
-returns-clause-paths c = all_spelled SpellsPathTree IsStorablePath _ c.clean_list-items.result.now.items _ c.loop-item.item-index _ c.clean_list-items.ensures.is c.deref-item-items.ensures.value c.loop-item-test.false c.loop-item.auto.item-index-end c.loop-item.invariant

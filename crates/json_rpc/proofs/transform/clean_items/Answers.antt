@@ -3,7 +3,7 @@ use Rattle.serde_json.specs.View.{items_view}
 use Rattle.json_model.specs.declared.place.Series.TheVariants as series
 use Rattle.json_model.specs.Clean.{ItemsAreClean}
 use Rattle.json_model.proofs.Built.{item_clean}
-use Rattle.json_model.proofs.Forms.{none_spelled, more_spelled, all_spelled}
+use Rattle.json_model.proofs.Forms.{none_spelled, more_spelled}
 use Rattle.json_rpc.specs.Grammar.{SpellsTransform}
 use Rattle.json_rpc.specs.Storable.{IsStorableTransform}
 use Rattle.json_rpc.proofs.transform.clean_items.Goals as goal
@@ -18,6 +18,3 @@ clean_transform-requires c =
 
 pub loop-item-preserved : goal.loop-item-preserved
 loop-item-preserved c = more_spelled SpellsTransform IsStorableTransform _ c.loop-item.item-index c.item-item.result _ _ _ c.loop-item-test.true c.item-item.is c.loop-item.invariant c.in_ok-clean_transform.ensures.transform c.in_ok-clean_transform.ensures.storable c.in_ok-push.ensures.items
-
-pub returns-clause-transforms : goal.returns-clause-transforms
-returns-clause-transforms c = all_spelled SpellsTransform IsStorableTransform _ c.clean_list-items.result.now.items _ c.loop-item.item-index _ c.clean_list-items.ensures.is c.deref-item-items.ensures.value c.loop-item-test.false c.loop-item.auto.item-index-end c.loop-item.invariant
