@@ -73,19 +73,19 @@ fn rank(fault: &JsonFault) -> u8
     }
 }
 
-/// The earlier of two faults, unless the later one is of a kind that is reported first.
-pub fn better(earlier: Option<JsonFault>, later: Option<JsonFault>) -> Option<JsonFault>
-    ensures { result ≡ better_of earlier later }
+/// Puts the later of two faults in place of the earlier one, where it is of a kind that is reported first, or there is none
+/// earlier.
+pub(crate) fn improve(fault: &mut Option<JsonFault>, later: Option<JsonFault>)
+    ensures { fault.new ≡ better_of fault.old later }
 {
-    let Some(first) = earlier else {
-        return later;
-    };
     let Some(second) = later else {
-        return Some(first);
+        return;
     };
-    if rank(&second) < rank(&first) {
-        Some(second)
-    } else {
-        Some(first)
+    let is_better = match fault {
+        Some(first) => rank(&second) < rank(first),
+        None => true,
+    };
+    if is_better {
+        *fault = Some(second);
     }
 }

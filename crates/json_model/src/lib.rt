@@ -37,7 +37,7 @@ pub use clean_leaves::{
     clean_reference, clean_target_id, clean_text, clean_time,
 };
 pub use document::state_text;
-pub use fault::{BadName, JsonFault, NamingFault, better};
+pub use fault::{BadName, JsonFault, NamingFault};
 pub use laws::{
     a_tree_spells_once, faults_are_one, fits_without_faults, no_fault_spells,
     printed_fields_read_back, read_ascends,

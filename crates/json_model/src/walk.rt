@@ -7,7 +7,7 @@ ghost use Rattle.json_model.specs.Faults.{FirstOf, IsFault, FaultsAt, ItemsFault
 ghost use Rattle.json_model.specs.Members.{given as given_of, lacks_only as lacks_only_of};
 ghost use Rattle.json_model.specs.Places.{required as required_of};
 
-use crate::fault::{JsonFault, better};
+use crate::fault::{JsonFault, improve};
 use crate::leaves::{bad_shape_unless, find_flat};
 use crate::members::{given, is_vector_map, lacks_choice, refined};
 use crate::names::{count_names, find_in_field_name};
@@ -136,11 +136,12 @@ pub fn find_fault(
             }
             let form = refined(object, members);
             let levels = count_levels(alloc, form, members)?;
-            let deep = depth_fault(limit, levels);
+            let mut fault = depth_fault(limit, levels);
             let left = limit.saturating_sub(levels);
             let inner = levels_inside(object, left);
             let inside = find_in_members(alloc, setting, inner, form, members)?;
-            Ok(better(deep, inside))
+            improve(&mut fault, inside);
+            Ok(fault)
         }
         Json::Array(items) => {
             let Place::Series(series) = place else {
@@ -172,7 +173,7 @@ fn find_in_items(
     let mut first = None;
     for item in items {
         let found = find_fault(alloc, setting, limit, item_place(series), name, item)?;
-        first = better(first, found);
+        improve(&mut first, found);
     }
     Ok(first)
 }
@@ -203,16 +204,18 @@ fn find_in_members(
     for (key, member) in members {
         let name = key.as_str();
         let missed = find_missed(alloc, object, names, name, member)?;
-        first = better(first, missed);
+        improve(&mut first, missed);
         names = later(names, name);
         let inside = member_place(object, name);
         if inside.is_left_out(member) {
             continue;
         }
-        let own = find_in_name(alloc, object, name)?;
+        let mut own = find_in_name(alloc, object, name)?;
         let found = find_fault(alloc, setting, limit, inside, name, member)?;
-        first = better(first, better(own, found));
+        improve(&mut own, found);
+        improve(&mut first, own);
     }
     let last = find_missing(alloc, object, names)?;
-    Ok(better(first, last))
+    improve(&mut first, last);
+    Ok(first)
 }

@@ -24,11 +24,11 @@ pub find_fault-returns-in_ok-inside-in-Object : goal.find_fault-returns-in_ok-in
 find_fault-returns-in_ok-inside-in-Object t c = rw c.in-Object-place.is
     (at_object c.args.setting.now c.args.limit c.args.name.now _ _ (members_view c.in-Object.members.entries) c.in-Object-place.object (ap view c.in-Object.is ∙ view-Object c.in-Object.members)
     (or_inside (own_faults c.in-Object-place.object c.args.name.now (members_view c.in-Object.members.entries)) _ _ (sym c.in_default-2.is ∙ c.in_ok-fault-in-Object.ensures)
-    (subst (λ kind. FirstOf (InLevels kind (members_view c.in-Object.members.entries) c.args.limit (λ inner. MembersFaults c.args.setting.now (levels_inside c.in-Object-place.object inner) kind (required kind) (members_view c.in-Object.members.entries))) c.better.result) c.refined-form.ensures
-    (in_levels c.refined-form.result (members_view c.in-Object.members.entries) c.args.limit c.saturating_sub-left.result c.in_ok-levels-in-Object.levels _ c.depth_fault-deep.result c.in_ok-inside-in-Object.inside c.better.result
-    c.in_ok-levels-in-Object.ensures c.depth_fault-deep.ensures c.saturating_sub-left.ensures
+    (subst (λ kind. FirstOf (InLevels kind (members_view c.in-Object.members.entries) c.args.limit (λ inner. MembersFaults c.args.setting.now (levels_inside c.in-Object-place.object inner) kind (required kind) (members_view c.in-Object.members.entries))) c.improve.new.fault) c.refined-form.ensures
+    (in_levels c.refined-form.result (members_view c.in-Object.members.entries) c.args.limit c.saturating_sub-left.result c.in_ok-levels-in-Object.levels _ c.depth_fault-fault.result c.in_ok-inside-in-Object.inside c.improve.new.fault
+    c.in_ok-levels-in-Object.ensures c.depth_fault-fault.ensures c.saturating_sub-left.ensures
     (subst (λ n. FirstOf (MembersFaults c.args.setting.now n c.refined-form.result (required c.refined-form.result) (members_view c.in-Object.members.entries)) c.in_ok-inside-in-Object.inside) c.levels_inside-inner.ensures c.in_ok-inside-in-Object.ensures)
-    c.better.ensures))))
+    c.improve.ensures))))
 
 pub find_fault-returns-in_default-place : goal.find_fault-returns-in_default-place
 find_fault-returns-in_default-place t c =
@@ -62,16 +62,16 @@ find_in_items-loop-item-init t c = items_start c.args.setting.now c.args.limit c
 
 pub find_in_items-loop-item-preserved : goal.find_in_items-loop-item-preserved
 find_in_items-loop-item-preserved t c =
-    items_step c.args.setting.now c.args.limit c.args.series c.item_place.result c.args.name.now _ c.loop-item.item-index c.item-item.result c.loop-item.first c.in_ok-found.found c.better-first.result c.loop-item-test.true c.item-item.is c.item_place.ensures
-    c.loop-item.invariant c.in_ok-found.ensures c.better-first.ensures
+    items_step c.args.setting.now c.args.limit c.args.series c.item_place.result c.args.name.now _ c.loop-item.item-index c.item-item.result c.loop-item.first c.in_ok-found.found c.improve.new.fault c.loop-item-test.true c.item-item.is c.item_place.ensures
+    c.loop-item.invariant c.in_ok-found.ensures c.improve.ensures
 
 pub find_in_members-loop-key-preserved-then-is_left_out : goal.find_in_members-loop-key-preserved-then-is_left_out
 find_in_members-loop-key-preserved-then-is_left_out t c = (
   tt,
   tt,
   rw (map-append deref_pair c.loop-key.yielded ((c.in-Some.key, c.in-Some.member) ∷ []))
-      (members_skip c.args.setting.now c.args.limit c.args.object (map deref_pair c.loop-key.yielded) (names_of c.loop-key.names.now) _ c.in-Some.key.now c.in-Some.member.now c.as_str-name.result.now c.loop-key.first c.in_ok-missed.missed c.better-first.result
-      c.loop-key.invariant.2 c.as_str-name.ensures.value c.in_ok-missed.ensures c.better-first.ensures c.later-names.ensures (ap (λ p. is_left_out p (view c.in-Some.member.now)) (sym c.member_place-inside.ensures) ∙ sym c.if-is_left_out.ensures)),
+      (members_skip c.args.setting.now c.args.limit c.args.object (map deref_pair c.loop-key.yielded) (names_of c.loop-key.names.now) _ c.in-Some.key.now c.in-Some.member.now c.as_str-name.result.now c.loop-key.first c.in_ok-missed.missed c.improve.new.fault
+      c.loop-key.invariant.2 c.as_str-name.ensures.value c.in_ok-missed.ensures c.improve.ensures c.later-names.ensures (ap (λ p. is_left_out p (view c.in-Some.member.now)) (sym c.member_place-inside.ensures) ∙ sym c.if-is_left_out.ensures)),
 )
 
 pub find_in_members-loop-key-preserved : goal.find_in_members-loop-key-preserved
@@ -80,12 +80,12 @@ find_in_members-loop-key-preserved t c = (
   tt,
   rw (map-append deref_pair c.loop-key.yielded ((c.in-Some.key, c.in-Some.member) ∷ []))
       (members_step c.args.setting.now c.args.limit c.args.object (map deref_pair c.loop-key.yielded) (names_of c.loop-key.names.now) _ c.in-Some.key.now c.in-Some.member.now c.as_str-name.result.now c.member_place-inside.result c.loop-key.first c.in_ok-missed.missed
-      c.better-first.result c.in_ok-own.own c.in_ok-found.found c.better-first-in-loop-key.result
-      c.loop-key.invariant.2 c.as_str-name.ensures.value c.in_ok-missed.ensures c.better-first.ensures c.later-names.ensures c.member_place-inside.ensures (sym c.if-is_left_out.ensures) c.in_ok-own.ensures c.in_ok-found.ensures
-      (c.better-first-in-loop-key.ensures ∙ ap (λ f. better c.better-first.result f) c.better.ensures)),
+      c.improve.new.fault c.in_ok-own.own c.in_ok-found.found c.improve-in-loop-key-2.new.fault
+      c.loop-key.invariant.2 c.as_str-name.ensures.value c.in_ok-missed.ensures c.improve.ensures c.later-names.ensures c.member_place-inside.ensures (sym c.if-is_left_out.ensures) c.in_ok-own.ensures c.in_ok-found.ensures
+      (c.improve-in-loop-key-2.ensures ∙ ap (λ f. better c.improve.new.fault f) c.improve-in-loop-key.ensures)),
 )
 
 pub find_in_members-returns : goal.find_in_members-returns
 find_in_members-returns t c =
     let all : map deref_pair c.loop-key.yielded ≡ c.args.members.now.entries = search (rules, iter_end) in
-    members_end c.args.setting.now c.args.limit c.args.object (map deref_pair c.loop-key.yielded) _ (names_of c.loop-key.names.now) c.loop-key.first c.in_ok-last.last c.better-2.result c.loop-key.invariant.2 (sym all) c.in_ok-last.ensures c.better-2.ensures
+    members_end c.args.setting.now c.args.limit c.args.object (map deref_pair c.loop-key.yielded) _ (names_of c.loop-key.names.now) c.loop-key.first c.in_ok-last.last c.improve-2.new.fault c.loop-key.invariant.2 (sym all) c.in_ok-last.ensures c.improve-2.ensures
