@@ -16,9 +16,11 @@ mod journal;
 mod landing;
 mod laws;
 mod look;
+mod payloads;
 mod reading;
 
 pub use fault::OpenFault;
 pub use frame::Frame;
 pub use journal::Journal;
 pub use laws::{a_file_is_read_once, two_files_give_once};
+pub use payloads::Payloads;
