@@ -2,6 +2,7 @@ pub mod Appending
 pub mod Files
 pub mod Formats
 pub mod Held
+pub mod Lent
 pub mod Lists
 pub mod Once
 pub mod Openings

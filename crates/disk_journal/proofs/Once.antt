@@ -1,9 +1,10 @@
 -- The open records of a file, one after another.
-use Rattle.std.proofs.Common.{◌≡◌, ◌≢◌, ℕ, ◌+◌, ◌^◌, ◌≤◌, ◌<◌, List, [], ◌∷◌, ◌++◌, length, get_or, ⊎_elim, refl, ap, sym, ◌∙◌, subst, arith, append_assoc, length-append, append-nil}
+use Rattle.std.proofs.Common.{◌≡◌, ◌≢◌, ℕ, ◌+◌, ◌-◌, ◌^◌, ◌≤◌, ◌<◌, List, [], ◌∷◌, ◌++◌, length, drop, get_or, ⊎_elim, refl, ap, sym, ◌∙◌, subst, arith, append_assoc, length-append, append-nil}
 use Rattle.std.specs.Prelude.{All, flat_map}
 use Rattle.std.proofs.lemmas.List.Elements.{All-append, All-cons, All-nil}
 use Rattle.std.proofs.lemmas.Grind.{flat_map-append}
-use Rattle.disk_journal.specs.File.{header_of, record_of, IsBlank, IsFile, IsForeign}
+use Rattle.std.proofs.Math.Seq.{drop-append_seam}
+use Rattle.disk_journal.specs.File.{header_of, record_of, IsBlank, IsFile}
 use Rattle.disk_journal.specs.Parts.{IsShut, IsRecords}
 use Rattle.disk_journal.proofs.Parts.{headers_same, HasFront, open_front, shut_none}
 use Rattle.disk_journal.proofs.Files.{length-header_of, length-record_of}
@@ -114,8 +115,8 @@ file_not_blank is blank = ⊎_elim (λ few. omega (arith, few, (file_begins is).
 
 -- ---- what is foreign
 
-pub is_foreign : (file : List ℕ) → 16 ≤ length file → get_or file 0 0 ≡ 1 → ((g : ℕ) (ps : List (List ℕ)) (e : ℕ) → ¬ IsFile g ps e file) → IsForeign file
-is_foreign file long opened none = record { not_blank = λ blank. ⊎_elim (λ few. omega (arith, few)) (λ closed. closed opened) blank; no_file = none }
+pub not_blank : (file : List ℕ) → 16 ≤ length file → get_or file 0 0 ≡ 1 → ¬ IsBlank file
+not_blank file long opened blank = ⊎_elim (λ few. omega (arith, few)) (λ closed. closed opened) blank
 
 pub no_header_at : (file : List ℕ) → ((g : ℕ) (rest : List ℕ) → 1 ≤ g → g < 2 ^ 64 → file ≢ header_of g ++ rest) → (g : ℕ) (ps : List (List ℕ)) (e : ℕ) → ¬ IsFile g ps e file
 no_header_at file none g ps e is = let parts = has_header is in none g parts.behind is.at_least_one is.fits parts.split
@@ -134,3 +135,8 @@ records_many (p ∷ ps) = omega (arith, records_many ps, length-append (record_o
 
 pub header_size : (g : ℕ) (bytes rest : List ℕ) → bytes ≡ header_of g ++ rest → length bytes ≡ 16 + length rest
 header_size g bytes rest e = ap length e ∙ length-append (header_of g) rest ∙ ap (λ (n : ℕ). n + length rest) (length-header_of g)
+
+-- what stands behind the header
+pub behind_header : (g : ℕ) (bytes rest : List ℕ) (size : ℕ) → bytes ≡ header_of g ++ rest → size ≡ length bytes → drop (size - length rest) bytes ≡ rest
+behind_header g bytes rest size e is =
+    ap (λ (n : ℕ). drop n bytes) (omega (arith, header_size g bytes rest e, length-header_of g)) ∙ ap (λ (l : List ℕ). drop (length (header_of g)) l) e ∙ drop-append_seam (header_of g) rest

@@ -1,6 +1,7 @@
 pub mod File
 pub mod Frame
 pub mod Laws
+pub mod Lent
 pub mod Opening
 pub mod Parts
 pub mod Place

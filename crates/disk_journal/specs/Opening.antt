@@ -1,5 +1,5 @@
 -- What an opening finds, and why it fails.
-use Rattle.std.specs.Prelude.{ℕ, Bool, IsTrue, List, map, ◌⊎◌, [], ◌∷◌, Result, OnOk, IfOk}
+use Rattle.std.specs.Prelude.{ℕ, Bool, IsTrue, List, ◌⊎◌, [], ◌∷◌, Result, OnOk, IfOk}
 use Rattle.host_api.specs.declared.host.FileId.{FileId}
 use Rattle.host_api.specs.declared.host.FileId.TheVariants.{Zero, One}
 use Rattle.host_api.specs.declared.host.Failed.{Failed}
@@ -43,7 +43,7 @@ pub record Seen (zero one : Reading) (v : View) : Type 0 where
 -- which of two files counts, if any
 abbrev pub IsChoice : Choice → Files → Type 0
 IsChoice (choice.Fresh b) files = IsBlankAs b (files Zero) × IsBlank (files One)
-IsChoice (choice.Counting file r) files = IsFile r.generation (map (λ p. p.items) r.payloads.items) r.end (files file) × IsBelow file r.generation (files (other file))
+IsChoice (choice.Counting file r) files = IsFile r.generation r.payloads r.end (files file) × IsBelow file r.generation (files (other file))
 IsChoice (choice.Foreign file) files = IsFirstForeign file files
 
 abbrev pub IsChoiceWithin : Choice → Type 0

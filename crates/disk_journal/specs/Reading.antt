@@ -1,5 +1,5 @@
 -- What the bytes of one file are, part by part.
-use Rattle.std.specs.Prelude.{◌≡◌, ◌≢◌, ℕ, ◌^◌, ◌≤◌, ◌<◌, List, ◌++◌, length, slice_index, ◌⊎◌, map}
+use Rattle.std.specs.Prelude.{◌≡◌, ◌≢◌, ℕ, ◌^◌, ◌≤◌, ◌<◌, List, ◌++◌, length, slice_index, ◌⊎◌}
 use Rattle.disk_journal.specs.declared.reading.Records.{Records}
 use Rattle.disk_journal.specs.declared.reading.Blank.{Blank}
 use Rattle.disk_journal.specs.declared.reading.Blank.TheVariants as blank
@@ -23,12 +23,12 @@ IsBlankAs blank.Closed file = (1 ≤ length file) × (slice_index file 0 ≢ 1)
 
 abbrev pub IsReading : Reading → List ℕ → Type 0
 IsReading (found.Blank b) file = IsBlankAs b file
-IsReading (found.Records r) file = IsFile r.generation (map (λ p. p.items) r.payloads.items) r.end file
+IsReading (found.Records r) file = IsFile r.generation r.payloads r.end file
 IsReading found.Foreign file = IsForeign file
 
 -- each record takes some bytes, and the last ends within the bounds of a host
 pub record AreWithin (r : Records) : Type 0 where
-  pub many : length r.payloads.items ≤ r.end
+  pub many : length r.payloads ≤ r.end
   pub far : r.end ≤ 2 ^ 62
 
 abbrev pub IsWithin : Reading → Type 0

@@ -1,4 +1,4 @@
-ghost use Rattle.std.specs.Prelude.{◌≡◌, ℕ, ◌+◌, ◌^◌, ◌≤◌, ◌<◌, List, map, length, IsTrue, IfOk, IfErr, IsErrOf};
+ghost use Rattle.std.specs.Prelude.{◌≡◌, ℕ, ◌+◌, ◌^◌, ◌≤◌, ◌<◌, List, length, IsTrue, IfOk, IfErr, IsErrOf};
 ghost use Rattle.host_api.specs.Counts.{Counts, RisesAt};
 ghost use Rattle.host_api.specs.Host.{KeepsOut, other};
 ghost use Rattle.disk_journal.specs.Place.{Place, IsOpen};
@@ -13,6 +13,7 @@ use crate::format::format;
 use crate::frame::Frame;
 use crate::landing::put_down;
 use crate::look::look;
+use crate::payloads::Payloads;
 use host_api::{Failed, FileId, Host};
 use std::alloc::Global;
 use std::marker::Model;
@@ -56,12 +57,12 @@ impl Journal {
     pub fn open<H: Host>(
         alloc: Global,
         host: &mut H,
-    ) -> Result<(Journal, FileId, Vec<Vec<u8>>), OpenFault>
-        ensures found { IfOk result (λ o. IsTrue H.tells_files → Gives (H.view host.old).bytes o.0.generation (map (λ p. p.items) o.2.items)) }
+    ) -> Result<(Journal, FileId, Payloads), OpenFault>
+        ensures found { IfOk result (λ o. IsTrue H.tells_files → Gives (H.view host.old).bytes o.0.generation o.2) }
         ensures goes_on { IfOk result (λ o. IsTrue H.tells_files → GoesOn (H.view host.old).bytes o.1) }
         ensures first { IfOk result (λ o. IsTrue H.tells_files → AreBlank (H.view host.old).bytes → o.0 ≡ record { file = Zero; generation = 1; end = 16 }) }
-        ensures open { IfOk result (λ o. IsTrue H.tells_files → IsOpen o.0 (map (λ p. p.items) o.2.items) (H.view host.new)) }
-        ensures small { IfOk result (λ o. (length o.2.items ≤ o.0.end) × (o.0.end ≤ 2 ^ 62)) }
+        ensures open { IfOk result (λ o. IsTrue H.tells_files → IsOpen o.0 o.2 (H.view host.new)) }
+        ensures small { IfOk result (λ o. (length o.2 ≤ o.0.end) × (o.0.end ≤ 2 ^ 62)) }
         ensures place { IfOk result (λ o. o.1 ≡ o.0.file) }
         ensures files { IsTrue H.tells_files → Opens (H.view host.old) (H.view host.new) }
         ensures settled { IsTrue H.tells_files → SettlesFirst H.view result (H.view host.old) (H.view host.new) }
@@ -74,7 +75,7 @@ impl Journal {
             Choice::Foreign(file) => Err(OpenFault::NotAStore(file)),
             Choice::Fresh(blank) => {
                 let journal = format(host, blank)?;
-                Ok((journal, FileId::Zero, Vec::new(alloc)))
+                Ok((journal, FileId::Zero, Payloads::new(alloc)))
             }
             Choice::Counting(file, records) => {
                 let journal = Journal::at(file, records.generation, records.end);

@@ -44,7 +44,7 @@ fn look_at<H: Host>(alloc: Global, host: &mut H, file: FileId) -> Result<Reading
     ensures cause { IfErr result (λ fault. IsReadCause fault (H.view host.old) (H.view host.new)) }
 {
     let bytes = read_whole(alloc, host, file)?;
-    Ok(reading_of(alloc, &bytes)?)
+    Ok(reading_of(alloc, bytes)?)
 }
 
 fn look_at_each<H: Host>(alloc: Global, host: &mut H) -> Result<(Reading, Reading), OpenFault>

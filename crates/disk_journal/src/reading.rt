@@ -1,9 +1,9 @@
-ghost use Rattle.std.specs.Prelude.{◌≡◌, ◌^◌, ℕ, ◌+◌, ◌≤◌, List, map, length, flat_map, IfOk, MatchOption};
-ghost use Rattle.disk_journal.specs.File.{record_of};
-ghost use Rattle.disk_journal.specs.Parts.{IsRecords};
-ghost use Rattle.disk_journal.specs.Reading.{IsReading, IsWithin};
+ghost use Rattle.std.specs.Prelude.{◌^◌, ◌≤◌, length, IfOk, MatchOption};
+ghost use Rattle.disk_journal.specs.File.{IsBlank};
+ghost use Rattle.disk_journal.specs.Reading.{IsBlankAs, IsReading, IsWithin};
 
-use crate::entry::{Entry, entry_at, header_at};
+use crate::entry::header_at;
+use crate::payloads::Payloads;
 use std::alloc::{AllocError, Global};
 
 /// What one file holds.
@@ -30,50 +30,42 @@ pub(crate) enum Blank {
 #[derive(Drop)]
 pub(crate) struct Records {
     pub(crate) generation: u64,
-    pub(crate) payloads: Vec<Vec<u8>>,
+    pub(crate) payloads: Payloads,
     pub(crate) end: u64,
 }
 
-// The payloads of the open records, and the number of bytes before the closed gate.
-fn records_in(alloc: Global, bytes: &[u8]) -> Result<Option<(Vec<Vec<u8>>, usize)>, AllocError>
-    ensures { IfOk result (λ o. MatchOption o ((ps : List (List ℕ)) → ¬ IsRecords ps bytes.now)
-        (λ x. IsRecords (map (λ p. p.items) x.0.items) bytes.now × (length (flat_map record_of (map (λ p. p.items) x.0.items)) ≡ x.1) × (x.1 ≤ length bytes.now))) }
+// Why a file of these bytes is blank, if it is.
+fn blank_in(bytes: &[u8]) -> Option<Blank>
+    ensures { MatchOption result (¬ IsBlank bytes.now) (λ blank. IsBlankAs blank bytes.now) }
 {
-    let mut payloads = Vec::new(alloc);
-    let mut rest = bytes;
-    'records: loop {
-        match entry_at(rest) {
-            Entry::Open(payload, behind) => {
-                payloads.push(Vec::from_slice(alloc, payload)?)?;
-                rest = behind;
-            }
-            Entry::Shut => return Ok(Some((payloads, bytes.len() - rest.len()))),
-            Entry::Broken => return Ok(None),
-        }
+    if bytes.is_empty() || bytes[0] == 1 && bytes.len() < 16 {
+        return Some(Blank::Bare);
     }
+    if bytes[0] != 1 {
+        return Some(Blank::Closed);
+    }
+    None
 }
 
 /// What a file of these bytes holds.
-pub(crate) fn reading_of(alloc: Global, bytes: &[u8]) -> Result<Reading, AllocError>
-    requires { length bytes.now ≤ 2 ^ 62 }
-    ensures reading { IfOk result (λ reading. IsReading reading bytes.now) }
+pub(crate) fn reading_of(alloc: Global, bytes: Vec<u8>) -> Result<Reading, AllocError>
+    requires { length bytes.items ≤ 2 ^ 62 }
+    ensures reading { IfOk result (λ reading. IsReading reading bytes.items) }
     ensures within { IfOk result IsWithin }
 {
-    if bytes.is_empty() || bytes[0] == 1 && bytes.len() < 16 {
-        return Ok(Reading::Blank(Blank::Bare));
+    if let Some(blank) = blank_in(&bytes) {
+        return Ok(Reading::Blank(blank));
     }
-    if bytes[0] != 1 {
-        return Ok(Reading::Blank(Blank::Closed));
-    }
-    let Some((generation, rest)) = header_at(bytes) else {
+    let Some((generation, rest)) = header_at(&bytes) else {
         return Ok(Reading::Foreign);
     };
-    let Some((payloads, before_gate)) = records_in(alloc, rest)? else {
+    let from = bytes.len() - rest.len();
+    let Some((payloads, end)) = Payloads::read(alloc, bytes, from)? else {
         return Ok(Reading::Foreign);
     };
     Ok(Reading::Records(Records {
         generation,
         payloads,
-        end: 16 + before_gate as u64,
+        end: end as u64,
     }))
 }

@@ -1,5 +1,5 @@
 -- What a commit leaves.
-use Rattle.std.proofs.Common.{◌≡◌, ◌⊎◌, inl, inr, ⊎_elim, ℕ, ◌+◌, List, [], ◌∷◌, ◌++◌, Option, Some, None, Result, refl, sym, ap, subst, ◌∙◌}
+use Rattle.std.proofs.Common.{◌≡◌, ◌⊎◌, inl, inr, ⊎_elim, ℕ, List, [], ◌∷◌, ◌++◌, Option, Some, None, Result, refl, subst, ◌∙◌}
 use Rattle.host_api.specs.declared.host.Failed.{Failed}
 use Rattle.host_api.specs.Host.{Files, View}
 use Rattle.host_api.proofs.Spans.{spans_none, spans_weaker}

@@ -1,6 +1,5 @@
 -- What an opening finds.
-use Rattle.std.specs.declared.alloc.Global.{Global}
-use Rattle.std.proofs.Common.{◌≡◌, Bool, ℕ, List, [], map, Vec, IsTrue, refl, sym, subst}
+use Rattle.std.proofs.Common.{Bool, ℕ, List, [], IsTrue, refl, sym, subst}
 use Rattle.host_api.specs.declared.host.FileId.{FileId}
 use Rattle.host_api.specs.declared.host.FileId.TheVariants.{Zero, One}
 use Rattle.host_api.specs.Host.{Files, View, Stays}
@@ -51,8 +50,5 @@ stuck_refuses file old new g ps gives goes_on stuck opens =
     (refused, no_store_stays (refused_is_none file old.bytes refused) opens)
 
 -- what a replay finds, in the words of an opening
-pub none_found : {ps qs : List (Vec ℕ Global)} {g : ℕ} → ps ≡ qs → ((s : State) → Replays start (map (λ p. p.items) ps) s → ⊥) → (s : State) → LeadsTo g (map (λ p. p.items) qs) s → ⊥
-none_found same none s leads = none s (subst (λ (l : List (Vec ℕ Global)). Replays start (map (λ p. p.items) l) s) (sym same) leads.replays)
-
-pub some_found : {ps qs : List (Vec ℕ Global)} (s : State) → ps ≡ qs → Replays start (map (λ p. p.items) ps) s → Replays start (map (λ p. p.items) qs) s
-some_found s same leads = subst (λ (l : List (Vec ℕ Global)). Replays start (map (λ p. p.items) l) s) same leads
+pub none_found : {ps : List (List ℕ)} {g : ℕ} → ((s : State) → Replays start ps s → ⊥) → (s : State) → LeadsTo g ps s → ⊥
+none_found none s leads = none s leads.replays

@@ -1,8 +1,9 @@
 -- Payloads that lead from one state to another.
-use Rattle.std.proofs.Common.{◌≡◌, ℕ, ◌+◌, ◌<◌, suc, List, [], ◌∷◌, ◌++◌, map, length, take, drop, get_or, Vec, refl, sym, ap, subst, ◌∙◌}
-use Rattle.std.specs.declared.alloc.Global.{Global}
+use Rattle.std.proofs.Common.{◌≡◌, ℕ, ◌+◌, suc, List, [], ◌∷◌, ◌++◌, take, drop, Some, refl, sym, ap, subst, ◌∙◌}
 use Rattle.std.proofs.Math.Seq.{split_at}
-use Rattle.std.proofs.lemmas.List.{map-append, take_more}
+use Rattle.std.specs.List.{slice_get}
+use Rattle.std.proofs.lemmas.List.{take_more}
+use Rattle.std.proofs.lemmas.Option.{get_or_from_slice_get, slice_get_within}
 use Rattle.record_codec.specs.declared.commit.Commit.{Commit}
 use Rattle.record_codec.specs.Spelling.{spelling, HasSpelling}
 use Rattle.record_codec.proofs.Whole.{one_value}
@@ -46,20 +47,17 @@ find_once files a b first second =
 
 -- ---- a loop over the payloads
 
-abbrev pub bytes_of : List (Vec ℕ Global) → List (List ℕ)
-bytes_of payloads = map (λ p. p.items) payloads
-
-around : (payloads : List (Vec ℕ Global)) (i : ℕ) (payload : Vec ℕ Global) → i < length payloads → payload ≡ get_or payloads i payload → bytes_of payloads ≡ bytes_of (take i payloads) ++ payload.items ∷ bytes_of (drop (suc i) payloads)
-around payloads i payload below item =
-    ap bytes_of (split_at payloads i payload below) ∙ map-append (λ p. p.items) (take i payloads) (get_or payloads i payload ∷ drop (suc i) payloads)
-    ∙ ap (λ (q : Vec ℕ Global). bytes_of (take i payloads) ++ q.items ∷ bytes_of (drop (suc i) payloads)) (sym item)
+around : (payloads : List (List ℕ)) (i : ℕ) (payload : List ℕ) → slice_get payloads i ≡ Some payload → payloads ≡ take i payloads ++ payload ∷ drop (suc i) payloads
+around payloads i payload here =
+    split_at payloads i payload (slice_get_within payloads i payload here)
+    ∙ ap (λ (q : List ℕ). take i payloads ++ q ∷ drop (suc i) payloads) (get_or_from_slice_get payloads i payload payload here)
 
 -- a payload that spells no commit that fits leads nowhere
-pub stuck : (payloads : List (Vec ℕ Global)) (i : ℕ) (payload : Vec ℕ Global) (before : State) → i < length payloads → payload ≡ get_or payloads i payload → Replays start (bytes_of (take i payloads)) before
-    → ((c : Commit) → HasSpelling c → payload.items ≡ spelling c → Fits before c → ⊥) → (s : State) → Replays start (bytes_of payloads) s → ⊥
-stuck payloads i payload before below item so_far none s all =
-    let next = replays_at start (bytes_of (take i payloads)) payload.items (bytes_of (drop (suc i) payloads)) s (subst (λ (l : List (List ℕ)). Replays start l s) (around payloads i payload below item) all) in
-    let same = replays_once start (bytes_of (take i payloads)) next.before before next.replays so_far in
+pub stuck : (payloads : List (List ℕ)) (i : ℕ) (payload : List ℕ) (before : State) → slice_get payloads i ≡ Some payload → Replays start (take i payloads) before
+    → ((c : Commit) → HasSpelling c → payload ≡ spelling c → Fits before c → ⊥) → (s : State) → Replays start payloads s → ⊥
+stuck payloads i payload before here so_far none s all =
+    let next = replays_at start (take i payloads) payload (drop (suc i) payloads) s (subst (λ (l : List (List ℕ)). Replays start l s) (around payloads i payload here) all) in
+    let same = replays_once start (take i payloads) next.before before next.replays so_far in
     none next.commit next.has next.is (subst (λ (t : State). Fits t next.commit) same next.fits)
 
 -- a payload whose commit doesn't fit spells no other that does
@@ -67,10 +65,10 @@ pub unfit : (before : State) (first : Commit) (bytes : List ℕ) → HasSpelling
 unfit before first bytes spelled no_fit c has is fits = no_fit (subst (λ (d : Commit). Fits before d) (one_value c first has spelled.0 (sym is ∙ spelled.1)) fits)
 
 -- the next payload leads on
-pub leads_on : (payloads : List (Vec ℕ Global)) (i : ℕ) (payload : Vec ℕ Global) (commit : Commit) (before : State) → i < length payloads → payload ≡ get_or payloads i payload
-    → HasSpelling commit → payload.items ≡ spelling commit → Fits before commit → Replays start (bytes_of (take i payloads)) before
-    → Replays start (bytes_of (take (i + 1) payloads)) (committed before commit)
-leads_on payloads i payload commit before below item has is fits so_far =
-    let more : bytes_of (take (i + 1) payloads) ≡ bytes_of (take i payloads) ++ payload.items ∷ [] =
-    ap bytes_of (take_more payloads i payload below) ∙ map-append (λ p. p.items) (take i payloads) (get_or payloads i payload ∷ []) ∙ ap (λ (q : Vec ℕ Global). bytes_of (take i payloads) ++ q.items ∷ []) (sym item) in
-    subst (λ (l : List (List ℕ)). Replays start l (committed before commit)) (sym more) (replays_push start (bytes_of (take i payloads)) before payload.items commit so_far has is fits)
+pub leads_on : (payloads : List (List ℕ)) (i : ℕ) (payload : List ℕ) (commit : Commit) (before : State) → slice_get payloads i ≡ Some payload
+    → HasSpelling commit → payload ≡ spelling commit → Fits before commit → Replays start (take i payloads) before
+    → Replays start (take (i + 1) payloads) (committed before commit)
+leads_on payloads i payload commit before here has is fits so_far =
+    let more : take (i + 1) payloads ≡ take i payloads ++ payload ∷ [] =
+    take_more payloads i payload (slice_get_within payloads i payload here) ∙ ap (λ (q : List ℕ). take i payloads ++ q ∷ []) (get_or_from_slice_get payloads i payload payload here) in
+    subst (λ (l : List (List ℕ)). Replays start l (committed before commit)) (sym more) (replays_push start (take i payloads) before payload commit so_far has is fits)

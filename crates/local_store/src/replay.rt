@@ -1,9 +1,10 @@
 //! The state that payloads lead to.
 
-ghost use Rattle.std.specs.Prelude.{map, IfOk, MatchOption};
+ghost use Rattle.std.specs.Prelude.{IfOk, MatchOption};
 ghost use Rattle.durable_state.specs.Tables.{state_in};
 ghost use Rattle.local_store.specs.State.{State, start, Replays};
 
+use disk_journal::Payloads;
 use document_keys::NoMemory;
 use durable_state::DurableState;
 use record_codec::decode;
@@ -11,14 +12,17 @@ use std::alloc::Global;
 
 /// The state to which the payloads, one after another, lead from the empty one, or `None` where one of them doesn't spell a
 /// commit that fits.
-pub(crate) fn replay(alloc: Global, payloads: &[Vec<u8>]) -> Result<Option<DurableState>, NoMemory>
+pub(crate) fn replay(alloc: Global, payloads: &Payloads) -> Result<Option<DurableState>, NoMemory>
     ensures { IfOk result (λ found. MatchOption found
-        ((s : State) → Replays start (map (λ p. p.items) payloads.now) s → ⊥)
-        (λ tables. Replays start (map (λ p. p.items) payloads.now) (state_in tables))) }
+        ((s : State) → Replays start payloads.now s → ⊥)
+        (λ tables. Replays start payloads.now (state_in tables))) }
 {
     let mut tables = DurableState::new(alloc);
-    for payload in payloads {
-        let Some(commit) = decode(alloc, payload.as_slice())? else {
+    for index in 0..payloads.len() {
+        let Some(payload) = payloads.at(index) else {
+            unreachable!();
+        };
+        let Some(commit) = decode(alloc, payload)? else {
             return Ok(None);
         };
         if !tables.fits(&commit) {

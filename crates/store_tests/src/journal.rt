@@ -1,6 +1,6 @@
 //! Files as a journal opens them, and what an append leaves in them.
 
-use disk_journal::{Frame, Journal, OpenFault};
+use disk_journal::{Frame, Journal, OpenFault, Payloads};
 use host_api::{FileId, MemHost};
 use std::alloc::Global;
 use std::process::Abort;
@@ -31,7 +31,7 @@ pub(crate) fn host_of(alloc: Global, zero: &[u8], one: &[u8]) -> Result<MemHost,
 pub(crate) fn opened(
     rt: &(impl Abort + AllocGlobal),
     host: &mut MemHost,
-) -> Result<Vec<Vec<u8>>, Fail> {
+) -> Result<Payloads, Fail> {
     let (journal, file, found) = Journal::open(rt.alloc(), host)?;
     assert!(rt; journal.generation() == 1);
     assert!(rt; file == FileId::Zero);

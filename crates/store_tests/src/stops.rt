@@ -1,6 +1,7 @@
 //! A journal with two payloads, stopped at each of its calls.
 
 use crate::journal::{EMPTY, append, host_of, opened};
+use disk_journal::Payloads;
 use host_api::{CrashPick, FileId, MemHost};
 use std::alloc::Global;
 use std::process::Abort;
@@ -15,13 +16,13 @@ static FIRST: [u8; 62] = [
 
 static SECOND: [u8; 2] = [7, 8];
 
-fn check_payloads(rt: &impl Abort, found: &[Vec<u8>], count: usize) {
+fn check_payloads(rt: &impl Abort, found: &Payloads, count: usize) {
     assert!(rt; found.len() == count);
-    if let Some(payload) = found.get(0) {
-        assert!(rt; payload.as_slice() == FIRST.as_slice());
+    if let Some(payload) = found.at(0) {
+        assert!(rt; payload == FIRST.as_slice());
     }
-    if let Some(payload) = found.get(1) {
-        assert!(rt; payload.as_slice() == SECOND.as_slice());
+    if let Some(payload) = found.at(1) {
+        assert!(rt; payload == SECOND.as_slice());
     }
 }
 
@@ -32,7 +33,7 @@ fn check_gives(
     count: usize,
 ) -> Result<(), Fail> {
     let found = opened(rt, host)?;
-    check_payloads(rt, found.as_slice(), count);
+    check_payloads(rt, &found, count);
     Ok(())
 }
 

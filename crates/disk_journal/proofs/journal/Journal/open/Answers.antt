@@ -1,4 +1,4 @@
-use Rattle.std.proofs.Common.{map, subst, sym}
+use Rattle.std.proofs.Common.{subst, sym}
 use Rattle.disk_journal.specs.Place.{Place}
 use Rattle.disk_journal.specs.File.{Gives, GoesOn}
 use Rattle.disk_journal.proofs.Appending.{seen_as}
@@ -28,7 +28,7 @@ pub returns-in-Counting-clause-found : goal.returns-in-Counting-clause-found
 returns-in-Counting-clause-found g c told =
     let seen = c.in_ok-zero.ensures.readings told in
     let counts = c.in-Counting.ensures.choice (g.H.Host.view c.look.new.host).bytes seen.zero_is seen.one_is in
-    subst (λ (place : Place). Gives (g.H.Host.view c.args.host.now).bytes place.generation (map (λ p. p.items) c.in-Counting.records.payloads.items)) (sym c.at-journal.ensures) (Gives.counted c.in-Counting.file (counted_before (c.look.ensures.files told) counts.0 counts.1))
+    subst (λ (place : Place). Gives (g.H.Host.view c.args.host.now).bytes place.generation c.in-Counting.records.payloads) (sym c.at-journal.ensures) (Gives.counted c.in-Counting.file (counted_before (c.look.ensures.files told) counts.0 counts.1))
 
 pub returns-in-Counting-clause-goes_on : goal.returns-in-Counting-clause-goes_on
 returns-in-Counting-clause-goes_on g c told =

@@ -1,0 +1,62 @@
+-- Payloads lent as spans of one buffer.
+use Rattle.std.proofs.Common.{◌≡◌, ℕ, ◌+◌, ◌-◌, ◌^◌, ◌≤◌, ◌<◌, List, [], ◌∷◌, ◌++◌, length, map, take, drop, ap, sym, ◌∙◌, subst, arith, append_assoc, length-append, length-drop}
+use Rattle.std.specs.Prelude.{All, flat_map}
+use Rattle.std.proofs.lemmas.List.{map-append, take-append-drop}
+use Rattle.std.proofs.lemmas.List.Elements.{All-append, All-cons, All-nil}
+use Rattle.disk_journal.specs.declared.payloads.Span.{Span}
+use Rattle.disk_journal.specs.File.{record_of}
+use Rattle.disk_journal.specs.Lent.{lent, IsInside}
+use Rattle.disk_journal.specs.Parts.{number}
+use Rattle.disk_journal.proofs.Files.{length-record_of}
+use Rattle.disk_journal.proofs.Lists.{mid_part}
+use Rattle.disk_journal.proofs.Parts.{record_parts}
+use Rattle.disk_journal.proofs.Once.{HasRead, reads_one, size_read}
+
+-- the spans of the open records that were read, and the rest is left
+pub record HasLent (file : List ℕ) (from : ℕ) (spans : List Span) (rest : List ℕ) : Type 0 where
+  pub read : HasRead (map (lent file) spans) (drop from file) rest
+  pub inside : All (IsInside file) spans
+
+-- the bytes of the file, from the first on, to the end of what was read
+pub size_lent : {file : List ℕ} {from : ℕ} {spans : List Span} {rest : List ℕ} → from ≤ length file → HasLent file from spans rest → length file ≡ from + length (flat_map record_of (map (lent file) spans)) + length rest
+size_lent {file} {from} within has = omega (arith, within, size_read has.read, length-drop from file)
+
+pub lent_within : {file : List ℕ} {from : ℕ} {spans : List Span} {rest : List ℕ} (p behind : List ℕ) → from ≤ length file → HasLent file from spans rest → rest ≡ record_of p ++ behind → length p ≤ length file - length behind
+lent_within p behind within has first = omega (arith, size_lent within has, ap length first, length-append (record_of p) behind, length-record_of p)
+
+-- where the payload of a record stands before what follows it
+abbrev pub span_before : List ℕ → List ℕ → List ℕ → Span
+span_before file p behind = record { start = length file - length behind - length p; end = length file - length behind }
+
+-- the span of a record that ends where the rest begins
+record IsSpanOf (file p : List ℕ) (span : Span) : Type 0 where
+  pub bytes : lent file span ≡ p
+  pub inside : IsInside file span
+
+record_span : {file : List ℕ} {from : ℕ} {ps : List (List ℕ)} {rest : List ℕ} (p behind : List ℕ) → from ≤ length file → HasRead ps (drop from file) rest → rest ≡ record_of p ++ behind → IsSpanOf file p (span_before file p behind)
+record_span {file} {from} {ps} {rest} p behind within has first = record {
+  bytes = ap (λ (l : List ℕ). take (length file - length behind - (length file - length behind - length p)) (drop (length file - length behind - length p) l)) whole
+      ∙ mid_part front p behind _ _ (omega (arith, size)) (omega (arith, size));
+  inside = (omega arith, omega arith);
+}
+  where
+    front : List ℕ
+    front = take from file ++ flat_map record_of ps ++ 1 ∷ number (length p)
+
+    whole : file ≡ front ++ (p ++ behind)
+    whole =
+        sym (take-append-drop from file)
+        ∙ ap (λ (l : List ℕ). take from file ++ l) (has.split ∙ ap (λ (l : List ℕ). flat_map record_of ps ++ l) (first ∙ record_parts p behind))
+        ∙ sym (append_assoc (take from file) (flat_map record_of ps) (1 ∷ number (length p) ++ (p ++ behind)))
+        ∙ sym (append_assoc (take from file ++ flat_map record_of ps) (1 ∷ number (length p)) (p ++ behind))
+
+    size : length file ≡ length front + length p + length behind
+    size = omega (arith, ap length whole, length-append front (p ++ behind), length-append p behind)
+
+pub lends_one : {file : List ℕ} {from : ℕ} {spans : List Span} {rest : List ℕ} (p behind : List ℕ) → from ≤ length file → HasLent file from spans rest → length p < 2 ^ 64 → rest ≡ record_of p ++ behind → HasLent file from (spans ++ span_before file p behind ∷ []) behind
+lends_one {file} {from} {spans} {rest} p behind within has short first =
+    let is = record_span p behind within has.read first in
+    record {
+      read = subst (λ (l : List (List ℕ)). HasRead l (drop from file) behind) (ap (λ (q : List ℕ). map (lent file) spans ++ q ∷ []) (sym is.bytes) ∙ sym (map-append (lent file) spans (span_before file p behind ∷ []))) (reads_one p behind has.read short first);
+      inside = All-append (IsInside file) spans (span_before file p behind ∷ []) has.inside (All-cons (IsInside file) (span_before file p behind) [] is.inside (All-nil (IsInside file)));
+    }
