@@ -1,5 +1,5 @@
 -- A tree spells one message at most.
-use Rattle.std.proofs.Common.{◌≡◌, ℕ, ℤ, pos, List, true, false, codes, Option, Some, None, refl, sym, ap, subst, ◌∙◌}
+use Rattle.std.proofs.Common.{arith, ◌≡◌, ℕ, ℤ, pos, List, true, false, codes, Option, Some, None, refl, sym, ap, subst, ◌∙◌}
 use Rattle.std.specs.Bool.{if◌then◌else◌}
 use Rattle.std.specs.Str.{bytes_eq}
 use Rattle.std.proofs.lemmas.Slice.Eq.{bytes_eq-Decides}
@@ -13,7 +13,7 @@ use Rattle.value_model.specs.declared.message.ListenResponse.{ListenResponse}
 use Rattle.value_model.specs.declared.message.ListenResponse.TheVariants.{Target, Change, Delete, Remove, Filter}
 use Rattle.json_model.specs.declared.place.Object.TheVariants as object
 use Rattle.json_model.specs.Bytes.{SpellsBytes}
-use Rattle.json_model.specs.Forms.{InObject}
+use Rattle.json_model.specs.Forms.{InObject, SpellsEach}
 use Rattle.json_model.specs.Grammar.{SpellsTime, SpellsName}
 use Rattle.json_model.specs.Members.{given}
 use Rattle.json_model.specs.Numbers.{SpellsShort, SpellsUpTo, max_count, max_code}
@@ -193,20 +193,16 @@ response_once root d a b first second = choice_once object.ListenResponse d (λ 
 -- ---- messages of a write stream
 
 result_in_once : (ms : Members) → IsOnce (SpellsWriteResultIn ms)
-result_in_once ms a b first second =
-    let times = time_in_once (given (codes "updateTime") ms) a.update_time b.update_time first.time second.time in
-    let values = list_once (given (codes "transformResults") ms) a.transforms b.transforms first.transforms second.transforms in
-    λ i. record { update_time = times i; transforms = values i }
+result_in_once ms a b first second = grind (arith, time_in_once, list_once)
 
 result_once : (d : Json) → IsOnce (SpellsWriteResult d)
 result_once d a b first second = object_once d (λ ms answer. SpellsWriteResultIn ms answer) result_in_once a b first second
 
+results_once : (found : Option Json) → IsOnce (SpellsEach SpellsWriteResult found)
+results_once found a b first second = spells_each_once found SpellsWriteResult result_once a b first second
+
 answer_in_once : (ms : Members) → IsOnce (SpellsWriteResponseIn ms)
-answer_in_once ms a b first second =
-    let tokens = token_once (given (codes "streamToken") ms) a.token b.token first.token second.token in
-    let results = spells_each_once (given (codes "writeResults") ms) SpellsWriteResult result_once a.results b.results first.results second.results in
-    let times = time_in_once (given (codes "commitTime") ms) a.commit_time b.commit_time first.time second.time in
-    λ i. record { token = tokens i; results = results i; commit_time = times i }
+answer_in_once ms a b first second = grind (arith, token_once, results_once, time_in_once)
 
 pub answer_once : (d : Json) → IsOnce (SpellsWriteResponse d)
 answer_once d a b first second = object_once d (λ ms response. SpellsWriteResponseIn ms response) answer_in_once a b first second

@@ -16,7 +16,7 @@ ghost use Rattle.json_rpc.specs.Grammar.{SpellsFieldsIn};
 ghost use Rattle.json_messages.specs.Grammar.{SpellsDocumentIn, SpellsDocumentChange, SpellsDocumentGone};
 ghost use Rattle.json_messages.specs.Storable.{IsStorableDocument, IsStorableGone};
 
-use crate::parts::{clean_ids, clean_time_in};
+use crate::parts::{clean_ids_in, clean_time_in};
 use document_keys::{DocumentKey, NoMemory};
 use json_model::{
     Object, Setting, clean_fields, clean_member, clean_name, clean_object, clean_time,
@@ -114,10 +114,8 @@ pub(crate) fn clean_document_change(
 {
     let object = Object::DocumentChange;
     let members = clean_object(setting, object, json);
-    let ids = clean_member(setting, object, members, "targetIds");
-    let ids = clean_ids(alloc, setting, ids)?;
-    let removed = clean_member(setting, object, members, "removedTargetIds");
-    let removed = clean_ids(alloc, setting, removed)?;
+    let ids = clean_ids_in(alloc, setting, object, members, "targetIds")?;
+    let removed = clean_ids_in(alloc, setting, object, members, "removedTargetIds")?;
     match clean_member(setting, object, members, "document") {
         Some(document) => clean_document(alloc, setting, ids, removed, document),
         None => unreachable!(),
@@ -155,14 +153,11 @@ pub(crate) fn clean_document_delete(
     let object = Object::DocumentDelete;
     let members = clean_object(setting, object, json);
     let key = clean_gone_key(alloc, setting, members)?;
-    let removed = clean_member(setting, object, members, "removedTargetIds");
-    let removed_target_ids = clean_ids(alloc, setting, removed)?;
-    let read_time = clean_member(setting, object, members, "readTime");
-    let read_time = clean_time_in(setting, read_time);
+    let removed_target_ids = clean_ids_in(alloc, setting, object, members, "removedTargetIds")?;
     Ok(DocumentDelete {
         key,
         removed_target_ids,
-        read_time,
+        read_time: clean_time_in(setting, object, members, "readTime"),
     })
 }
 

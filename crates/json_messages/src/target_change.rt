@@ -13,7 +13,7 @@ ghost use Rattle.json_model.specs.declared.place.Object.TheVariants as objects;
 ghost use Rattle.json_model.specs.declared.place.Place.TheVariants as places;
 ghost use Rattle.json_messages.specs.Grammar.{SpellsChangeType, SpellsNumber, SpellsTargetId, SpellsTargetChange, SpellsExistenceFilter};
 
-use crate::parts::{clean_ids, clean_time_in, clean_token};
+use crate::parts::{clean_ids_in, clean_time_in, clean_token_in};
 use crate::status::clean_cause;
 use document_keys::NoMemory;
 use json_model::{
@@ -59,20 +59,16 @@ pub(crate) fn clean_target_change(
     let members = clean_object(setting, object, json);
     let kind = clean_member(setting, object, members, "targetChangeType");
     let kind = clean_change_type(setting, kind);
-    let target_ids = clean_member(setting, object, members, "targetIds");
-    let target_ids = clean_ids(alloc, setting, target_ids)?;
+    let target_ids = clean_ids_in(alloc, setting, object, members, "targetIds")?;
     let cause = clean_member(setting, object, members, "cause");
     let cause = clean_cause(alloc, setting, cause)?;
-    let resume_token = clean_member(setting, object, members, "resumeToken");
-    let resume_token = clean_token(alloc, setting, resume_token)?;
-    let read_time = clean_member(setting, object, members, "readTime");
-    let read_time = clean_time_in(setting, read_time);
+    let resume_token = clean_token_in(alloc, setting, object, members, "resumeToken")?;
     Ok(TargetChange {
         kind,
         target_ids,
         cause,
         resume_token,
-        read_time,
+        read_time: clean_time_in(setting, object, members, "readTime"),
     })
 }
 

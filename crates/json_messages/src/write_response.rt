@@ -14,7 +14,7 @@ ghost use Rattle.json_messages.specs.Faults.{WriteResponseFaults};
 ghost use Rattle.json_messages.specs.Grammar.{SpellsWriteResult, SpellsWriteResponse};
 ghost use Rattle.json_messages.specs.Storable.{IsStorableResult, IsStorableAnswer};
 
-use crate::parts::{clean_time_in, clean_token};
+use crate::parts::{clean_time_in, clean_token_in};
 use document_keys::{Database, NoMemory};
 use json_model::{
     JsonFault, MAX_NESTING, Object, Place, Series, Setting, Side, check, clean_list, clean_member,
@@ -55,10 +55,8 @@ fn clean_result(alloc: Global, setting: &Setting<'_>, json: &Json) -> Result<Wri
     let members = clean_object(setting, object, json);
     let transforms = clean_member(setting, object, members, "transformResults");
     let transforms = clean_transform_results(alloc, setting, transforms)?;
-    let update_time = clean_member(setting, object, members, "updateTime");
-    let update_time = clean_time_in(setting, update_time);
     Ok(WriteResult {
-        update_time,
+        update_time: clean_time_in(setting, object, members, "updateTime"),
         transforms,
     })
 }
@@ -114,16 +112,13 @@ pub fn clean_write_response(
 {
     let object = Object::WriteResponse;
     let members = clean_object(setting, object, json);
-    let token = clean_member(setting, object, members, "streamToken");
-    let token = clean_token(alloc, setting, token)?;
+    let token = clean_token_in(alloc, setting, object, members, "streamToken")?;
     let results = clean_member(setting, object, members, "writeResults");
     let results = clean_results(alloc, setting, results)?;
-    let commit_time = clean_member(setting, object, members, "commitTime");
-    let commit_time = clean_time_in(setting, commit_time);
     Ok(WriteResponse {
         token,
         results,
-        commit_time,
+        commit_time: clean_time_in(setting, object, members, "commitTime"),
     })
 }
 
