@@ -16,7 +16,7 @@ use Rattle.json_model.specs.Bytes.{SpellsBytes}
 use Rattle.json_model.specs.Forms.{InObject, SpellsEach}
 use Rattle.json_model.specs.Grammar.{SpellsTime, SpellsName}
 use Rattle.json_model.specs.Members.{given}
-use Rattle.json_model.specs.Numbers.{SpellsShort, SpellsUpTo, max_count, max_code}
+use Rattle.json_model.specs.Numbers.{SpellsShort, SpellsUpTo}
 use Rattle.json_model.proofs.Forms.{IsOnce, given_once, object_once, choice_once, spells_each_once}
 use Rattle.json_model.proofs.Once.{bytes_once, whole_once, time_once, list_once, spells_fields_once}
 use Rattle.json_model.proofs.OneName.{spells_name_one}
@@ -84,10 +84,7 @@ change_type_once (Some d) a b first second = sym (kind_back a) ∙ ap kind_of (s
 -- ---- statuses
 
 status_in_once : (ms : Members) → IsOnce (SpellsStatusIn ms)
-status_in_once ms a b first second =
-    let codes_are = number_once max_code (given (codes "code") ms) a.code b.code first.code second.code in
-    let messages = text_once (given (codes "message") ms) a.message b.message first.message second.message in
-    λ i. record { code = codes_are i; message = messages i }
+status_in_once ms a b first second = grind (arith, number_once, text_once)
 
 pub status_once : (d : Json) → IsOnce (SpellsStatus d)
 status_once d a b first second = object_once d (λ ms status. SpellsStatusIn ms status) status_in_once a b first second
@@ -100,14 +97,14 @@ cause_once (Some d) (Some a) (Some b) first second = ap Some (status_once d a b 
 
 -- ---- messages of a watch stream
 
+ids_once : (found : Option Json) → IsOnce (SpellsEach SpellsShort found)
+ids_once found a b first second = spells_each_once found SpellsShort short_once a b first second
+
 target_change_once : (ms : Members) → IsOnce (SpellsTargetChange ms)
 target_change_once ms a b first second =
     let kinds = change_type_once (given (codes "targetChangeType") ms) a.kind b.kind first.becomes second.becomes in
-    let ids = spells_each_once (given (codes "targetIds") ms) SpellsShort short_once a.target_ids b.target_ids first.ids second.ids in
     let causes = cause_once (given (codes "cause") ms) a.cause b.cause first.cause second.cause in
-    let tokens = token_once (given (codes "resumeToken") ms) a.resume_token b.resume_token first.token second.token in
-    let times = time_in_once (given (codes "readTime") ms) a.read_time b.read_time first.time second.time in
-    λ i. record { kind = kinds i; target_ids = ids i; cause = causes i; resume_token = tokens i; read_time = times i }
+    grind (arith, ids_once, token_once, time_in_once)
 
 -- what documents are equal in
 record SameDocument (a b : DocumentChange) : Type 0 where
@@ -133,9 +130,10 @@ document_change_once : (root : Root) (ms : Members) → IsOnce (SpellsDocumentCh
 document_change_once root ms a b first second =
     let trees = some_one (given (codes "document") ms) first.document.tree second.document.tree first.document.is second.document.is in
     let same = document_same root second.document.tree a b (subst (λ (d : Json). InObject d (λ inside. SpellsDocumentIn root inside a)) trees first.document.spells) second.document.spells in
-    let ids = spells_each_once (given (codes "targetIds") ms) SpellsShort short_once a.target_ids b.target_ids first.ids second.ids in
-    let removed = spells_each_once (given (codes "removedTargetIds") ms) SpellsShort short_once a.removed_target_ids b.removed_target_ids first.removed second.removed in
-    λ i. record { key = same.keys i; fields = same.fields i; update_time = same.times i; target_ids = ids i; removed_target_ids = removed i }
+    let keys = same.keys in
+    let fields = same.fields in
+    let times = same.times in
+    grind (arith, ids_once)
 
 -- what a document that is gone is told by
 abbrev Gone : Type 0
@@ -144,9 +142,7 @@ Gone = List (List ℕ) × (List ℤ × Option Timestamp)
 gone_in_once : (root : Root) (ms : Members) → IsOnce (λ (x : Gone). SpellsDocumentGone root ms x.0 x.1.0 x.1.1)
 gone_in_once root ms a b first second =
     let keys = given_once (given (codes "document") ms) (SpellsName root) (spells_name_one root) a.0 b.0 first.names second.names in
-    let removed = spells_each_once (given (codes "removedTargetIds") ms) SpellsShort short_once a.1.0 b.1.0 first.left second.left in
-    let times = time_in_once (given (codes "readTime") ms) a.1.1 b.1.1 first.at second.at in
-    λ i. (keys i, (removed i, times i))
+    grind (arith, ids_once, time_in_once)
 
 gone_once : (root : Root) (d : Json) → IsOnce (λ (x : Gone). InObject d (λ ms. SpellsDocumentGone root ms x.0 x.1.0 x.1.1))
 gone_once root d a b first second = object_once d (λ ms (x : Gone). SpellsDocumentGone root ms x.0 x.1.0 x.1.1) (gone_in_once root) a b first second
@@ -154,8 +150,7 @@ gone_once root d a b first second = object_once d (λ ms (x : Gone). SpellsDocum
 filter_once : (ms : Members) → IsOnce (SpellsExistenceFilter ms)
 filter_once ms a b first second =
     let ids = target_id_once (given (codes "targetId") ms) a.target_id b.target_id first.target second.target in
-    let counts = number_once max_count (given (codes "count") ms) a.count b.count first.counts second.counts in
-    λ i. record { target_id = ids i; count = counts i }
+    grind (arith, number_once)
 
 -- the name of a kind
 abbrev kind_name : ListenResponse → List ℕ
