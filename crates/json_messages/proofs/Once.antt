@@ -57,6 +57,9 @@ time_in_once (Some d) None b first second = absurd first
 time_in_once (Some d) (Some a) None first second = absurd second
 time_in_once (Some d) (Some a) (Some b) first second = ap Some (time_once d a b first second)
 
+ids_once : (found : Option Json) → IsOnce (SpellsEach SpellsShort found)
+ids_once found a b first second = spells_each_once found SpellsShort short_once a b first second
+
 fields_in_once : (found : Option Json) → IsOnce (SpellsFieldsIn found)
 fields_in_once None a b first second = first ∙ sym second
 fields_in_once (Some d) a b first second = spells_fields_once d a b first second
@@ -81,10 +84,13 @@ change_type_once : (found : Option Json) → IsOnce (SpellsChangeType found)
 change_type_once None a b first second = first ∙ sym second
 change_type_once (Some d) a b first second = sym (kind_back a) ∙ ap kind_of (same_text d (change_text a) (change_text b) first second) ∙ kind_back b
 
+-- the kinds of members that may be left out in several messages
+ruleset parts_once = (number_once, text_once, token_once, time_in_once, ids_once, list_once)
+
 -- ---- statuses
 
 status_in_once : (ms : Members) → IsOnce (SpellsStatusIn ms)
-status_in_once ms a b first second = grind (arith, number_once, text_once)
+status_in_once ms a b first second = grind (arith, parts_once)
 
 pub status_once : (d : Json) → IsOnce (SpellsStatus d)
 status_once d a b first second = object_once d (λ ms status. SpellsStatusIn ms status) status_in_once a b first second
@@ -97,14 +103,11 @@ cause_once (Some d) (Some a) (Some b) first second = ap Some (status_once d a b 
 
 -- ---- messages of a watch stream
 
-ids_once : (found : Option Json) → IsOnce (SpellsEach SpellsShort found)
-ids_once found a b first second = spells_each_once found SpellsShort short_once a b first second
-
 target_change_once : (ms : Members) → IsOnce (SpellsTargetChange ms)
 target_change_once ms a b first second =
     let kinds = change_type_once (given (codes "targetChangeType") ms) a.kind b.kind first.becomes second.becomes in
     let causes = cause_once (given (codes "cause") ms) a.cause b.cause first.cause second.cause in
-    grind (arith, ids_once, token_once, time_in_once)
+    grind (arith, parts_once)
 
 -- what documents are equal in
 record SameDocument (a b : DocumentChange) : Type 0 where
@@ -133,7 +136,7 @@ document_change_once root ms a b first second =
     let keys = same.keys in
     let fields = same.fields in
     let times = same.times in
-    grind (arith, ids_once)
+    grind (arith, parts_once)
 
 -- what a document that is gone is told by
 abbrev Gone : Type 0
@@ -142,7 +145,7 @@ Gone = List (List ℕ) × (List ℤ × Option Timestamp)
 gone_in_once : (root : Root) (ms : Members) → IsOnce (λ (x : Gone). SpellsDocumentGone root ms x.0 x.1.0 x.1.1)
 gone_in_once root ms a b first second =
     let keys = given_once (given (codes "document") ms) (SpellsName root) (spells_name_one root) a.0 b.0 first.names second.names in
-    grind (arith, ids_once, time_in_once)
+    grind (arith, parts_once)
 
 gone_once : (root : Root) (d : Json) → IsOnce (λ (x : Gone). InObject d (λ ms. SpellsDocumentGone root ms x.0 x.1.0 x.1.1))
 gone_once root d a b first second = object_once d (λ ms (x : Gone). SpellsDocumentGone root ms x.0 x.1.0 x.1.1) (gone_in_once root) a b first second
@@ -150,7 +153,7 @@ gone_once root d a b first second = object_once d (λ ms (x : Gone). SpellsDocum
 filter_once : (ms : Members) → IsOnce (SpellsExistenceFilter ms)
 filter_once ms a b first second =
     let ids = target_id_once (given (codes "targetId") ms) a.target_id b.target_id first.target second.target in
-    grind (arith, number_once)
+    grind (arith, parts_once)
 
 -- the name of a kind
 abbrev kind_name : ListenResponse → List ℕ
@@ -188,7 +191,7 @@ response_once root d a b first second = choice_once object.ListenResponse d (λ 
 -- ---- messages of a write stream
 
 result_in_once : (ms : Members) → IsOnce (SpellsWriteResultIn ms)
-result_in_once ms a b first second = grind (arith, time_in_once, list_once)
+result_in_once ms a b first second = grind (arith, parts_once)
 
 result_once : (d : Json) → IsOnce (SpellsWriteResult d)
 result_once d a b first second = object_once d (λ ms answer. SpellsWriteResultIn ms answer) result_in_once a b first second
@@ -197,7 +200,7 @@ results_once : (found : Option Json) → IsOnce (SpellsEach SpellsWriteResult fo
 results_once found a b first second = spells_each_once found SpellsWriteResult result_once a b first second
 
 answer_in_once : (ms : Members) → IsOnce (SpellsWriteResponseIn ms)
-answer_in_once ms a b first second = grind (arith, token_once, results_once, time_in_once)
+answer_in_once ms a b first second = grind (arith, parts_once, results_once)
 
 pub answer_once : (d : Json) → IsOnce (SpellsWriteResponse d)
 answer_once d a b first second = object_once d (λ ms response. SpellsWriteResponseIn ms response) answer_in_once a b first second
