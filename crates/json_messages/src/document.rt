@@ -17,7 +17,7 @@ ghost use Rattle.json_messages.specs.Grammar.{SpellsDocumentIn, SpellsDocumentCh
 ghost use Rattle.json_messages.specs.Parts.{HasPlace};
 ghost use Rattle.json_messages.specs.Storable.{IsStorableDocument, IsStorableGone};
 
-use crate::parts::{clean_ids_in, clean_time_in};
+use crate::parts;
 use document_keys::{DocumentKey, NoMemory};
 use json_model::{
     Object, Setting, clean_fields, clean_member, clean_name, clean_object, clean_time,
@@ -115,8 +115,8 @@ pub(crate) fn clean_document_change(
 {
     let object = Object::DocumentChange;
     let members = clean_object(setting, object, json);
-    let ids = clean_ids_in(alloc, setting, object, members, "targetIds")?;
-    let removed = clean_ids_in(alloc, setting, object, members, "removedTargetIds")?;
+    let ids = parts::ids_in(alloc, setting, object, members, "targetIds")?;
+    let removed = parts::ids_in(alloc, setting, object, members, "removedTargetIds")?;
     match clean_member(setting, object, members, "document") {
         Some(document) => clean_document(alloc, setting, ids, removed, document),
         None => unreachable!(),
@@ -155,8 +155,8 @@ pub(crate) fn clean_document_delete(
     let members = clean_object(setting, object, json);
     Ok(DocumentDelete {
         key: clean_gone_key(alloc, setting, members)?,
-        removed_target_ids: clean_ids_in(alloc, setting, object, members, "removedTargetIds")?,
-        read_time: clean_time_in(setting, object, members, "readTime"),
+        removed_target_ids: parts::ids_in(alloc, setting, object, members, "removedTargetIds")?,
+        read_time: parts::time_in(setting, object, members, "readTime"),
     })
 }
 

@@ -1,4 +1,4 @@
-//! Members that may be left out.
+//! Members that trees without faults may leave out.
 
 ghost use Rattle.std.specs.Prelude.{◌≡◌, IfOk, IfSome, Some, option_map};
 ghost use Rattle.serde_json.specs.View.{view, members_view};
@@ -11,14 +11,14 @@ ghost use Rattle.json_model.specs.Numbers.{SpellsShort};
 ghost use Rattle.json_model.specs.declared.place.Leaf.TheVariants as leaves;
 ghost use Rattle.json_model.specs.declared.place.Place.TheVariants as places;
 ghost use Rattle.json_model.specs.declared.place.Series.TheVariants as serieses;
-ghost use Rattle.json_messages.specs.Grammar.{SpellsToken, SpellsTimeIn};
+ghost use Rattle.json_messages.specs.Grammar.{SpellsTextIn, SpellsToken, SpellsTimeIn};
 ghost use Rattle.json_messages.specs.Parts.{HasPlace};
 ghost use Rattle.json_messages.specs.Printed.{printed_token};
 
-use document_keys::NoMemory;
+use document_keys::{NoMemory, Text};
 use json_model::{
-    Object, Series, Setting, clean_bytes, clean_list, clean_member, clean_target_id, clean_time,
-    print_bytes, text_tree,
+    Object, Series, Setting, clean_bytes, clean_list, clean_member, clean_target_id, clean_text,
+    clean_time, print_bytes, text_tree,
 };
 use serde_json::{Map, Value as Json};
 use std::alloc::Global;
@@ -38,7 +38,7 @@ fn clean_id_items(alloc: Global, setting: &Setting<'_>, json: &Json) -> Result<V
 }
 
 /// The ids of targets under the name; where they are left out there are none.
-pub(crate) fn clean_ids_in(
+pub(crate) fn ids_in(
     alloc: Global,
     setting: &Setting<'_>,
     object: Object,
@@ -55,8 +55,26 @@ pub(crate) fn clean_ids_in(
     }
 }
 
+/// The text under the name; where it is left out it is empty.
+pub(crate) fn text_in(
+    alloc: Global,
+    setting: &Setting<'_>,
+    object: Object,
+    members: &Map<String, Json>,
+    name: &str,
+) -> Result<Text, NoMemory>
+    requires clean { AreClean setting.now object (members_view members.now.entries) }
+    requires place { HasPlace object (members_view members.now.entries) name.now (places.Leaf leaves.Text) }
+    ensures { IfOk result (λ text. SpellsTextIn (given name.now (members_view members.now.entries)) text) }
+{
+    match clean_member(setting, object, members, name) {
+        Some(json) => Text::from_str(alloc, clean_text(setting, json)),
+        None => Text::from_str(alloc, ""),
+    }
+}
+
 /// The token under the name; where it is left out it is empty.
-pub(crate) fn clean_token_in(
+pub(crate) fn token_in(
     alloc: Global,
     setting: &Setting<'_>,
     object: Object,
@@ -75,7 +93,7 @@ pub(crate) fn clean_token_in(
 }
 
 /// The time under the name, if there is one.
-pub(crate) fn clean_time_in(
+pub(crate) fn time_in(
     setting: &Setting<'_>,
     object: Object,
     members: &Map<String, Json>,

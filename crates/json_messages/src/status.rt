@@ -12,14 +12,15 @@ ghost use Rattle.json_model.specs.declared.place.Leaf.TheVariants as leaves;
 ghost use Rattle.json_model.specs.declared.place.Object.TheVariants as objects;
 ghost use Rattle.json_model.specs.declared.place.Place.TheVariants as places;
 ghost use Rattle.json_messages.specs.Faults.{StatusFaults};
-ghost use Rattle.json_messages.specs.Grammar.{SpellsNumber, SpellsTextIn, SpellsStatus, SpellsCause};
+ghost use Rattle.json_messages.specs.Grammar.{SpellsNumber, SpellsStatus, SpellsCause};
 ghost use Rattle.json_messages.specs.Parts.{HasPlace};
 ghost use Rattle.json_messages.specs.Printed.{printed_status, unless_zero as unless_zero_of, text_unless_empty as text_unless_empty_of};
 
-use document_keys::{Database, NoMemory, Text};
+use crate::parts;
+use document_keys::{Database, NoMemory};
 use json_model::{
     JsonFault, MAX_NESTING, Object, Place, Setting, Side, check, clean_code, clean_member,
-    clean_object, clean_text, put_given, text_tree,
+    clean_object, put_given, text_tree,
 };
 use serde_json::{Map, Number, Value as Json};
 use std::alloc::Global;
@@ -43,24 +44,6 @@ fn clean_code_in(
     }
 }
 
-/// The text under the name; where it is left out it is empty.
-fn clean_text_in(
-    alloc: Global,
-    setting: &Setting<'_>,
-    object: Object,
-    members: &Map<String, Json>,
-    name: &str,
-) -> Result<Text, NoMemory>
-    requires clean { AreClean setting.now object (members_view members.now.entries) }
-    requires place { HasPlace object (members_view members.now.entries) name.now (places.Leaf leaves.Text) }
-    ensures { IfOk result (λ text. SpellsTextIn (given name.now (members_view members.now.entries)) text) }
-{
-    match clean_member(setting, object, members, name) {
-        Some(json) => Text::from_str(alloc, clean_text(setting, json)),
-        None => Text::from_str(alloc, ""),
-    }
-}
-
 /// The status that a tree without faults spells.
 ///
 /// # Errors
@@ -77,7 +60,7 @@ pub fn clean_status(
     let members = clean_object(setting, object, json);
     Ok(RpcStatus {
         code: clean_code_in(alloc, setting, object, members, "code")?,
-        message: clean_text_in(alloc, setting, object, members, "message")?,
+        message: parts::text_in(alloc, setting, object, members, "message")?,
     })
 }
 

@@ -15,7 +15,7 @@ ghost use Rattle.json_model.specs.declared.place.Place.TheVariants as places;
 ghost use Rattle.json_messages.specs.Grammar.{SpellsChangeType, SpellsNumber, SpellsTargetId, SpellsTargetChange, SpellsExistenceFilter};
 ghost use Rattle.json_messages.specs.Parts.{HasPlace};
 
-use crate::parts::{clean_ids_in, clean_time_in, clean_token_in};
+use crate::parts;
 use crate::status::clean_cause_in;
 use document_keys::NoMemory;
 use json_model::{
@@ -67,10 +67,10 @@ pub(crate) fn clean_target_change(
     let members = clean_object(setting, object, json);
     Ok(TargetChange {
         kind: clean_change_type_in(setting, object, members, "targetChangeType"),
-        target_ids: clean_ids_in(alloc, setting, object, members, "targetIds")?,
+        target_ids: parts::ids_in(alloc, setting, object, members, "targetIds")?,
         cause: clean_cause_in(alloc, setting, object, members, "cause")?,
-        resume_token: clean_token_in(alloc, setting, object, members, "resumeToken")?,
-        read_time: clean_time_in(setting, object, members, "readTime"),
+        resume_token: parts::token_in(alloc, setting, object, members, "resumeToken")?,
+        read_time: parts::time_in(setting, object, members, "readTime"),
     })
 }
 

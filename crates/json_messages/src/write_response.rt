@@ -16,7 +16,7 @@ ghost use Rattle.json_messages.specs.Grammar.{SpellsWriteResult, SpellsWriteResp
 ghost use Rattle.json_messages.specs.Parts.{HasPlace};
 ghost use Rattle.json_messages.specs.Storable.{IsStorableResult, IsStorableAnswer};
 
-use crate::parts::{clean_time_in, clean_token_in};
+use crate::parts;
 use document_keys::{Database, NoMemory};
 use json_model::{
     JsonFault, MAX_NESTING, Object, Place, Series, Setting, Side, check, clean_list, clean_member,
@@ -59,7 +59,7 @@ fn clean_result(alloc: Global, setting: &Setting<'_>, json: &Json) -> Result<Wri
     let object = Object::WriteResult;
     let members = clean_object(setting, object, json);
     Ok(WriteResult {
-        update_time: clean_time_in(setting, object, members, "updateTime"),
+        update_time: parts::time_in(setting, object, members, "updateTime"),
         transforms: clean_transforms_in(alloc, setting, object, members, "transformResults")?,
     })
 }
@@ -119,9 +119,9 @@ pub fn clean_write_response(
     let object = Object::WriteResponse;
     let members = clean_object(setting, object, json);
     Ok(WriteResponse {
-        token: clean_token_in(alloc, setting, object, members, "streamToken")?,
+        token: parts::token_in(alloc, setting, object, members, "streamToken")?,
         results: clean_results_in(alloc, setting, object, members, "writeResults")?,
-        commit_time: clean_time_in(setting, object, members, "commitTime"),
+        commit_time: parts::time_in(setting, object, members, "commitTime"),
     })
 }
 
