@@ -1,5 +1,5 @@
 -- A tree spells one message at most.
-use Rattle.std.proofs.Common.{◌≡◌, ℕ, ℤ, pos, List, true, false, codes, Option, Some, None, refl, sym, ap, subst, ◌∙◌}
+use Rattle.std.proofs.Common.{arith, ◌≡◌, ℕ, ℤ, pos, List, true, false, codes, Option, Some, None, refl, sym, ap, subst, ◌∙◌}
 use Rattle.std.specs.Bool.{if◌then◌else◌}
 use Rattle.std.specs.Str.{bytes_eq}
 use Rattle.std.proofs.lemmas.Slice.Eq.{bytes_eq-Decides}
@@ -13,10 +13,10 @@ use Rattle.value_model.specs.declared.message.ListenResponse.{ListenResponse}
 use Rattle.value_model.specs.declared.message.ListenResponse.TheVariants.{Target, Change, Delete, Remove, Filter}
 use Rattle.json_model.specs.declared.place.Object.TheVariants as object
 use Rattle.json_model.specs.Bytes.{SpellsBytes}
-use Rattle.json_model.specs.Forms.{InObject}
+use Rattle.json_model.specs.Forms.{InObject, SpellsEach}
 use Rattle.json_model.specs.Grammar.{SpellsTime, SpellsName}
 use Rattle.json_model.specs.Members.{given}
-use Rattle.json_model.specs.Numbers.{SpellsShort, SpellsUpTo, max_count, max_code}
+use Rattle.json_model.specs.Numbers.{SpellsShort, SpellsUpTo}
 use Rattle.json_model.proofs.Forms.{IsOnce, given_once, object_once, choice_once, spells_each_once}
 use Rattle.json_model.proofs.Once.{bytes_once, whole_once, time_once, list_once, spells_fields_once}
 use Rattle.json_model.proofs.OneName.{spells_name_one}
@@ -57,6 +57,9 @@ time_in_once (Some d) None b first second = absurd first
 time_in_once (Some d) (Some a) None first second = absurd second
 time_in_once (Some d) (Some a) (Some b) first second = ap Some (time_once d a b first second)
 
+ids_once : (found : Option Json) → IsOnce (SpellsEach SpellsShort found)
+ids_once found a b first second = spells_each_once found SpellsShort short_once a b first second
+
 fields_in_once : (found : Option Json) → IsOnce (SpellsFieldsIn found)
 fields_in_once None a b first second = first ∙ sym second
 fields_in_once (Some d) a b first second = spells_fields_once d a b first second
@@ -81,13 +84,13 @@ change_type_once : (found : Option Json) → IsOnce (SpellsChangeType found)
 change_type_once None a b first second = first ∙ sym second
 change_type_once (Some d) a b first second = sym (kind_back a) ∙ ap kind_of (same_text d (change_text a) (change_text b) first second) ∙ kind_back b
 
+-- the kinds of members that may be left out in several messages
+ruleset parts_once = (number_once, text_once, token_once, time_in_once, ids_once, list_once)
+
 -- ---- statuses
 
 status_in_once : (ms : Members) → IsOnce (SpellsStatusIn ms)
-status_in_once ms a b first second =
-    let codes_are = number_once max_code (given (codes "code") ms) a.code b.code first.code second.code in
-    let messages = text_once (given (codes "message") ms) a.message b.message first.message second.message in
-    λ i. record { code = codes_are i; message = messages i }
+status_in_once ms a b first second = grind (arith, parts_once)
 
 pub status_once : (d : Json) → IsOnce (SpellsStatus d)
 status_once d a b first second = object_once d (λ ms status. SpellsStatusIn ms status) status_in_once a b first second
@@ -103,11 +106,8 @@ cause_once (Some d) (Some a) (Some b) first second = ap Some (status_once d a b 
 target_change_once : (ms : Members) → IsOnce (SpellsTargetChange ms)
 target_change_once ms a b first second =
     let kinds = change_type_once (given (codes "targetChangeType") ms) a.kind b.kind first.becomes second.becomes in
-    let ids = spells_each_once (given (codes "targetIds") ms) SpellsShort short_once a.target_ids b.target_ids first.ids second.ids in
     let causes = cause_once (given (codes "cause") ms) a.cause b.cause first.cause second.cause in
-    let tokens = token_once (given (codes "resumeToken") ms) a.resume_token b.resume_token first.token second.token in
-    let times = time_in_once (given (codes "readTime") ms) a.read_time b.read_time first.time second.time in
-    λ i. record { kind = kinds i; target_ids = ids i; cause = causes i; resume_token = tokens i; read_time = times i }
+    grind (arith, parts_once)
 
 -- what documents are equal in
 record SameDocument (a b : DocumentChange) : Type 0 where
@@ -133,9 +133,10 @@ document_change_once : (root : Root) (ms : Members) → IsOnce (SpellsDocumentCh
 document_change_once root ms a b first second =
     let trees = some_one (given (codes "document") ms) first.document.tree second.document.tree first.document.is second.document.is in
     let same = document_same root second.document.tree a b (subst (λ (d : Json). InObject d (λ inside. SpellsDocumentIn root inside a)) trees first.document.spells) second.document.spells in
-    let ids = spells_each_once (given (codes "targetIds") ms) SpellsShort short_once a.target_ids b.target_ids first.ids second.ids in
-    let removed = spells_each_once (given (codes "removedTargetIds") ms) SpellsShort short_once a.removed_target_ids b.removed_target_ids first.removed second.removed in
-    λ i. record { key = same.keys i; fields = same.fields i; update_time = same.times i; target_ids = ids i; removed_target_ids = removed i }
+    let keys = same.keys in
+    let fields = same.fields in
+    let times = same.times in
+    grind (arith, parts_once)
 
 -- what a document that is gone is told by
 abbrev Gone : Type 0
@@ -144,9 +145,7 @@ Gone = List (List ℕ) × (List ℤ × Option Timestamp)
 gone_in_once : (root : Root) (ms : Members) → IsOnce (λ (x : Gone). SpellsDocumentGone root ms x.0 x.1.0 x.1.1)
 gone_in_once root ms a b first second =
     let keys = given_once (given (codes "document") ms) (SpellsName root) (spells_name_one root) a.0 b.0 first.names second.names in
-    let removed = spells_each_once (given (codes "removedTargetIds") ms) SpellsShort short_once a.1.0 b.1.0 first.left second.left in
-    let times = time_in_once (given (codes "readTime") ms) a.1.1 b.1.1 first.at second.at in
-    λ i. (keys i, (removed i, times i))
+    grind (arith, parts_once)
 
 gone_once : (root : Root) (d : Json) → IsOnce (λ (x : Gone). InObject d (λ ms. SpellsDocumentGone root ms x.0 x.1.0 x.1.1))
 gone_once root d a b first second = object_once d (λ ms (x : Gone). SpellsDocumentGone root ms x.0 x.1.0 x.1.1) (gone_in_once root) a b first second
@@ -154,8 +153,7 @@ gone_once root d a b first second = object_once d (λ ms (x : Gone). SpellsDocum
 filter_once : (ms : Members) → IsOnce (SpellsExistenceFilter ms)
 filter_once ms a b first second =
     let ids = target_id_once (given (codes "targetId") ms) a.target_id b.target_id first.target second.target in
-    let counts = number_once max_count (given (codes "count") ms) a.count b.count first.counts second.counts in
-    λ i. record { target_id = ids i; count = counts i }
+    grind (arith, parts_once)
 
 -- the name of a kind
 abbrev kind_name : ListenResponse → List ℕ
@@ -193,20 +191,16 @@ response_once root d a b first second = choice_once object.ListenResponse d (λ 
 -- ---- messages of a write stream
 
 result_in_once : (ms : Members) → IsOnce (SpellsWriteResultIn ms)
-result_in_once ms a b first second =
-    let times = time_in_once (given (codes "updateTime") ms) a.update_time b.update_time first.time second.time in
-    let values = list_once (given (codes "transformResults") ms) a.transforms b.transforms first.transforms second.transforms in
-    λ i. record { update_time = times i; transforms = values i }
+result_in_once ms a b first second = grind (arith, parts_once)
 
 result_once : (d : Json) → IsOnce (SpellsWriteResult d)
 result_once d a b first second = object_once d (λ ms answer. SpellsWriteResultIn ms answer) result_in_once a b first second
 
+results_once : (found : Option Json) → IsOnce (SpellsEach SpellsWriteResult found)
+results_once found a b first second = spells_each_once found SpellsWriteResult result_once a b first second
+
 answer_in_once : (ms : Members) → IsOnce (SpellsWriteResponseIn ms)
-answer_in_once ms a b first second =
-    let tokens = token_once (given (codes "streamToken") ms) a.token b.token first.token second.token in
-    let results = spells_each_once (given (codes "writeResults") ms) SpellsWriteResult result_once a.results b.results first.results second.results in
-    let times = time_in_once (given (codes "commitTime") ms) a.commit_time b.commit_time first.time second.time in
-    λ i. record { token = tokens i; results = results i; commit_time = times i }
+answer_in_once ms a b first second = grind (arith, parts_once, results_once)
 
 pub answer_once : (d : Json) → IsOnce (SpellsWriteResponse d)
 answer_once d a b first second = object_once d (λ ms response. SpellsWriteResponseIn ms response) answer_in_once a b first second

@@ -1,6 +1,6 @@
 //! Documents that changed or are gone.
 
-ghost use Rattle.std.specs.Prelude.{◌≡◌, ◌≤◌, IfOk, IfSome, codes, option_map};
+ghost use Rattle.std.specs.Prelude.{◌≡◌, ◌≤◌, IfOk, codes};
 ghost use Rattle.serde_json.specs.View.{view, members_view};
 ghost use Rattle.value_model.specs.Data.{entries_depth};
 ghost use Rattle.value_model.specs.Storable.{AreStorable, IsStorableKey};
@@ -14,9 +14,10 @@ ghost use Rattle.json_model.specs.declared.place.Object.TheVariants as objects;
 ghost use Rattle.json_model.specs.declared.place.Place.TheVariants as places;
 ghost use Rattle.json_rpc.specs.Grammar.{SpellsFieldsIn};
 ghost use Rattle.json_messages.specs.Grammar.{SpellsDocumentIn, SpellsDocumentChange, SpellsDocumentGone};
+ghost use Rattle.json_messages.specs.Parts.{HasPlace};
 ghost use Rattle.json_messages.specs.Storable.{IsStorableDocument, IsStorableGone};
 
-use crate::parts::{clean_ids, clean_time_in};
+use crate::parts;
 use document_keys::{DocumentKey, NoMemory};
 use json_model::{
     Object, Setting, clean_fields, clean_member, clean_name, clean_object, clean_time,
@@ -42,18 +43,21 @@ fn clean_key(
     }
 }
 
-/// The fields of a document; where they are left out there are none.
+/// The fields of a document under the name; where they are left out there are none.
 fn clean_fields_in(
     alloc: Global,
     setting: &Setting<'_>,
-    found: Option<&Json>,
+    object: Object,
+    members: &Map<String, Json>,
+    name: &str,
 ) -> Result<Fields, NoMemory>
-    requires { IfSome found (λ json. IsClean setting.now (places.Object objects.Fields) (view json.now)) }
-    ensures fields { IfOk result (λ fields. SpellsFieldsIn (option_map (λ json. view json.now) found.entry) fields) }
+    requires clean { AreClean setting.now object (members_view members.now.entries) }
+    requires place { HasPlace object (members_view members.now.entries) name.now (places.Object objects.Fields) }
+    ensures fields { IfOk result (λ fields. SpellsFieldsIn (given name.now (members_view members.now.entries)) fields) }
     ensures storable { IfOk result AreStorable }
     ensures deep { IfOk result (λ fields. entries_depth fields ≤ max_nesting) }
 {
-    match found {
+    match clean_member(setting, object, members, name) {
         Some(json) => clean_fields(alloc, setting, json),
         None => Ok(Fields::new(alloc)),
     }
@@ -87,15 +91,12 @@ fn clean_document(
     ensures removed { IfOk result (λ change. change.removed_target_ids ≡ removed_target_ids) }
     ensures storable { IfOk result IsStorableDocument }
 {
-    let members = clean_object(setting, Object::Document, json);
-    let key = clean_key(alloc, setting, members)?;
-    let fields = clean_member(setting, Object::Document, members, "fields");
-    let fields = clean_fields_in(alloc, setting, fields)?;
-    let update_time = clean_update_time(setting, members);
+    let object = Object::Document;
+    let members = clean_object(setting, object, json);
     Ok(DocumentChange {
-        key,
-        fields,
-        update_time,
+        key: clean_key(alloc, setting, members)?,
+        fields: clean_fields_in(alloc, setting, object, members, "fields")?,
+        update_time: clean_update_time(setting, members),
         target_ids,
         removed_target_ids,
     })
@@ -114,10 +115,8 @@ pub(crate) fn clean_document_change(
 {
     let object = Object::DocumentChange;
     let members = clean_object(setting, object, json);
-    let ids = clean_member(setting, object, members, "targetIds");
-    let ids = clean_ids(alloc, setting, ids)?;
-    let removed = clean_member(setting, object, members, "removedTargetIds");
-    let removed = clean_ids(alloc, setting, removed)?;
+    let ids = parts::ids_in(alloc, setting, object, members, "targetIds")?;
+    let removed = parts::ids_in(alloc, setting, object, members, "removedTargetIds")?;
     match clean_member(setting, object, members, "document") {
         Some(document) => clean_document(alloc, setting, ids, removed, document),
         None => unreachable!(),
@@ -154,15 +153,10 @@ pub(crate) fn clean_document_delete(
 {
     let object = Object::DocumentDelete;
     let members = clean_object(setting, object, json);
-    let key = clean_gone_key(alloc, setting, members)?;
-    let removed = clean_member(setting, object, members, "removedTargetIds");
-    let removed_target_ids = clean_ids(alloc, setting, removed)?;
-    let read_time = clean_member(setting, object, members, "readTime");
-    let read_time = clean_time_in(setting, read_time);
     Ok(DocumentDelete {
-        key,
-        removed_target_ids,
-        read_time,
+        key: clean_gone_key(alloc, setting, members)?,
+        removed_target_ids: parts::ids_in(alloc, setting, object, members, "removedTargetIds")?,
+        read_time: parts::time_in(setting, object, members, "readTime"),
     })
 }
 

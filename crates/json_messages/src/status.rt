@@ -1,51 +1,46 @@
 //! Statuses.
 
-ghost use Rattle.std.specs.Prelude.{◌≡◌, [], ◌∷◌, false, IfOk, IfErr, IfSome, codes, option_map};
+ghost use Rattle.std.specs.Prelude.{◌≡◌, [], ◌∷◌, false, IfOk, IfErr, codes, option_map};
 ghost use Rattle.serde_json.specs.View.{view, members_view};
 ghost use Rattle.serde_json.specs.Written.{has_float};
-ghost use Rattle.json_model.specs.Clean.{IsClean};
+ghost use Rattle.json_model.specs.Clean.{IsClean, AreClean};
 ghost use Rattle.json_model.specs.Faults.{FaultsAt, IsFault, max_nesting};
 ghost use Rattle.json_model.specs.Forms.{present};
+ghost use Rattle.json_model.specs.Members.{given};
 ghost use Rattle.json_model.specs.Numbers.{max_code};
 ghost use Rattle.json_model.specs.declared.place.Leaf.TheVariants as leaves;
 ghost use Rattle.json_model.specs.declared.place.Object.TheVariants as objects;
 ghost use Rattle.json_model.specs.declared.place.Place.TheVariants as places;
 ghost use Rattle.json_messages.specs.Faults.{StatusFaults};
-ghost use Rattle.json_messages.specs.Grammar.{SpellsNumber, SpellsTextIn, SpellsStatus, SpellsCause};
+ghost use Rattle.json_messages.specs.Grammar.{SpellsNumber, SpellsStatus, SpellsCause};
+ghost use Rattle.json_messages.specs.Parts.{HasPlace};
 ghost use Rattle.json_messages.specs.Printed.{printed_status, unless_zero as unless_zero_of, text_unless_empty as text_unless_empty_of};
 
-use document_keys::{Database, NoMemory, Text};
+use crate::parts;
+use document_keys::{Database, NoMemory};
 use json_model::{
     JsonFault, MAX_NESTING, Object, Place, Setting, Side, check, clean_code, clean_member,
-    clean_object, clean_text, put_given, text_tree,
+    clean_object, put_given, text_tree,
 };
 use serde_json::{Map, Number, Value as Json};
 use std::alloc::Global;
 use value_model::RpcStatus;
 
-/// A code; where it is left out it is 0.
-fn clean_code_in(alloc: Global, setting: &Setting<'_>, found: Option<&Json>) -> Result<u8, NoMemory>
-    requires { IfSome found (λ json. IsClean setting.now (places.Leaf leaves.Code) (view json.now)) }
-    ensures { IfOk result (λ code. SpellsNumber max_code (option_map (λ json. view json.now) found.entry) code) }
-{
-    match found {
-        Some(json) => clean_code(alloc, setting, json),
-        None => Ok(0),
-    }
-}
-
-/// A text; where it is left out it is empty.
-fn clean_text_in(
+/// The code under the name; where it is left out it is 0.
+fn clean_code_in(
     alloc: Global,
     setting: &Setting<'_>,
-    found: Option<&Json>,
-) -> Result<Text, NoMemory>
-    requires { IfSome found (λ json. IsClean setting.now (places.Leaf leaves.Text) (view json.now)) }
-    ensures { IfOk result (λ text. SpellsTextIn (option_map (λ json. view json.now) found.entry) text) }
+    object: Object,
+    members: &Map<String, Json>,
+    name: &str,
+) -> Result<u8, NoMemory>
+    requires clean { AreClean setting.now object (members_view members.now.entries) }
+    requires place { HasPlace object (members_view members.now.entries) name.now (places.Leaf leaves.Code) }
+    ensures { IfOk result (λ code. SpellsNumber max_code (given name.now (members_view members.now.entries)) code) }
 {
-    match found {
-        Some(json) => Text::from_str(alloc, clean_text(setting, json)),
-        None => Text::from_str(alloc, ""),
+    match clean_member(setting, object, members, name) {
+        Some(json) => clean_code(alloc, setting, json),
+        None => Ok(0),
     }
 }
 
@@ -61,24 +56,27 @@ pub fn clean_status(
     requires { IsClean setting.now (places.Object objects.Status) (view json.now) }
     ensures { IfOk result (λ status. SpellsStatus (view json.now) status) }
 {
-    let members = clean_object(setting, Object::Status, json);
-    let code = clean_member(setting, Object::Status, members, "code");
-    let code = clean_code_in(alloc, setting, code)?;
-    let message = clean_member(setting, Object::Status, members, "message");
-    let message = clean_text_in(alloc, setting, message)?;
-    Ok(RpcStatus { code, message })
+    let object = Object::Status;
+    let members = clean_object(setting, object, json);
+    Ok(RpcStatus {
+        code: clean_code_in(alloc, setting, object, members, "code")?,
+        message: parts::text_in(alloc, setting, object, members, "message")?,
+    })
 }
 
-/// The status under `cause`, if there is one.
-pub(crate) fn clean_cause(
+/// The status under the name of a cause, if there is one.
+pub(crate) fn clean_cause_in(
     alloc: Global,
     setting: &Setting<'_>,
-    found: Option<&Json>,
+    object: Object,
+    members: &Map<String, Json>,
+    name: &str,
 ) -> Result<Option<RpcStatus>, NoMemory>
-    requires { IfSome found (λ json. IsClean setting.now (places.Object objects.Status) (view json.now)) }
-    ensures { IfOk result (λ cause. SpellsCause (option_map (λ json. view json.now) found.entry) cause) }
+    requires clean { AreClean setting.now object (members_view members.now.entries) }
+    requires place { HasPlace object (members_view members.now.entries) name.now (places.Object objects.Status) }
+    ensures { IfOk result (λ cause. SpellsCause (given name.now (members_view members.now.entries)) cause) }
 {
-    match found {
+    match clean_member(setting, object, members, name) {
         Some(json) => Ok(Some(clean_status(alloc, setting, json)?)),
         None => Ok(None),
     }

@@ -1,36 +1,44 @@
 //! Changes of targets, and how many documents one has.
 
-ghost use Rattle.std.specs.Prelude.{◌≡◌, IfOk, IfSome, codes, option_map};
+ghost use Rattle.std.specs.Prelude.{◌≡◌, IfOk, IfSome};
 ghost use Rattle.serde_json.specs.View.{view, members_view};
 ghost use Rattle.value_model.specs.Storable.{AreStorableBytes};
 ghost use Rattle.value_model.specs.Time.{IsMoment};
-ghost use Rattle.json_model.specs.Clean.{IsClean};
+ghost use Rattle.json_model.specs.Clean.{IsClean, AreClean};
 ghost use Rattle.json_model.specs.Forms.{InObject};
+ghost use Rattle.json_model.specs.Members.{given};
 ghost use Rattle.json_model.specs.Numbers.{max_count};
 ghost use Rattle.json_model.specs.declared.place.Constants.TheVariants as constants;
 ghost use Rattle.json_model.specs.declared.place.Leaf.TheVariants as leaves;
 ghost use Rattle.json_model.specs.declared.place.Object.TheVariants as objects;
 ghost use Rattle.json_model.specs.declared.place.Place.TheVariants as places;
 ghost use Rattle.json_messages.specs.Grammar.{SpellsChangeType, SpellsNumber, SpellsTargetId, SpellsTargetChange, SpellsExistenceFilter};
+ghost use Rattle.json_messages.specs.Parts.{HasPlace};
 
-use crate::parts::{clean_ids, clean_time_in, clean_token};
-use crate::status::clean_cause;
+use crate::parts;
+use crate::status::clean_cause_in;
 use document_keys::NoMemory;
 use json_model::{
     Constants, Object, Setting, clean_constant, clean_count, clean_member, clean_object,
     clean_target_id,
 };
-use serde_json::Value as Json;
+use serde_json::{Map, Value as Json};
 use std::alloc::Global;
 use value_model::{ChangeKind, ExistenceFilter, TargetChange};
 
-/// What became of targets; where it is left out, nothing did.
+/// What became of targets, by the name; where it is left out, nothing did.
 #[tactic(auto, unfolding(json_model::specs::Constants::is_change_type))]
-fn clean_change_type(setting: &Setting<'_>, found: Option<&Json>) -> ChangeKind
-    requires { IfSome found (λ json. IsClean setting.now (places.Leaf (leaves.Constant constants.ChangeType)) (view json.now)) }
-    ensures { SpellsChangeType (option_map (λ json. view json.now) found.entry) result }
+fn clean_change_type_in(
+    setting: &Setting<'_>,
+    object: Object,
+    members: &Map<String, Json>,
+    name: &str,
+) -> ChangeKind
+    requires clean { AreClean setting.now object (members_view members.now.entries) }
+    requires place { HasPlace object (members_view members.now.entries) name.now (places.Leaf (leaves.Constant constants.ChangeType)) }
+    ensures { SpellsChangeType (given name.now (members_view members.now.entries)) result }
 {
-    let Some(json) = found else {
+    let Some(json) = clean_member(setting, object, members, name) else {
         return ChangeKind::NoChange;
     };
     match clean_constant(setting, Constants::ChangeType, json) {
@@ -57,50 +65,46 @@ pub(crate) fn clean_target_change(
 {
     let object = Object::TargetChange;
     let members = clean_object(setting, object, json);
-    let kind = clean_member(setting, object, members, "targetChangeType");
-    let kind = clean_change_type(setting, kind);
-    let target_ids = clean_member(setting, object, members, "targetIds");
-    let target_ids = clean_ids(alloc, setting, target_ids)?;
-    let cause = clean_member(setting, object, members, "cause");
-    let cause = clean_cause(alloc, setting, cause)?;
-    let resume_token = clean_member(setting, object, members, "resumeToken");
-    let resume_token = clean_token(alloc, setting, resume_token)?;
-    let read_time = clean_member(setting, object, members, "readTime");
-    let read_time = clean_time_in(setting, read_time);
     Ok(TargetChange {
-        kind,
-        target_ids,
-        cause,
-        resume_token,
-        read_time,
+        kind: clean_change_type_in(setting, object, members, "targetChangeType"),
+        target_ids: parts::ids_in(alloc, setting, object, members, "targetIds")?,
+        cause: clean_cause_in(alloc, setting, object, members, "cause")?,
+        resume_token: parts::token_in(alloc, setting, object, members, "resumeToken")?,
+        read_time: parts::time_in(setting, object, members, "readTime"),
     })
 }
 
-/// The id of a target; where it is left out it is 0.
+/// The id of a target under the name; where it is left out it is 0.
 fn clean_target_id_in(
     alloc: Global,
     setting: &Setting<'_>,
-    found: Option<&Json>,
+    object: Object,
+    members: &Map<String, Json>,
+    name: &str,
 ) -> Result<i32, NoMemory>
-    requires { IfSome found (λ json. IsClean setting.now (places.Leaf leaves.TargetId) (view json.now)) }
-    ensures { IfOk result (λ id. SpellsTargetId (option_map (λ json. view json.now) found.entry) id) }
+    requires clean { AreClean setting.now object (members_view members.now.entries) }
+    requires place { HasPlace object (members_view members.now.entries) name.now (places.Leaf leaves.TargetId) }
+    ensures { IfOk result (λ id. SpellsTargetId (given name.now (members_view members.now.entries)) id) }
 {
-    match found {
+    match clean_member(setting, object, members, name) {
         Some(json) => clean_target_id(alloc, setting, json),
         None => Ok(0),
     }
 }
 
-/// A number of documents; where it is left out it is 0.
+/// The number of documents under the name; where it is left out it is 0.
 fn clean_count_in(
     alloc: Global,
     setting: &Setting<'_>,
-    found: Option<&Json>,
+    object: Object,
+    members: &Map<String, Json>,
+    name: &str,
 ) -> Result<u32, NoMemory>
-    requires { IfSome found (λ json. IsClean setting.now (places.Leaf leaves.Count) (view json.now)) }
-    ensures { IfOk result (λ count. SpellsNumber max_count (option_map (λ json. view json.now) found.entry) count) }
+    requires clean { AreClean setting.now object (members_view members.now.entries) }
+    requires place { HasPlace object (members_view members.now.entries) name.now (places.Leaf leaves.Count) }
+    ensures { IfOk result (λ count. SpellsNumber max_count (given name.now (members_view members.now.entries)) count) }
 {
-    match found {
+    match clean_member(setting, object, members, name) {
         Some(json) => clean_count(alloc, setting, json),
         None => Ok(0),
     }
@@ -118,9 +122,8 @@ pub(crate) fn clean_existence_filter(
 {
     let object = Object::ExistenceFilter;
     let members = clean_object(setting, object, json);
-    let target_id = clean_member(setting, object, members, "targetId");
-    let target_id = clean_target_id_in(alloc, setting, target_id)?;
-    let count = clean_member(setting, object, members, "count");
-    let count = clean_count_in(alloc, setting, count)?;
-    Ok(ExistenceFilter { target_id, count })
+    Ok(ExistenceFilter {
+        target_id: clean_target_id_in(alloc, setting, object, members, "targetId")?,
+        count: clean_count_in(alloc, setting, object, members, "count")?,
+    })
 }

@@ -1,40 +1,45 @@
 //! Messages of a write stream.
 
-ghost use Rattle.std.specs.Prelude.{◌≡◌, [], IfOk, IfErr, IfSome, Some, option_map};
-ghost use Rattle.serde_json.specs.View.{view};
-ghost use Rattle.json_model.specs.Clean.{IsClean};
+ghost use Rattle.std.specs.Prelude.{◌≡◌, [], IfOk, IfErr, Some};
+ghost use Rattle.serde_json.specs.View.{view, members_view};
+ghost use Rattle.json_model.specs.Clean.{IsClean, AreClean};
 ghost use Rattle.json_model.specs.Faults.{IsFault, max_nesting};
 ghost use Rattle.json_model.specs.Forms.{SpellsEach};
 ghost use Rattle.json_model.specs.Grammar.{SpellsList};
+ghost use Rattle.json_model.specs.Members.{given};
 ghost use Rattle.json_model.specs.declared.place.Object.TheVariants as objects;
 ghost use Rattle.json_model.specs.declared.place.Place.TheVariants as places;
 ghost use Rattle.json_model.specs.declared.place.Series.TheVariants as serieses;
 ghost use Rattle.json_rpc.specs.Storable.{AreAllStorable, IsStorableWithin};
 ghost use Rattle.json_messages.specs.Faults.{WriteResponseFaults};
 ghost use Rattle.json_messages.specs.Grammar.{SpellsWriteResult, SpellsWriteResponse};
+ghost use Rattle.json_messages.specs.Parts.{HasPlace};
 ghost use Rattle.json_messages.specs.Storable.{IsStorableResult, IsStorableAnswer};
 
-use crate::parts::{clean_time_in, clean_token};
+use crate::parts;
 use document_keys::{Database, NoMemory};
 use json_model::{
     JsonFault, MAX_NESTING, Object, Place, Series, Setting, Side, check, clean_list, clean_member,
     clean_object, clean_values,
 };
 use mutations::{Values, WriteResponse, WriteResult, WriteResults};
-use serde_json::Value as Json;
+use serde_json::{Map, Value as Json};
 use std::alloc::Global;
 
-/// The results of transforms; where they are left out there are none.
-fn clean_transform_results(
+/// The results of transforms under the name; where they are left out there are none.
+fn clean_transforms_in(
     alloc: Global,
     setting: &Setting<'_>,
-    found: Option<&Json>,
+    object: Object,
+    members: &Map<String, Json>,
+    name: &str,
 ) -> Result<Values, NoMemory>
-    requires { IfSome found (λ json. IsClean setting.now (places.Series serieses.Values) (view json.now)) }
-    ensures values { IfOk result (λ values. SpellsList (option_map (λ json. view json.now) found.entry) values) }
+    requires clean { AreClean setting.now object (members_view members.now.entries) }
+    requires place { HasPlace object (members_view members.now.entries) name.now (places.Series serieses.Values) }
+    ensures values { IfOk result (λ values. SpellsList (given name.now (members_view members.now.entries)) values) }
     ensures storable { IfOk result (AreAllStorable (IsStorableWithin max_nesting)) }
 {
-    match found {
+    match clean_member(setting, object, members, name) {
         Some(list) => {
             let values = clean_values(alloc, setting, list)?;
             let _count = values.len();
@@ -53,13 +58,9 @@ fn clean_result(alloc: Global, setting: &Setting<'_>, json: &Json) -> Result<Wri
 {
     let object = Object::WriteResult;
     let members = clean_object(setting, object, json);
-    let transforms = clean_member(setting, object, members, "transformResults");
-    let transforms = clean_transform_results(alloc, setting, transforms)?;
-    let update_time = clean_member(setting, object, members, "updateTime");
-    let update_time = clean_time_in(setting, update_time);
     Ok(WriteResult {
-        update_time,
-        transforms,
+        update_time: parts::time_in(setting, object, members, "updateTime"),
+        transforms: clean_transforms_in(alloc, setting, object, members, "transformResults")?,
     })
 }
 
@@ -82,17 +83,20 @@ fn clean_result_items(
     Ok(results)
 }
 
-/// The results of writes; where they are left out there are none.
-fn clean_results(
+/// The results of writes under the name; where they are left out there are none.
+fn clean_results_in(
     alloc: Global,
     setting: &Setting<'_>,
-    found: Option<&Json>,
+    object: Object,
+    members: &Map<String, Json>,
+    name: &str,
 ) -> Result<WriteResults, NoMemory>
-    requires { IfSome found (λ json. IsClean setting.now (places.Series serieses.Results) (view json.now)) }
-    ensures results { IfOk result (λ results. SpellsEach SpellsWriteResult (option_map (λ json. view json.now) found.entry) results) }
+    requires clean { AreClean setting.now object (members_view members.now.entries) }
+    requires place { HasPlace object (members_view members.now.entries) name.now (places.Series serieses.Results) }
+    ensures results { IfOk result (λ results. SpellsEach SpellsWriteResult (given name.now (members_view members.now.entries)) results) }
     ensures storable { IfOk result (λ results. AreAllStorable IsStorableResult results) }
 {
-    match found {
+    match clean_member(setting, object, members, name) {
         Some(json) => Ok(WriteResults::from_vec(clean_result_items(alloc, setting, json)?)),
         None => Ok(WriteResults::from_vec(Vec::new(alloc))),
     }
@@ -114,16 +118,10 @@ pub fn clean_write_response(
 {
     let object = Object::WriteResponse;
     let members = clean_object(setting, object, json);
-    let token = clean_member(setting, object, members, "streamToken");
-    let token = clean_token(alloc, setting, token)?;
-    let results = clean_member(setting, object, members, "writeResults");
-    let results = clean_results(alloc, setting, results)?;
-    let commit_time = clean_member(setting, object, members, "commitTime");
-    let commit_time = clean_time_in(setting, commit_time);
     Ok(WriteResponse {
-        token,
-        results,
-        commit_time,
+        token: parts::token_in(alloc, setting, object, members, "streamToken")?,
+        results: clean_results_in(alloc, setting, object, members, "writeResults")?,
+        commit_time: parts::time_in(setting, object, members, "commitTime"),
     })
 }
 
