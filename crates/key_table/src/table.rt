@@ -4,7 +4,7 @@ ghost use Rattle.document_keys.specs.Order.{PathBefore};
 ghost use Rattle.value_model.specs.Documents.{IsIn};
 ghost use Rattle.key_table.specs.Table.{HasEachKeyOnce, Puts, SameValues, has_key, value_at};
 
-use crate::below::{is_below, least_key};
+use crate::below::is_below;
 use document_keys::{CollectionPath, DocumentKey, KeySet, NoMemory};
 use std::alloc::Global;
 use std::collections::{BTreeSet, HashMap};
@@ -135,7 +135,7 @@ impl<V> KeyTable<V> {
         ensures members { IfOk result (λ keys. (key : List (List ℕ)) →
             Contains keys.items key ↔ (IsIn collection.now key × IsTrue (has_key self.now key))) }
     {
-        let least = least_key(alloc, collection)?;
+        let least = DocumentKey::least_in(alloc, collection)?;
         let mut keys = Vec::new(alloc);
         for key in self.order.range(&least..) {
             if !is_below(collection, key) {

@@ -11,7 +11,6 @@ ghost use Rattle.listeners.specs.Table.{Changes, ChangesTarget, IsWanted, KeepsT
 use crate::id_set;
 use crate::indexes::Indexes;
 use crate::listener::Listener;
-use crate::place::least_key;
 use document_keys::{Database, DocumentKey, NoMemory};
 use queries::Query;
 use std::alloc::Global;
@@ -214,7 +213,7 @@ impl Listeners {
         if self.listeners.is_empty() {
             return Ok(());
         }
-        let least = least_key(alloc, &key.parent(alloc)?)?;
+        let least = DocumentKey::least_in(alloc, &key.parent(alloc)?)?;
         add_concerned(&self.listeners, self.indexes.places.at(key), key, ids)?;
         add_concerned(&self.listeners, self.indexes.places.at(&least), key, ids)
     }
