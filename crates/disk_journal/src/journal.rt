@@ -58,7 +58,8 @@ impl Journal {
         alloc: Global,
         host: &mut H,
     ) -> Result<(Journal, FileId, Payloads), OpenFault>
-        ensures found { IfOk result (λ o. IsTrue H.tells_files → Gives (H.view host.old).bytes o.0.generation o.2) }
+        ensures found { IfOk result (λ o. IsTrue H.tells_files
+            → Gives (H.view host.old).bytes o.0.generation o.2) }
         ensures goes_on { IfOk result (λ o. IsTrue H.tells_files → GoesOn (H.view host.old).bytes o.1) }
         ensures first { IfOk result (λ o. IsTrue H.tells_files → AreBlank (H.view host.old).bytes → o.0 ≡ record { file = Zero; generation = 1; end = 16 }) }
         ensures open { IfOk result (λ o. IsTrue H.tells_files → IsOpen o.0 o.2 (H.view host.new)) }

@@ -34,7 +34,8 @@ impl Model for KeyBuilder {
 fn push_segment(path: &mut String, segment: &str) -> Result<(), NoMemory>
     requires segments { All IsSegment (segments_in (string_bytes path.old)) }
     requires segment { IsSegment segment.now }
-    ensures { OnOk result (segments_in (string_bytes path.new) ≡ segments_in (string_bytes path.old) ++ segment.now ∷ []) }
+    ensures { OnOk result (segments_in (string_bytes path.new)
+        ≡ segments_in (string_bytes path.old) ++ segment.now ∷ []) }
 {
     if path.is_empty() {
         path.push_str(segment)?;
@@ -62,7 +63,8 @@ impl KeyBuilder {
     pub fn with(self, segment: &str) -> Result<KeyBuilder, NameFault>
         ensures segments { IfOk result (λ builder. builder ≡ self ++ segment.now ∷ []) }
         ensures segment { IfOk result (λ builder. IsSegment segment.now) }
-        ensures fault { IfErr result (λ fault. fault ≢ NameFault.NoMemory → (fault ≡ NameFault.BadSegment) × ¬ (IsSegment segment.now)) }
+        ensures fault { IfErr result (λ fault. fault ≢ NameFault.NoMemory
+            → (fault ≡ NameFault.BadSegment) × ¬ (IsSegment segment.now)) }
     {
         if !is_segment(segment) {
             return Err(NameFault::BadSegment);

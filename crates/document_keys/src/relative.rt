@@ -32,7 +32,8 @@ fn cut(path: &str) -> (&str, Option<&str>)
 /// `BadSegment` where one isn't.
 pub(crate) fn check_segments(path: &str) -> Result<(), NameFault>
     ensures segments { OnOk result (All IsSegment (parts_of path.now)) }
-    ensures fault { IfErr result (λ fault. (fault ≡ NameFault.BadSegment) × ¬ (All IsSegment (parts_of path.now))) }
+    ensures fault { IfErr result (λ fault. (fault ≡ NameFault.BadSegment)
+        × ¬ (All IsSegment (parts_of path.now))) }
 {
     let mut rest = path;
     loop {

@@ -52,8 +52,10 @@ fn clean_fields_in(
     name: &str,
 ) -> Result<Fields, NoMemory>
     requires clean { AreClean setting.now object (members_view members.now.entries) }
-    requires place { HasPlace object (members_view members.now.entries) name.now (places.Object objects.Fields) }
-    ensures fields { IfOk result (λ fields. SpellsFieldsIn (given name.now (members_view members.now.entries)) fields) }
+    requires place { HasPlace object (members_view members.now.entries)
+        name.now (places.Object objects.Fields) }
+    ensures fields { IfOk result (λ fields. SpellsFieldsIn
+        (given name.now (members_view members.now.entries)) fields) }
     ensures storable { IfOk result AreStorable }
     ensures deep { IfOk result (λ fields. entries_depth fields ≤ max_nesting) }
 {

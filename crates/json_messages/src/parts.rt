@@ -46,8 +46,10 @@ pub(crate) fn ids_in(
     name: &str,
 ) -> Result<TargetIds, NoMemory>
     requires clean { AreClean setting.now object (members_view members.now.entries) }
-    requires place { HasPlace object (members_view members.now.entries) name.now (places.Series serieses.TargetIds) }
-    ensures { IfOk result (λ ids. SpellsEach SpellsShort (given name.now (members_view members.now.entries)) ids) }
+    requires place { HasPlace object (members_view members.now.entries)
+        name.now (places.Series serieses.TargetIds) }
+    ensures { IfOk result (λ ids. SpellsEach SpellsShort
+        (given name.now (members_view members.now.entries)) ids) }
 {
     match clean_member(setting, object, members, name) {
         Some(json) => Ok(TargetIds::from_vec(clean_id_items(alloc, setting, json)?)),
@@ -83,7 +85,8 @@ pub(crate) fn token_in(
 ) -> Result<Bytes, NoMemory>
     requires clean { AreClean setting.now object (members_view members.now.entries) }
     requires place { HasPlace object (members_view members.now.entries) name.now (places.Leaf leaves.Bytes) }
-    ensures token { IfOk result (λ token. SpellsToken (given name.now (members_view members.now.entries)) token) }
+    ensures token { IfOk result (λ token. SpellsToken
+        (given name.now (members_view members.now.entries)) token) }
     ensures storable { IfOk result AreStorableBytes }
 {
     match clean_member(setting, object, members, name) {

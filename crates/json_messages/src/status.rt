@@ -36,7 +36,8 @@ fn clean_code_in(
 ) -> Result<u8, NoMemory>
     requires clean { AreClean setting.now object (members_view members.now.entries) }
     requires place { HasPlace object (members_view members.now.entries) name.now (places.Leaf leaves.Code) }
-    ensures { IfOk result (λ code. SpellsNumber max_code (given name.now (members_view members.now.entries)) code) }
+    ensures { IfOk result (λ code. SpellsNumber max_code
+        (given name.now (members_view members.now.entries)) code) }
 {
     match clean_member(setting, object, members, name) {
         Some(json) => clean_code(alloc, setting, json),
@@ -73,7 +74,8 @@ pub(crate) fn clean_cause_in(
     name: &str,
 ) -> Result<Option<RpcStatus>, NoMemory>
     requires clean { AreClean setting.now object (members_view members.now.entries) }
-    requires place { HasPlace object (members_view members.now.entries) name.now (places.Object objects.Status) }
+    requires place { HasPlace object (members_view members.now.entries)
+        name.now (places.Object objects.Status) }
     ensures { IfOk result (λ cause. SpellsCause (given name.now (members_view members.now.entries)) cause) }
 {
     match clean_member(setting, object, members, name) {

@@ -35,7 +35,8 @@ fn clean_change_type_in(
     name: &str,
 ) -> ChangeKind
     requires clean { AreClean setting.now object (members_view members.now.entries) }
-    requires place { HasPlace object (members_view members.now.entries) name.now (places.Leaf (leaves.Constant constants.ChangeType)) }
+    requires place { HasPlace object (members_view members.now.entries)
+        name.now (places.Leaf (leaves.Constant constants.ChangeType)) }
     ensures { SpellsChangeType (given name.now (members_view members.now.entries)) result }
 {
     let Some(json) = clean_member(setting, object, members, name) else {
@@ -83,7 +84,8 @@ fn clean_target_id_in(
     name: &str,
 ) -> Result<i32, NoMemory>
     requires clean { AreClean setting.now object (members_view members.now.entries) }
-    requires place { HasPlace object (members_view members.now.entries) name.now (places.Leaf leaves.TargetId) }
+    requires place { HasPlace object (members_view members.now.entries)
+        name.now (places.Leaf leaves.TargetId) }
     ensures { IfOk result (λ id. SpellsTargetId (given name.now (members_view members.now.entries)) id) }
 {
     match clean_member(setting, object, members, name) {
@@ -102,7 +104,8 @@ fn clean_count_in(
 ) -> Result<u32, NoMemory>
     requires clean { AreClean setting.now object (members_view members.now.entries) }
     requires place { HasPlace object (members_view members.now.entries) name.now (places.Leaf leaves.Count) }
-    ensures { IfOk result (λ count. SpellsNumber max_count (given name.now (members_view members.now.entries)) count) }
+    ensures { IfOk result (λ count. SpellsNumber max_count
+        (given name.now (members_view members.now.entries)) count) }
 {
     match clean_member(setting, object, members, name) {
         Some(json) => clean_count(alloc, setting, json),

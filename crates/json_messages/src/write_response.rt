@@ -35,8 +35,10 @@ fn clean_transforms_in(
     name: &str,
 ) -> Result<Values, NoMemory>
     requires clean { AreClean setting.now object (members_view members.now.entries) }
-    requires place { HasPlace object (members_view members.now.entries) name.now (places.Series serieses.Values) }
-    ensures values { IfOk result (λ values. SpellsList (given name.now (members_view members.now.entries)) values) }
+    requires place { HasPlace object (members_view members.now.entries)
+        name.now (places.Series serieses.Values) }
+    ensures values { IfOk result (λ values. SpellsList
+        (given name.now (members_view members.now.entries)) values) }
     ensures storable { IfOk result (AreAllStorable (IsStorableWithin max_nesting)) }
 {
     match clean_member(setting, object, members, name) {
@@ -92,8 +94,10 @@ fn clean_results_in(
     name: &str,
 ) -> Result<WriteResults, NoMemory>
     requires clean { AreClean setting.now object (members_view members.now.entries) }
-    requires place { HasPlace object (members_view members.now.entries) name.now (places.Series serieses.Results) }
-    ensures results { IfOk result (λ results. SpellsEach SpellsWriteResult (given name.now (members_view members.now.entries)) results) }
+    requires place { HasPlace object (members_view members.now.entries)
+        name.now (places.Series serieses.Results) }
+    ensures results { IfOk result (λ results. SpellsEach SpellsWriteResult
+        (given name.now (members_view members.now.entries)) results) }
     ensures storable { IfOk result (λ results. AreAllStorable IsStorableResult results) }
 {
     match clean_member(setting, object, members, name) {

@@ -112,7 +112,8 @@ impl MutationQueue {
     pub fn remove_first(&mut self) -> Option<Batch>
         ensures taken { TakesFirst self.old.batches result self.new.batches }
         ensures spare { self.old.spare ≤ self.new.spare }
-        ensures places { KeepsOtherPlaces (named_keys (take 1 self.old.batches)) self.old.counts self.new.counts }
+        ensures places { KeepsOtherPlaces (named_keys (take 1 self.old.batches))
+            self.old.counts self.new.counts }
         ensures gone { FreesPlaces (named_keys (take 1 self.old.batches)) self.new.counts }
     {
         let first = self.line.take_first(self.alloc)?;
