@@ -43,8 +43,8 @@ static void bare(const char *folder, long count, long size) {
     want(file >= 0 && piece && each, "bare");
     for (long n = 0; n < count; n++, at += size + 9) {
         double before = now();
-        want(lseek(file, at + 1, SEEK_SET) >= 0 && write(file, piece, size + 9) == size + 9 && fdatasync(file) == 0, "append");
-        want(lseek(file, at, SEEK_SET) >= 0 && write(file, "\1", 1) == 1 && fdatasync(file) == 0, "gate");
+        want(pwrite(file, piece, size + 9, at + 1) == size + 9 && fdatasync(file) == 0, "append");
+        want(pwrite(file, "\1", 1, at) == 1 && fdatasync(file) == 0, "gate");
         each[n] = now() - before;
     }
     tell(now() - started, each, count);

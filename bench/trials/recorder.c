@@ -41,6 +41,14 @@ ssize_t write(int fd, const void *bytes, size_t count) {
   return note('w', fd, done, bytes, done > 0 ? done : 0);
 }
 
+/* recorded as a step to the place and a write there */
+ssize_t pwrite(int fd, const void *bytes, size_t count, off_t at) {
+  long done = syscall(SYS_pwrite64, fd, bytes, count, at);
+  if (done >= 0) note('l', fd, at, "", 0);
+  return note('w', fd, done, bytes, done > 0 ? done : 0);
+}
+
+ssize_t pwrite64(int fd, const void *bytes, size_t count, off_t at) { return pwrite(fd, bytes, count, at); }
 ssize_t __write(int fd, const void *bytes, size_t count) { return write(fd, bytes, count); }
 ssize_t read(int fd, void *bytes, size_t count) { return note('r', fd, syscall(SYS_read, fd, bytes, count), "", 0); }
 off_t lseek(int fd, off_t at, int whence) { return note('l', fd, syscall(SYS_lseek, fd, at, whence), "", 0); }

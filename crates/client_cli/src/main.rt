@@ -15,13 +15,16 @@ use host_api::{FileHost, StdSource};
 use std::env::Env;
 use std::fs::Files;
 use std::io::BufReader;
+use std::os::unix::fs::FileExt;
 use std::process::ExitCode;
 
 /// How many bytes of the standard input are read at once: as many as a pipe holds.
 const READ_AHEAD: usize = 65536;
 
 /// Runs what the words ask for over the folder that they name, the standard input and the standard output.
-fn run<R: Files + Print + Input + Env + AllocGlobal + Clone + Drop>(rt: &R) -> Status {
+fn run<R: Files<File: FileExt> + Print + Input + Env + AllocGlobal + Clone + Drop>(
+    rt: &R,
+) -> Status {
     let words = match words_of(rt) {
         Ok(words) => words,
         Err(status) => return status,

@@ -3,7 +3,8 @@ ghost use Rattle.host_api.specs.Counts.{Counts};
 
 use crate::host::{FILE_LIMIT, Failed, FileId, Host};
 use std::fs::{OpenFile, OpenOptions};
-use std::io::{ErrorKind, Read, Seek, SeekFrom, Write};
+use std::io::{ErrorKind, Write};
+use std::os::unix::fs::FileExt;
 use std::rt::Files;
 use std::{fs, io};
 
@@ -11,21 +12,21 @@ use std::{fs, io};
 ///
 /// The folder and its files `journal.0` and `journal.1` are opened at their first use, and made where they aren't there.
 #[derive(Drop)]
-pub struct FileHost<R: Files + Print + Drop> {
+pub struct FileHost<R: Files<File: FileExt> + Print + Drop> {
     files: Folder<R>,
     sink_faults: u64,
     disk_faults: u64,
 }
 
 #[derive(Drop)]
-struct Folder<R: Files + Print + Drop> {
+struct Folder<R: Files<File: FileExt> + Print + Drop> {
     rt: R,
     path: String,
     zero: Option<R::File>,
     one: Option<R::File>,
 }
 
-impl<R: Files + Print + Drop> Folder<R> {
+impl<R: Files<File: FileExt> + Print + Drop> Folder<R> {
     // Opens a file, and brings its entry in the folder to the disk.
     fn open(&self, file: FileId) -> io::Result<R::File> {
         let folder = self.path.as_str();
@@ -75,9 +76,7 @@ impl<R: Files + Print + Drop> Folder<R> {
     }
 
     fn read(&mut self, file: FileId, at: u64, into: &mut [u8]) -> io::Result<()> {
-        let opened = self.file(file)?;
-        opened.seek(SeekFrom::Start(at))?;
-        opened.read_exact(into)
+        self.file(file)?.read_exact_at(into, at)
     }
 
     fn write(&mut self, file: FileId, at: u64, piece: &[u8]) -> io::Result<()>
@@ -86,9 +85,7 @@ impl<R: Files + Print + Drop> Folder<R> {
         if at > FILE_LIMIT || piece.len() as u64 > FILE_LIMIT - at {
             return Err(io::Error::from(ErrorKind::FileTooLarge));
         }
-        let opened = self.file(file)?;
-        opened.seek(SeekFrom::Start(at))?;
-        opened.write_all(piece)
+        self.file(file)?.write_all_at(piece, at)
     }
 
     fn cut(&mut self, file: FileId, len: u64) -> io::Result<()> {
@@ -117,7 +114,7 @@ fn counted<T>(outcome: io::Result<T>, faults: &mut u64) -> Result<T, Failed>
     }
 }
 
-impl<R: Files + Print + Drop> FileHost<R> {
+impl<R: Files<File: FileExt> + Print + Drop> FileHost<R> {
     ghost use Rattle.host_api.specs.Edge.{untold};
 
     /// A host over this folder, of which nothing is opened yet.
@@ -138,7 +135,7 @@ impl<R: Files + Print + Drop> FileHost<R> {
     }
 }
 
-impl<R: Files + Print + Drop> Host for FileHost<R> {
+impl<R: Files<File: FileExt> + Print + Drop> Host for FileHost<R> {
     ghost use Rattle.std.specs.Prelude.{false};
     ghost use Rattle.host_api.specs.Edge.{untold};
     ghost use Rattle.std.proofs.Common.{rules};

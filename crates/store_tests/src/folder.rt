@@ -7,7 +7,7 @@ use std::process::Abort;
 use std::test::Fail;
 use std::{env, fs, process};
 
-fn check_written<R: Files + Print + Drop>(rt: &impl Abort, host: &mut FileHost<R>) {
+fn check_written<R: Files<File: FileExt> + Print + Drop>(rt: &impl Abort, host: &mut FileHost<R>) {
     assert!(rt; host.emit(b"files\n") == Ok(()));
     assert!(rt; host.file_len(FileId::Zero) == Ok(0));
     assert!(rt; host.write(FileId::Zero, 0, b"abcdef") == Ok(()));
@@ -16,7 +16,7 @@ fn check_written<R: Files + Print + Drop>(rt: &impl Abort, host: &mut FileHost<R
     assert!(rt; host.cut(FileId::Zero, 5) == Ok(()));
 }
 
-fn check_read<R: Files + Print + Drop>(rt: &impl Abort, host: &mut FileHost<R>) {
+fn check_read<R: Files<File: FileExt> + Print + Drop>(rt: &impl Abort, host: &mut FileHost<R>) {
     let mut bytes = [0u8; 5];
     assert!(rt; host.read(FileId::Zero, 0, &mut bytes) == Ok(()));
     assert!(rt; bytes.as_slice() == b"abXYe".as_slice());
