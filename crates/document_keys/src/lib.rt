@@ -20,6 +20,7 @@ mod path_set;
 mod relative;
 mod segment;
 mod sequence;
+mod short;
 mod spelling;
 mod text;
 

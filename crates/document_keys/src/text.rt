@@ -1,35 +1,68 @@
 ghost use Rattle.std.specs.Prelude.{◌≡◌, IfOk};
-ghost use Rattle.std.specs.String.{string_bytes};
+ghost use Rattle.document_keys.specs.Texts.{content_bytes};
 
 use crate::faults::NoMemory;
 use crate::sequence::Replicate;
+use crate::short::Short;
 use std::alloc::Global;
 use std::cmp::Ordering;
 use std::marker::Model;
+use std::rc::RcStr;
 
 /// A text of its own. Contracts see it as the list of its UTF-8 bytes, by which texts are also ordered.
+///
+/// A short one takes no memory, and a long one is shared by its copies.
 #[derive(Debug, Drop)]
 pub struct Text {
-    content: String,
+    content: Content,
+}
+
+#[derive(Debug, Drop)]
+enum Content {
+    Short(Short),
+    Long(RcStr),
 }
 
 impl Model for Text {
     ghost use Rattle.std.specs.Prelude.{List, ℕ};
-    ghost use Rattle.std.specs.String.{string_bytes};
 
     ghost Value = { List ℕ };
 
-    ghost view = { λ text. string_bytes text.content };
+    ghost use Rattle.document_keys.specs.Texts.{content_bytes};
+
+    ghost view = { λ text. content_bytes text.content };
+}
+
+impl Content {
+    fn from_str(alloc: Global, content: &str) -> Result<Content, NoMemory>
+        ensures { IfOk result (λ copy. content_bytes copy ≡ content.now) }
+    {
+        match Short::of(content) {
+            Some(short) => Ok(Content::Short(short)),
+            None => Ok(Content::Long(RcStr::from_str(alloc, content)?)),
+        }
+    }
+
+    fn as_str(&self) -> &str
+        ensures { result.now ≡ content_bytes self.now }
+    {
+        match self {
+            Content::Short(short) => short.as_str(),
+            Content::Long(shared) => shared.as_str(),
+        }
+    }
+
+    fn copy(&self) -> Result<Content, NoMemory>
+        ensures { IfOk result (λ copy. content_bytes copy ≡ content_bytes self.now) }
+    {
+        match self {
+            Content::Short(short) => Ok(Content::Short(short.copy())),
+            Content::Long(shared) => Ok(Content::Long(shared.clone()?)),
+        }
+    }
 }
 
 impl Text {
-    /// The text of the string, which it takes over.
-    pub fn from_string(content: String) -> Text
-        ensures { result ≡ string_bytes content }
-    {
-        Text { content }
-    }
-
     /// A copy of the text.
     ///
     /// # Errors
@@ -37,7 +70,7 @@ impl Text {
     pub fn from_str(alloc: Global, content: &str) -> Result<Text, NoMemory>
         ensures { IfOk result (λ text. text ≡ content.now) }
     {
-        let content = String::from_str(alloc, content)?;
+        let content = Content::from_str(alloc, content)?;
         Ok(Text { content })
     }
 
@@ -48,22 +81,15 @@ impl Text {
         self.content.as_str()
     }
 
-    /// The text as the string that holds it.
-    pub fn into_string(self) -> String
-        ensures { string_bytes result ≡ self }
-    {
-        let Text { content } = self;
-        content
-    }
-
-    /// A copy.
+    /// A copy. It takes no memory.
     ///
     /// # Errors
     /// `NoMemory`
-    pub fn copy(&self, alloc: Global) -> Result<Text, NoMemory>
+    pub fn copy(&self, _alloc: Global) -> Result<Text, NoMemory>
         ensures { IfOk result (λ text. text ≡ self.now) }
     {
-        Text::from_str(alloc, self.as_str())
+        let content = self.content.copy()?;
+        Ok(Text { content })
     }
 }
 
