@@ -12,7 +12,7 @@ use std::rc::RcStr;
 /// A text of its own. Contracts see it as the list of its UTF-8 bytes, by which texts are also ordered.
 ///
 /// A short one takes no memory, and a long one is shared by its copies.
-#[derive(Debug, Drop)]
+#[derive(Debug)]
 pub struct Text {
     content: Content,
 }
@@ -90,6 +90,13 @@ impl Text {
     {
         let content = self.content.copy()?;
         Ok(Text { content })
+    }
+}
+
+/// A call of its own: a holder's proof, in letting a text go, sees no two forms.
+impl Drop for Text {
+    fn drop(self) {
+        let Text { content: _ } = self;
     }
 }
 
