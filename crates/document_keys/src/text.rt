@@ -3,11 +3,9 @@ ghost use Rattle.std.specs.Prelude.{◌≡◌, IfOk};
 use crate::faults::NoMemory;
 use crate::held_text::HeldText;
 use crate::sequence::Replicate;
-use crate::short::Short;
 use std::alloc::Global;
 use std::cmp::Ordering;
 use std::marker::Model;
-use std::rc::RcStr;
 
 /// So many bytes stand in the text itself: with their count as many as a `String` takes.
 const INLINE: usize = 22;
