@@ -27,6 +27,16 @@ static SEGMENTS: [(&str, bool); 14] = [
     ("/", false),
 ];
 
+/// Texts of 0, 1, 22 and 23 bytes, the longest that takes no memory and the shortest that does.
+static TEXTS: [&str; 6] = [
+    "",
+    "a",
+    "abcdefghijklmnopqrstuv",
+    "ééééééééééé",
+    "abcdefghijklmnopqrstuvw",
+    "aééééééééééé",
+];
+
 static DATABASES: [(&str, NameFault); 5] = [
     ("projects/demo/databases", NameFault::WrongRoot),
     ("projects/demo/databases/a/b", NameFault::WrongRoot),
@@ -162,8 +172,11 @@ fn keys(rt: HostRuntime) -> Result<(), Fail> {
 
 #[test]
 fn texts(rt: HostRuntime) -> Result<(), Fail> {
-    let text = Text::from_str(rt.alloc(), "a")?;
-    let copy = Text::from_string(text.copy(rt.alloc())?.into_string());
-    assert!(rt; copy.as_str() == "a");
+    for content in &TEXTS {
+        let text = Text::from_str(rt.alloc(), content)?;
+        let copy = text.copy(rt.alloc())?;
+        drop(text);
+        assert!(rt; copy.as_str() == *content, "{content}");
+    }
     Ok(())
 }

@@ -5,3 +5,4 @@ pub mod Names
 pub mod Order
 pub mod Paths
 pub mod Reader
+pub mod Texts

@@ -83,11 +83,10 @@ impl KeyBuilder {
         ensures fault { IfErr result (λ fault. fault ≢ NameFault.NoMemory → (fault ≡ NameFault.OddLength)
             × ((length self ≡ 0) ⊎ (length self % 2 ≡ 1))) }
     {
-        let KeyBuilder { mut path } = self;
-        if path.is_empty() || count_parts(path.as_str()) % 2 == 1 {
+        let path = self.path.as_str();
+        if path.is_empty() || count_parts(path) % 2 == 1 {
             return Err(NameFault::OddLength);
         }
-        path.shrink_to_fit();
-        Ok(DocumentKey::of_path(path)?)
+        Ok(DocumentKey::of_path(*self.path.allocator(), path)?)
     }
 }

@@ -11,6 +11,7 @@ mod collection;
 mod database;
 mod faults;
 mod field;
+mod held_text;
 mod key;
 mod key_builder;
 mod key_set;
@@ -20,6 +21,7 @@ mod path_set;
 mod relative;
 mod segment;
 mod sequence;
+mod short;
 mod spelling;
 mod text;
 

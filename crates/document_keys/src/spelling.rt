@@ -9,7 +9,6 @@ ghost use Rattle.document_keys.specs.Reader.{step};
 use crate::faults::{FieldFault, NoMemory};
 use crate::text::Text;
 use std::alloc::Global;
-use std::mem;
 
 /// Where the reader stands.
 #[derive(Clone, Copy, Debug)]
@@ -94,8 +93,9 @@ pub(crate) fn read_names(alloc: Global, text: &str) -> Result<Vec<Text>, FieldFa
                 place = next;
             }
             Step::Finish => {
-                let whole = mem::replace(&mut name, String::new(alloc));
-                names.push(Text::from_string(whole))?;
+                let whole = Text::from_str(alloc, name.as_str())?;
+                names.push(whole)?;
+                name.clear();
                 place = Place::Start;
             }
             Step::Stop => return Err(FieldFault::BadPath),
@@ -103,7 +103,8 @@ pub(crate) fn read_names(alloc: Global, text: &str) -> Result<Vec<Text>, FieldFa
     }
     match place {
         Place::Plain | Place::Closed => {
-            names.push(Text::from_string(name))?;
+            let last = Text::from_str(alloc, name.as_str())?;
+            names.push(last)?;
             Ok(names)
         }
         _ => Err(FieldFault::BadPath),

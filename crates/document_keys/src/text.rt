@@ -1,35 +1,32 @@
 ghost use Rattle.std.specs.Prelude.{◌≡◌, IfOk};
-ghost use Rattle.std.specs.String.{string_bytes};
 
 use crate::faults::NoMemory;
+use crate::held_text::HeldText;
 use crate::sequence::Replicate;
 use std::alloc::Global;
 use std::cmp::Ordering;
 use std::marker::Model;
 
+/// So many bytes stand in the text itself: with their count as many as a `String` takes.
+const INLINE: usize = 22;
+
 /// A text of its own. Contracts see it as the list of its UTF-8 bytes, by which texts are also ordered.
+///
+/// A short one takes no memory, and a long one is shared by its copies.
 #[derive(Debug, Drop)]
 pub struct Text {
-    content: String,
+    held: HeldText<INLINE>,
 }
 
 impl Model for Text {
     ghost use Rattle.std.specs.Prelude.{List, ℕ};
-    ghost use Rattle.std.specs.String.{string_bytes};
 
     ghost Value = { List ℕ };
 
-    ghost view = { λ text. string_bytes text.content };
+    ghost view = { λ text. text.held };
 }
 
 impl Text {
-    /// The text of the string, which it takes over.
-    pub fn from_string(content: String) -> Text
-        ensures { result ≡ string_bytes content }
-    {
-        Text { content }
-    }
-
     /// A copy of the text.
     ///
     /// # Errors
@@ -37,33 +34,26 @@ impl Text {
     pub fn from_str(alloc: Global, content: &str) -> Result<Text, NoMemory>
         ensures { IfOk result (λ text. text ≡ content.now) }
     {
-        let content = String::from_str(alloc, content)?;
-        Ok(Text { content })
+        let held = HeldText::from_str(alloc, content)?;
+        Ok(Text { held })
     }
 
     /// The text, lent.
     pub fn as_str(&self) -> &str
         ensures { result.now ≡ self.now }
     {
-        self.content.as_str()
+        self.held.as_str()
     }
 
-    /// The text as the string that holds it.
-    pub fn into_string(self) -> String
-        ensures { string_bytes result ≡ self }
-    {
-        let Text { content } = self;
-        content
-    }
-
-    /// A copy.
+    /// A copy. It takes no memory.
     ///
     /// # Errors
-    /// `NoMemory`
-    pub fn copy(&self, alloc: Global) -> Result<Text, NoMemory>
+    /// `NoMemory` where more copies stand than can be counted.
+    pub fn copy(&self, _alloc: Global) -> Result<Text, NoMemory>
         ensures { IfOk result (λ text. text ≡ self.now) }
     {
-        Text::from_str(alloc, self.as_str())
+        let held = self.held.copy()?;
+        Ok(Text { held })
     }
 }
 
