@@ -12,7 +12,7 @@ use crate::transform::{Change, Transform};
 use document_keys::NoMemory;
 use std::alloc::Global;
 use std::cmp::Ordering;
-use value_model::{Fields, Kind, Timestamp, Value};
+use value_model::{Fields, Kind, SharedValues, Timestamp, Value};
 
 /// The whole number of the field.
 fn number_of(found: Option<&Value>) -> Option<i64>
@@ -127,12 +127,14 @@ fn changed(
         Change::Increment(by) => Kind::Integer(sum(number_of(found), *by)),
         Change::Maximum(other) => Kind::Integer(greater(number_of(found), *other)),
         Change::Minimum(other) => Kind::Integer(smaller(number_of(found), *other)),
-        Change::Append(values) => Kind::Array(appended(alloc, items_of(found), values.as_slice())?),
-        Change::RemoveAll(values) => Kind::Array(others(
-            alloc,
-            items_of(found),
-            values.as_slice(),
-        )?),
+        Change::Append(values) => {
+            let items = appended(alloc, items_of(found), values.as_slice())?;
+            Kind::Array(SharedValues::new(alloc, items)?)
+        }
+        Change::RemoveAll(values) => {
+            let items = others(alloc, items_of(found), values.as_slice())?;
+            Kind::Array(SharedValues::new(alloc, items)?)
+        }
     };
     Ok(Value { kind })
 }
@@ -166,15 +168,11 @@ fn settled(
     match change {
         Change::Append(values) => {
             let items = appended(alloc, items_of(found), values.as_slice())?;
-            Ok(Value {
-                kind: Kind::Array(items),
-            })
+            Ok(Value::array(alloc, items)?)
         }
         Change::RemoveAll(values) => {
             let items = others(alloc, items_of(found), values.as_slice())?;
-            Ok(Value {
-                kind: Kind::Array(items),
-            })
+            Ok(Value::array(alloc, items)?)
         }
         _ => Ok(returned.copy(alloc)?),
     }

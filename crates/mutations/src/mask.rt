@@ -24,7 +24,7 @@ fn taken_over(
     let _names = path.len();
     match input.at(path) {
         Some(value) => Ok(fields.with_at(alloc, path, value.copy(alloc)?)?),
-        None => Ok(fields.without_at(path)),
+        None => Ok(fields.without_at(alloc, path)?),
     }
 }
 

@@ -1,5 +1,5 @@
 -- values of two kinds, which go by the ranks of their kinds
-use Rattle.std.proofs.Common.{◌≡◌, ◌≢◌, ℕ, ℤ, Bool, List, Vec, Box, Global, refl, sym, subst}
+use Rattle.std.proofs.Common.{◌≡◌, ◌≢◌, ℕ, ℤ, Bool, List, Box, Global, refl, sym, subst}
 use Rattle.std.specs.Ordering.{nat_cmp}
 use Rattle.value_model.specs.declared.reference.RefName.{RefName}
 use Rattle.value_model.specs.declared.timestamp.Timestamp.{Timestamp}
@@ -69,11 +69,11 @@ reference_apart x l other = refl
 pub not_reference : (k l : Kind) (x : Box RefName Global) → k ≡ Reference x → ((y : Box RefName Global) → l ≢ Reference y) → GoesByRank k l
 not_reference k l x is other = subst (λ z. GoesByRank z l) (sym is) (reference_apart x.value l other)
 
-array_apart : (x : Vec Data Global) (l : Kind) → ((y : Vec Data Global) → l ≢ Array y) → GoesByRank (Array x) l
+array_apart : (x : List Data) (l : Kind) → ((y : List Data) → l ≢ Array y) → GoesByRank (Array x) l
 array_apart x (Array y) other = absurd (other y refl)
 array_apart x l other = refl
 
-pub not_array : (k l : Kind) (x : Vec Data Global) → k ≡ Array x → ((y : Vec Data Global) → l ≢ Array y) → GoesByRank k l
+pub not_array : (k l : Kind) (x : List Data) → k ≡ Array x → ((y : List Data) → l ≢ Array y) → GoesByRank k l
 not_array k l x is other = subst (λ z. GoesByRank z l) (sym is) (array_apart x l other)
 
 map_apart : (x : Entries) (l : Kind) → ((y : Entries) → l ≢ Map y) → GoesByRank (Map x) l

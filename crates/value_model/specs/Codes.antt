@@ -6,9 +6,9 @@ use base.Stored.{Gv, gnil, gnum, gcons}
 use denote.Struct.Codes.{itself}
 use Rattle.value_model.specs.declared.reference.RefName.{RefName}
 use Rattle.value_model.specs.declared.timestamp.Timestamp.{Timestamp}
-use Rattle.value_model.specs.Data.{Data, null, boolean, integer, time, pending, text, bytes, reference, array, map, Items, no_items, item, Members, no_members, member, Entries, members_of}
+use Rattle.value_model.specs.Data.{Data, null, boolean, integer, time, pending, text, bytes, reference, array, map, Items, no_items, item, Members, no_members, member, Entries, members_of, items_of}
 
--- how many steps lead from a value to its innermost part, where fields are a step of their own
+-- how many steps lead from a value to its innermost part, where fields, and what is shared, are steps of their own
 abbrev mutual
   pub data_size : Data → ℕ
   data_size null = 0
@@ -19,8 +19,8 @@ abbrev mutual
   data_size (text s) = 0
   data_size (bytes s) = 0
   data_size (reference r) = 0
-  data_size (array ds) = items_size ds
-  data_size (map ms) = suc (members_size ms)
+  data_size (array ds) = suc (items_size ds)
+  data_size (map ms) = suc (suc (members_size ms))
 
   pub items_size : Items → ℕ
   items_size no_items = 0
@@ -32,6 +32,13 @@ abbrev mutual
 
 abbrev pub entries_size : Entries → ℕ
 entries_size es = members_size (members_of es)
+
+-- of shared fields, and of shared values
+abbrev pub shared_size : Entries → ℕ
+shared_size es = suc (entries_size es)
+
+abbrev pub list_size : List Data → ℕ
+list_size ds = items_size (items_of ds)
 
 -- the number, and the halves, of a tree of numbers
 abbrev pub number : Gv → ℕ
@@ -196,3 +203,6 @@ data_code = code_by Gv itself encode decode data_back
 
 abbrev pub entries_code : Coded Entries
 entries_code = coded_list (coded× (coded_list coded_ℕ) data_code)
+
+abbrev pub list_code : Coded (List Data)
+list_code = coded_list data_code

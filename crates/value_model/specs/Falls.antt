@@ -11,7 +11,7 @@ use Rattle.value_model.specs.Codes.{data_size, items_size, entries_size}
 use Rattle.value_model.specs.View.{kind_data}
 use Rattle.value_model.specs.Named.{fields_data}
 
-most_le : (ds : List Data) → most (λ d. data_size d + 1) ds ≤ items_size (items_of ds)
+pub most_le : (ds : List Data) → most (λ d. data_size d + 1) ds ≤ items_size (items_of ds)
 most_le [] = omega arith
 most_le (d ∷ ds) = omega (arith, most_le ds)
 
@@ -24,7 +24,7 @@ kind_falls (Pending t) = omega arith
 kind_falls (Text s) = omega arith
 kind_falls (Bytes s) = omega arith
 kind_falls (Reference r) = omega arith
-kind_falls (Array v) = omega (arith, most_le v.items)
+kind_falls (Array values) = omega arith
 kind_falls (Map fields) = omega arith
 
 pub entries_fall : (fields : List Field) → most deep-Field fields ≤ entries_size (fields_data fields)

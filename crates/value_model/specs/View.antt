@@ -12,5 +12,5 @@ kind_data (Pending t) = pending t
 kind_data (Text s) = text s
 kind_data (Bytes s) = bytes s
 kind_data (Reference r) = reference r.value
-kind_data (Array v) = array_of v.items
+kind_data (Array values) = array_of values
 kind_data (Map fields) = map_of fields

@@ -13,7 +13,7 @@ impl Value {
         ensures { option_map (λ value. value.now) result ≡ member_at self.now name.now }
     {
         match &self.kind {
-            Kind::Map(fields) => fields.get(name),
+            Kind::Map(fields) => fields.as_fields().get(name),
             _ => None,
         }
     }

@@ -1,4 +1,5 @@
-//! Fields with another value at a path, by moving what stands in them.
+//! Fields with another value at a path, by moving what stands in them. Where others hold a map on the way too, it is
+//! copied first, by one level; what lies beside the way stays shared.
 
 ghost use Rattle.std.specs.Prelude.{◌≡◌, ◌≢◌, [], ◌∷◌, codes, ◌<◌, length, drop, Option, None, IfOk, unwrap_or};
 ghost use Rattle.value_model.specs.Changes.{members_in, with_value, with_value_at, on_members, without_value_at};
@@ -10,14 +11,14 @@ use crate::value::{Kind, Value};
 use document_keys::{FieldPath, NoMemory, Text};
 use std::alloc::Global;
 
-/// The members of a map; of another value, no fields.
-fn members(alloc: Global, value: Value) -> Fields
-    ensures { result ≡ members_in value }
+/// The members of a map, to change; of another value, no fields.
+fn members(alloc: Global, value: Value) -> Result<Fields, NoMemory>
+    ensures { IfOk result (λ fields. fields ≡ members_in value) }
 {
     let Value { kind } = value;
     match kind {
-        Kind::Map(fields) => fields,
-        _ => Fields::new(alloc),
+        Kind::Map(fields) => fields.into_fields(alloc),
+        _ => Ok(Fields::new(alloc)),
     }
 }
 
@@ -47,50 +48,65 @@ fn with_inner(
     let Some(name) = path.segment(from) else {
         return Ok(new);
     };
-    let mut fields = members(alloc, value);
+    let mut fields = members(alloc, value)?;
     let _count = fields.len();
     let inner = or_null(fields.replace(name, Value { kind: Kind::Null }));
     let changed = with_inner(alloc, inner, path, from + 1, new)?;
     fields.put(alloc, Text::from_str(alloc, name)?, changed)?;
-    Ok(Value::map(fields))
+    Value::map(alloc, fields)
 }
 
 /// The value without what stands inside it, at the names of the path from this index on.
 #[cycle(without)]
-fn without_inner(value: Value, path: &FieldPath, from: u64) -> Value
+fn without_inner(
+    alloc: Global,
+    value: Value,
+    path: &FieldPath,
+    from: u64,
+) -> Result<Value, NoMemory>
     requires { from < length path.now }
-    ensures done { result ≡ on_members (λ fields. without_value_at fields (drop from path.now)) value }
-    ensures gone { value_in result (drop from path.now) ≡ None }
-    ensures missing { value_in value (drop from path.now) ≡ None → result ≡ value }
+    ensures done { IfOk result (λ d. d ≡ on_members (λ fields. without_value_at fields (drop from path.now)) value) }
+    ensures gone { IfOk result (λ d. value_in d (drop from path.now) ≡ None) }
+    ensures missing { IfOk result (λ d. value_in value (drop from path.now) ≡ None → d ≡ value) }
 {
     let Value { kind } = value;
     match kind {
-        Kind::Map(fields) => Value::map(without_member(fields, path, from)),
-        kind => Value { kind },
+        Kind::Map(fields) => {
+            let rest = without_member(alloc, fields.into_fields(alloc)?, path, from)?;
+            Value::map(alloc, rest)
+        }
+        kind => Ok(Value { kind }),
     }
 }
 
 /// The fields without what stands in them, at the names of the path from this index on.
 #[cycle(without)]
-fn without_member(mut fields: Fields, path: &FieldPath, from: u64) -> Fields
+fn without_member(
+    alloc: Global,
+    mut fields: Fields,
+    path: &FieldPath,
+    from: u64,
+) -> Result<Fields, NoMemory>
     requires { from < length path.now }
-    ensures done { result ≡ without_value_at fields (drop from path.now) }
-    ensures gone { value_at result (drop from path.now) ≡ None }
-    ensures missing { value_at fields (drop from path.now) ≡ None → result ≡ fields }
+    ensures done { IfOk result (λ rest. rest ≡ without_value_at fields (drop from path.now)) }
+    ensures gone { IfOk result (λ rest. value_at rest (drop from path.now) ≡ None) }
+    ensures missing { IfOk result (λ rest. value_at fields (drop from path.now) ≡ None → rest ≡ fields) }
 {
     let _count = fields.len();
     let names = path.len();
     let Some(name) = path.segment(from) else {
-        return fields;
+        return Ok(fields);
     };
     if from + 1 == names {
         fields.remove(name);
-        return fields;
+        return Ok(fields);
     }
-    if let Some(inner) = fields.replace(name, Value { kind: Kind::Null }) {
-        fields.replace(name, without_inner(inner, path, from + 1));
-    }
-    fields
+    let Some(inner) = fields.replace(name, Value { kind: Kind::Null }) else {
+        return Ok(fields);
+    };
+    let rest = without_inner(alloc, inner, path, from + 1)?;
+    fields.replace(name, rest);
+    Ok(fields)
 }
 
 impl Fields {
@@ -104,17 +120,20 @@ impl Fields {
         ensures done { IfOk result (λ fields. fields ≡ with_value_at self path.now value) }
         ensures same { IfOk result (λ f. value_at self path.now ≡ Option.Some value → f ≡ self) }
     {
-        let whole = with_inner(alloc, Value::map(self), path, 0, value)?;
-        Ok(members(alloc, whole))
+        let whole = with_inner(alloc, Value::map(alloc, self)?, path, 0, value)?;
+        members(alloc, whole)
     }
 
     /// The fields without what stands at the path. Nothing is made on the way to it.
-    pub fn without_at(self, path: &FieldPath) -> Fields
-        ensures done { result ≡ without_value_at self path.now }
-        ensures gone { value_at result path.now ≡ None }
-        ensures missing { value_at self path.now ≡ None → result ≡ self }
+    ///
+    /// # Errors
+    /// `NoMemory`: the fields are then gone.
+    pub fn without_at(self, alloc: Global, path: &FieldPath) -> Result<Fields, NoMemory>
+        ensures done { IfOk result (λ fields. fields ≡ without_value_at self path.now) }
+        ensures gone { IfOk result (λ fields. value_at fields path.now ≡ None) }
+        ensures missing { IfOk result (λ f. value_at self path.now ≡ None → f ≡ self) }
     {
         let _names = path.len();
-        without_member(self, path, 0)
+        without_member(alloc, self, path, 0)
     }
 }

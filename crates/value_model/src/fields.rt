@@ -185,11 +185,10 @@ impl Fields {
         }
     }
 
-    /// A copy.
+    /// A copy, by a copy of each value.
     ///
     /// # Errors
     /// `NoMemory`
-    #[cycle(copy)]
     pub fn copy(&self, alloc: Global) -> Result<Fields, NoMemory>
         ensures { IfOk result (λ fields. fields ≡ self.now) }
     {

@@ -1,9 +1,11 @@
 //! Values of documents: ten kinds in the order of Firestore, what holds them, and what stores and streams say of them.
 //!
 //! A `Value` is a struct round the enum `Kind`; contracts see it as plain data (`specs/Data.antt`). `Fields` are a finite map
-//! from names to values, and `Fields::at` looks along a path. `Timestamp` is a moment, `RefName` the name of a document.
-//! `Value::compare` is the one order of values. A `Document` is fields with an update time, an `Entry` what is known of
-//! a key; `Documents` is the trait of stores that lend documents. The messages of a watch stream stand here as types.
+//! from names to values, and `Fields::at` looks along a path. Copies of a value share what its arrays and maps hold, by
+//! `SharedValues` and `SharedFields`; a change at a path copies the maps on its way, and those only where others hold them
+//! too. `Timestamp` is a moment, `RefName` the name of a document. `Value::compare` is the one order of values. A `Document`
+//! is fields with an update time, an `Entry` what is known of a key; `Documents` is the trait of stores that lend documents.
+//! The messages of a watch stream stand here as types.
 #![tactic(auto)]
 
 mod at;
@@ -21,6 +23,7 @@ mod order;
 mod printing;
 mod reference;
 mod shared_fields;
+mod shared_values;
 mod target_ids;
 mod timestamp;
 mod value;
@@ -40,6 +43,7 @@ pub use message::{
 pub use printing::times_read_back;
 pub use reference::{NameRef, RefName};
 pub use shared_fields::SharedFields;
+pub use shared_values::SharedValues;
 pub use target_ids::TargetIds;
 pub use timestamp::Timestamp;
 pub use value::{Kind, Value};

@@ -16,7 +16,8 @@ impl Value {
     {
         match &self.kind {
             Kind::Array(values) => limit > 0 && values_nest_within(values.as_slice(), limit - 1),
-            Kind::Map(fields) => limit > 0 && fields_nest_within(fields.as_slice(), limit - 1),
+            Kind::Map(fields) => limit > 0
+                && fields_nest_within(fields.as_fields().as_slice(), limit - 1),
             _ => true,
         }
     }

@@ -47,7 +47,10 @@ impl Value {
             (Kind::Bytes(a), Kind::Bytes(b)) => a.as_slice().cmp(b.as_slice()),
             (Kind::Reference(a), Kind::Reference(b)) => a.compare(b),
             (Kind::Array(a), Kind::Array(b)) => compare_values(a.as_slice(), b.as_slice()),
-            (Kind::Map(a), Kind::Map(b)) => compare_fields(a.as_slice(), b.as_slice()),
+            (Kind::Map(a), Kind::Map(b)) => compare_fields(
+                a.as_fields().as_slice(),
+                b.as_fields().as_slice(),
+            ),
             _ => self.rank().cmp(&other.rank()),
         }
     }

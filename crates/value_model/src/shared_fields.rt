@@ -6,14 +6,15 @@ use std::alloc::Global;
 use std::marker::Model;
 use std::rc::Rc;
 
-/// Fields that a write and the local documents that it makes hold together, without a copy. Contracts see them as the fields.
+/// Fields that several hold together without a copy, as a map and its copies do. Contracts see them as the fields.
+#[cycle(value)]
 #[derive(Debug, Drop)]
 pub struct SharedFields {
     fields: Rc<Fields>,
 }
 
 impl Model for SharedFields {
-    ghost use Rattle.value_model.specs.Codes.{entries_code};
+    ghost use Rattle.value_model.specs.Codes.{entries_code, shared_size};
     ghost use Rattle.value_model.specs.Data.{Entries};
 
     ghost Value = { Entries };
@@ -21,6 +22,12 @@ impl Model for SharedFields {
     ghost coded = { entries_code };
 
     ghost view = { λ shared. shared.fields.value };
+
+    ghost size = { shared_size };
+
+    ghost use Rattle.std.proofs.Common.{arith};
+
+    ghost size_decreases = { λ shared holds. omega arith };
 }
 
 impl SharedFields {
@@ -58,6 +65,19 @@ impl SharedFields {
         match self.fields.clone() {
             Ok(fields) => Ok(SharedFields { fields }),
             Err(_) => Err(NoMemory),
+        }
+    }
+
+    /// The fields, to own: taken out where nobody else holds them, and else copied.
+    ///
+    /// # Errors
+    /// `NoMemory`
+    pub fn into_fields(self, alloc: Global) -> Result<Fields, NoMemory>
+        ensures { IfOk result (λ fields. fields ≡ self) }
+    {
+        match Rc::try_unwrap(self.fields) {
+            Ok(fields) => Ok(fields),
+            Err(fields) => fields.as_ref().copy(alloc),
         }
     }
 

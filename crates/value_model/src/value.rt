@@ -4,6 +4,8 @@ ghost use Rattle.value_model.specs.Data as Data;
 use crate::bytes::Bytes;
 use crate::fields::Fields;
 use crate::reference::RefName;
+use crate::shared_fields::SharedFields;
+use crate::shared_values::SharedValues;
 use crate::timestamp::Timestamp;
 use document_keys::{NoMemory, Replicate, Text};
 use std::alloc::Global;
@@ -31,8 +33,9 @@ pub enum Kind {
     Bytes(Bytes),
     /// The name of a document, in a box since it is larger than what other kinds hold.
     Reference(Box<RefName>),
-    Array(Vec<Value>),
-    Map(Fields),
+    /// Values in an order. Copies of an array share them, as those of a map share its fields.
+    Array(SharedValues),
+    Map(SharedFields),
 }
 
 impl Model for Value {
@@ -58,12 +61,15 @@ impl Value {
     ghost use Rattle.value_model.specs.Arrays.{items_in};
 
     /// The array of these values, which it takes over.
-    pub fn array(values: Vec<Value>) -> Value
-        ensures { result ≡ Data.array_of values.items }
+    ///
+    /// # Errors
+    /// `NoMemory`
+    pub fn array(alloc: Global, values: Vec<Value>) -> Result<Value, NoMemory>
+        ensures { IfOk result (λ value. value ≡ Data.array_of values.items) }
     {
-        Value {
-            kind: Kind::Array(values),
-        }
+        Ok(Value {
+            kind: Kind::Array(SharedValues::new(alloc, values)?),
+        })
     }
 
     /// The items of an array, lent; another value has none.
@@ -77,19 +83,21 @@ impl Value {
     }
 
     /// The map of these fields, which it takes over.
-    pub fn map(fields: Fields) -> Value
-        ensures { result ≡ Data.map_of fields }
-    {
-        Value {
-            kind: Kind::Map(fields),
-        }
-    }
-
-    /// A copy.
     ///
     /// # Errors
     /// `NoMemory`
-    #[cycle(copy)]
+    pub fn map(alloc: Global, fields: Fields) -> Result<Value, NoMemory>
+        ensures { IfOk result (λ value. value ≡ Data.map_of fields) }
+    {
+        Ok(Value {
+            kind: Kind::Map(SharedFields::new(alloc, fields)?),
+        })
+    }
+
+    /// A copy. It shares what an array or a map holds, so that costs the same however much it is.
+    ///
+    /// # Errors
+    /// `NoMemory`
     pub fn copy(&self, alloc: Global) -> Result<Value, NoMemory>
         ensures { IfOk result (λ value. value ≡ self.now) }
     {
@@ -102,23 +110,11 @@ impl Value {
             Kind::Text(text) => Kind::Text(text.copy(alloc)?),
             Kind::Bytes(bytes) => Kind::Bytes(bytes.copy(alloc)?),
             Kind::Reference(name) => Kind::Reference(Box::new(alloc, name.copy(alloc)?)?),
-            Kind::Array(values) => Kind::Array(copy_values(alloc, values)?),
-            Kind::Map(fields) => Kind::Map(fields.copy(alloc)?),
+            Kind::Array(values) => Kind::Array(values.share()?),
+            Kind::Map(fields) => Kind::Map(fields.share()?),
         };
         Ok(Value { kind })
     }
-}
-
-/// Copies of the values.
-#[cycle(copy)]
-fn copy_values(alloc: Global, values: &Vec<Value>) -> Result<Vec<Value>, NoMemory>
-    ensures { IfOk result (λ copies. copies.items ≡ values.now.items) }
-{
-    let mut copies = Vec::with_capacity(alloc, values.len())?;
-    for value in values {
-        copies.push(value.copy(alloc)?)?;
-    }
-    Ok(copies)
 }
 
 impl Replicate for Value {

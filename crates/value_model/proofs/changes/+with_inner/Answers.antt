@@ -1,5 +1,6 @@
 use Rattle.std.proofs.Common.{◌∙◌, Some, sym, ap, arith, option_map}
 use Rattle.std.proofs.lemmas.Option.{slice_get_within}
+use Rattle.std.proofs.lemmas.Result.{IfOk-weaker}
 use Rattle.value_model.specs.Changes.{with_value}
 use Rattle.value_model.specs.Fields.{with_field}
 use Rattle.value_model.specs.Paths.{value_in}
@@ -34,9 +35,10 @@ put-requires t c = field_name c.args.path.now c.args.from c.in_ok-from_str.field
 pub returns-clause-done : goal.returns-clause-done
 returns-clause-done t c =
     let put = c.in_ok-put.ensures.done ∙ ap (λ n. with_field c.replace.new.self n c.in_ok-changed.changed) c.in_ok-from_str.ensures in
-    c.map.ensures ∙ put_inner c.args.value c.or_null-inner.result c.members-fields.result c.replace.new.self c.put.new.self c.args.path.now c.args.from c.in-Some.name.now c.replace.result c.in_ok-changed.changed c.args.new (sym c.in-Some.ensures) c.members-fields.ensures c.replace.ensures.before c.replace.ensures.there c.replace.ensures.missing c.or_null-inner.ensures c.in_ok-changed.ensures.done put
+    let inner = put_inner c.args.value c.or_null-inner.result c.in_ok-fields.fields c.replace.new.self c.put.new.self c.args.path.now c.args.from c.in-Some.name.now c.replace.result c.in_ok-changed.changed c.args.new (sym c.in-Some.ensures) c.in_ok-fields.ensures c.replace.ensures.before c.replace.ensures.there c.replace.ensures.missing c.or_null-inner.ensures c.in_ok-changed.ensures.done put in
+    IfOk-weaker c.map.result _ _ (λ value is. is ∙ inner) c.map.ensures
 
 pub returns-clause-same : goal.returns-clause-same
-returns-clause-same t c there =
+returns-clause-same t c =
     let put = c.in_ok-put.ensures.done ∙ ap (λ n. with_field c.replace.new.self n c.in_ok-changed.changed) c.in_ok-from_str.ensures in
-    c.map.ensures ∙ same_inner c.args.value c.or_null-inner.result c.members-fields.result c.replace.new.self c.put.new.self c.args.path.now c.args.from c.in-Some.name.now c.replace.result c.in_ok-changed.changed c.args.new (sym c.in-Some.ensures) c.members-fields.ensures c.len-count.ensures.fields c.replace.ensures.before c.replace.ensures.there c.or_null-inner.ensures c.in_ok-changed.ensures.same put there
+    IfOk-weaker c.map.result _ _ (λ value is there. is ∙ same_inner c.args.value c.or_null-inner.result c.in_ok-fields.fields c.replace.new.self c.put.new.self c.args.path.now c.args.from c.in-Some.name.now c.replace.result c.in_ok-changed.changed c.args.new (sym c.in-Some.ensures) c.in_ok-fields.ensures c.len-count.ensures.fields c.replace.ensures.before c.replace.ensures.there c.or_null-inner.ensures c.in_ok-changed.ensures.same put there) c.map.ensures

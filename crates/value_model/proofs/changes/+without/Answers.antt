@@ -1,13 +1,18 @@
 use Rattle.std.proofs.Common.{◌∙◌, ◌+◌, ◌≤◌, [], length, get_or, drop, sym, ap, arith}
 use Rattle.std.proofs.lemmas.List.{drop_more}
+use Rattle.std.proofs.lemmas.Result.{IfOk-weaker}
+use Rattle.value_model.specs.Changes.{without_value_at}
 use Rattle.value_model.specs.Data.{null}
 use Rattle.value_model.specs.View.{kind_data}
 use Rattle.value_model.proofs.Removing.{mapped, left_alone, nothing_in, filled_again, last_done, last_gone, last_missing, none_done, none_gone, some_done, some_gone, some_missing}
 use Rattle.value_model.proofs.changes.+without.Goals as goal
 
-pub without_inner-returns-in-Map-clause-done : goal.without_inner-returns-in-Map-clause-done
-without_inner-returns-in-Map-clause-done t c =
-    c.map.ensures ∙ mapped c.args.value c.in-Map.fields c.without_member.result (drop c.args.from c.args.path.now) (sym (ap kind_data c.in-Map.is) ∙ c.value.view_is) c.without_member.ensures.done
+pub without_inner-returns-in_ok-rest-in-Map-clause-done : goal.without_inner-returns-in_ok-rest-in-Map-clause-done
+without_inner-returns-in_ok-rest-in-Map-clause-done t c =
+    let names = drop c.args.from c.args.path.now in
+    let taken = c.in_ok-rest-in-Map.ensures.done ∙ ap (λ fields. without_value_at fields names) c.in_ok-into_fields-in-Map.ensures in
+    let whole = mapped c.args.value c.in-Map.fields c.in_ok-rest-in-Map.rest names (sym (ap kind_data c.in-Map.is) ∙ c.value.view_is) taken in
+    IfOk-weaker c.map.result _ _ (λ d is. is ∙ whole) c.map.ensures
 
 pub without_inner-returns-in_default : goal.without_inner-returns-in_default
 without_inner-returns-in_default t c =
@@ -50,23 +55,23 @@ without_member-without_inner-requires t c =
     let here = c.if-from-names.false in
     (omega arith, omega arith)
 
-pub without_member-returns-in-Some-replace-clause-done : goal.without_member-returns-in-Some-replace-clause-done
-without_member-returns-in-Some-replace-clause-done t c =
+pub without_member-returns-clause-done : goal.without_member-returns-clause-done
+without_member-returns-clause-done t c =
     let count = c.len-names.ensures.count in
     let below = c.requires in
     let here = c.if-from-names.false in
-    let put = filled_again c.replace-in-Some-replace.result c.args.fields c.replace.new.self c.in-Some.name.now null c.without_inner.result c.replace-in-Some-replace.new.self c.replace-in-Some-replace.ensures.before c.in-Some-replace.ensures.there c.replace-in-Some-replace.ensures.there in
-    some_done c.args.fields c.args.path.now c.args.from c.in-Some.name.now (sym c.in-Some.ensures) (omega arith) c.in-Some-replace.inner c.without_inner.result c.replace.new.self c.replace-in-Some-replace.new.self (sym c.in-Some-replace.ensures.before) c.without_inner.ensures.done c.in-Some-replace.ensures.there put
+    let put = filled_again c.replace-2.result c.args.fields c.replace.new.self c.in-Some.name.now null c.in_ok-rest.rest c.replace-2.new.self c.replace-2.ensures.before c.in-Some-replace.ensures.there c.replace-2.ensures.there in
+    some_done c.args.fields c.args.path.now c.args.from c.in-Some.name.now (sym c.in-Some.ensures) (omega arith) c.in-Some-replace.inner c.in_ok-rest.rest c.replace.new.self c.replace-2.new.self (sym c.in-Some-replace.ensures.before) c.in_ok-rest.ensures.done c.in-Some-replace.ensures.there put
 
-pub without_member-returns-in-Some-replace-clause-gone : goal.without_member-returns-in-Some-replace-clause-gone
-without_member-returns-in-Some-replace-clause-gone t c =
-    let put = filled_again c.replace-in-Some-replace.result c.args.fields c.replace.new.self c.in-Some.name.now null c.without_inner.result c.replace-in-Some-replace.new.self c.replace-in-Some-replace.ensures.before c.in-Some-replace.ensures.there c.replace-in-Some-replace.ensures.there in
-    some_gone c.args.fields c.args.path.now c.args.from c.in-Some.name.now (sym c.in-Some.ensures) c.without_inner.result c.replace.new.self c.replace-in-Some-replace.new.self c.without_inner.ensures.gone put
+pub without_member-returns-clause-gone : goal.without_member-returns-clause-gone
+without_member-returns-clause-gone t c =
+    let put = filled_again c.replace-2.result c.args.fields c.replace.new.self c.in-Some.name.now null c.in_ok-rest.rest c.replace-2.new.self c.replace-2.ensures.before c.in-Some-replace.ensures.there c.replace-2.ensures.there in
+    some_gone c.args.fields c.args.path.now c.args.from c.in-Some.name.now (sym c.in-Some.ensures) c.in_ok-rest.rest c.replace.new.self c.replace-2.new.self c.in_ok-rest.ensures.gone put
 
-pub without_member-returns-in-Some-replace-clause-missing : goal.without_member-returns-in-Some-replace-clause-missing
-without_member-returns-in-Some-replace-clause-missing t c none =
-    let put = filled_again c.replace-in-Some-replace.result c.args.fields c.replace.new.self c.in-Some.name.now null c.without_inner.result c.replace-in-Some-replace.new.self c.replace-in-Some-replace.ensures.before c.in-Some-replace.ensures.there c.replace-in-Some-replace.ensures.there in
-    some_missing c.args.fields c.args.path.now c.args.from c.in-Some.name.now (sym c.in-Some.ensures) c.in-Some-replace.inner c.without_inner.result c.replace.new.self c.replace-in-Some-replace.new.self c.len-count.ensures.fields (sym c.in-Some-replace.ensures.before) c.without_inner.ensures.missing c.in-Some-replace.ensures.there put none
+pub without_member-returns-clause-missing : goal.without_member-returns-clause-missing
+without_member-returns-clause-missing t c none =
+    let put = filled_again c.replace-2.result c.args.fields c.replace.new.self c.in-Some.name.now null c.in_ok-rest.rest c.replace-2.new.self c.replace-2.ensures.before c.in-Some-replace.ensures.there c.replace-2.ensures.there in
+    some_missing c.args.fields c.args.path.now c.args.from c.in-Some.name.now (sym c.in-Some.ensures) c.in-Some-replace.inner c.in_ok-rest.rest c.replace.new.self c.replace-2.new.self c.len-count.ensures.fields (sym c.in-Some-replace.ensures.before) c.in_ok-rest.ensures.missing c.in-Some-replace.ensures.there put none
 
 pub without_member-returns-in_default-replace-clause-done : goal.without_member-returns-in_default-replace-clause-done
 without_member-returns-in_default-replace-clause-done t c =

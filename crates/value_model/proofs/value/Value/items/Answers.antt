@@ -5,4 +5,4 @@ use Rattle.value_model.proofs.Parts.{list_items}
 use Rattle.value_model.proofs.value.Value.items.Goals as goal
 
 pub returns-in-Array : goal.returns-in-Array
-returns-in-Array c = c.as_slice.ensures.value ∙ sym (list_items c.in-Array.values.items) ∙ ap items_in (sym (ap kind_data c.in-Array.is) ∙ c.self.view_is)
+returns-in-Array c = c.as_slice.ensures ∙ sym (list_items c.in-Array.values) ∙ ap items_in (sym (ap kind_data c.in-Array.is) ∙ c.self.view_is)
