@@ -3,6 +3,7 @@
 use host_api::{Failed, FileHost, FileId, Host};
 use std::fs::Files;
 use std::io::Print;
+use std::os::unix::fs::FileExt;
 use std::process::Abort;
 use std::test::Fail;
 use std::{env, fs, process};
