@@ -10,6 +10,9 @@ use crate::segment::is_segment;
 use std::alloc::Global;
 use std::marker::Model;
 
+/// Room for the segments of most keys, so that their text doesn't grow piece by piece.
+const ROOM: usize = 64;
+
 /// The segments of a key that come one after another. Contracts see their list.
 #[derive(Debug, Drop)]
 pub struct KeyBuilder {
@@ -38,6 +41,7 @@ fn push_segment(path: &mut String, segment: &str) -> Result<(), NoMemory>
         ≡ segments_in (string_bytes path.old) ++ segment.now ∷ []) }
 {
     if path.is_empty() {
+        path.reserve(ROOM)?;
         path.push_str(segment)?;
         return Ok(());
     }
