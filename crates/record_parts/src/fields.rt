@@ -65,7 +65,7 @@ fn array_of(alloc: Global, limit: u32, bytes: &[u8]) -> Result<(Value, &[u8]), R
         return Err(ReadError::NotSpelled);
     }
     let (values, rest) = values_of(alloc, limit - 1, bytes)?;
-    Ok((Value::array(values), rest))
+    Ok((Value::array(alloc, values)?, rest))
 }
 
 /// What follows the byte of a map that is nested at most so deep, and what follows that.
@@ -77,7 +77,7 @@ fn map_of(alloc: Global, limit: u32, bytes: &[u8]) -> Result<(Value, &[u8]), Rea
         return Err(ReadError::NotSpelled);
     }
     let (content, rest) = fields_of(alloc, limit - 1, bytes)?;
-    Ok((Value::map(content), rest))
+    Ok((Value::map(alloc, content)?, rest))
 }
 
 /// A field whose value is nested at most so deep, and what follows it.

@@ -132,19 +132,19 @@ pub fn put_value(out: &mut Vec<u8>, content: &Value) -> Result<(), NoMemory>
         }
         Kind::Array(values) => {
             out.push(ARRAY)?;
-            put_values(out, values)?;
+            put_values(out, values.as_slice())?;
         }
         Kind::Map(content) => {
             out.push(MAP)?;
-            put_fields(out, content)?;
+            put_fields(out, content.as_fields())?;
         }
     }
     Ok(())
 }
 
 #[cycle(putting)]
-fn put_values(out: &mut Vec<u8>, values: &Vec<Value>) -> Result<(), NoMemory>
-    ensures { OnOk result (out.new.items ≡ out.old.items ++ (number (length values.now.items) ++ flat_map value values.now.items)) }
+fn put_values(out: &mut Vec<u8>, values: &[Value]) -> Result<(), NoMemory>
+    ensures { OnOk result (out.new.items ≡ out.old.items ++ (number (length values.now) ++ flat_map value values.now)) }
 {
     put_number(out, values.len() as u64)?;
     for value in values {

@@ -1,13 +1,12 @@
 -- values with another at a path, one name at a time
-use Rattle.std.proofs.Common.{◌≡◌, ◌≢◌, ◌∙◌, inl, inr, ℕ, zero, suc, ◌+◌, ◌<◌, Ordering, Less, Equal, Greater, Option, Some, None, List, [], ◌∷◌, length, get_or, drop, codes, unwrap_or, refl, sym, ap, subst, arith}
+use Rattle.std.proofs.Common.{◌≡◌, ◌≢◌, ◌∙◌, ℕ, zero, suc, ◌+◌, ◌<◌, Ordering, Less, Equal, Greater, Option, Some, None, List, [], ◌∷◌, length, get_or, drop, codes, unwrap_or, refl, sym, ap, subst, arith}
 use Rattle.std.specs.Prelude.{OnSome, IfNone}
 use Rattle.std.specs.Cmp.{tied_itself}
 use Rattle.std.specs.Cmp.Lexicographic.{slice_cmp}
 use Rattle.std.specs.List.{slice_get}
 use Rattle.std.specs.Map.{keys_of}
 use Rattle.std.specs.Ordering.{nat_cmp, match_ordering}
-use Rattle.std.proofs.lemmas.List.{drop_all}
-use Rattle.std.proofs.lemmas.Option.{slice_get_within, get_or_from_slice_get, slice_get_cases}
+use Rattle.std.proofs.lemmas.Option.{slice_get_within, get_or_from_slice_get}
 use Rattle.document_keys.specs.Names.{HasNameLength}
 use Rattle.document_keys.specs.Paths.{IsFieldName, IsFieldPath}
 use Rattle.document_keys.proofs.Order.{texts_compute}
@@ -19,6 +18,7 @@ use Rattle.value_model.specs.declared.fields.Field.{Field}
 use Rattle.value_model.proofs.Named.{names_count}
 use Rattle.value_model.proofs.Places.{place_here, got}
 use Rattle.value_model.proofs.Inner.{names_from}
+use Rattle.value_model.proofs.Parts.{entries_members}
 
 -- the second of two puts at a name counts
 pub put_twice : (es : Entries) (n : List ℕ) (v w : Data) → with_field (with_field es n v) n w ≡ with_field es n w
@@ -54,12 +54,6 @@ field_name path i name sound other is =
       free = λ reserved. sound.free (record { not_key = other; name = name; there = (i, below, at); reserved = reserved });
     }
 
-pub past_end : (path : List (List ℕ)) (i : ℕ) → slice_get path i ≡ None → drop i path ≡ []
-past_end path i none = elim (slice_get_cases path i).1 [
-  | inl there ↦ let some = there.2 in absurd (cc (none, some))
-  | inr past ↦ drop_all i path past.0
-]
-
 replaced : (inner : Option Data) (es after : Entries) (name : List ℕ) (value : Data) → OnSome inner (after ≡ with_field es name null) → IfNone inner (after ≡ es) → with_field after name value ≡ with_field es name value
 replaced (Some x) es after name value there none = ap (λ l. with_field l name value) there ∙ put_twice es name null value
 replaced None es after name value there none = ap (λ l. with_field l name value) none
@@ -71,3 +65,10 @@ put_inner d inner es after done path i name was changed new is members stood the
     ∙ ap (λ v. map_of (with_field es name v)) (to ∙ ap (λ v. with_value v (drop (i + 1) path) new) (within ∙ ap (λ o. unwrap_or o null) stood))
     ∙ ap (λ l. map_of (with_field l name (with_value (unwrap_or (field l name) null) (drop (i + 1) path) new))) members
     ∙ sym (ap (λ p. with_value d p new) (names_from path i name is))
+
+-- what a path makes of a value is what it makes of its members
+pub by_members : (d : Data) (es : Entries) (path : List (List ℕ)) (name : List ℕ) (rest : List (List ℕ)) (new : Data) → path ≡ name ∷ rest → es ≡ members_in d → with_value (map_of es) path new ≡ with_value d path new
+by_members d es path name rest new is members =
+    ap (λ p. with_value (map_of es) p new) is
+    ∙ ap (λ l. map_of (with_field l name (with_value (unwrap_or (field l name) null) rest new))) (entries_members es ∙ members)
+    ∙ sym (ap (λ p. with_value d p new) is)

@@ -147,6 +147,17 @@ same_inner d inner es after done path i name was changed new is members are befo
     put
     (sym (ap (value_in d) (names_from path i name is)) ∙ there)
 
+-- a value is as it was where its members are
+held : (d : Data) (es after : Entries) (name : List ℕ) (rest : List (List ℕ)) (new : Data) → es ≡ members_in d → (value_at es (name ∷ rest) ≡ Some new → after ≡ es) → value_in d (name ∷ rest) ≡ Some new → map_of after ≡ d
+held (map ms) es after name rest new members same there =
+    let whole : map_of es ≡ map ms = ap map_of members ∙ ap map (members_entries ms) in
+    ap map_of (same (ap (λ x. value_in x (name ∷ rest)) whole ∙ there)) ∙ whole
+held d es after name rest new members same there = absurd (let none : None ≡ Some new = there in cc)
+
+pub held_still : (d : Data) (es after : Entries) (path : List (List ℕ)) (name : List ℕ) (rest : List (List ℕ)) (new : Data) → path ≡ name ∷ rest → es ≡ members_in d → (value_at es path ≡ Some new → after ≡ es) → value_in d path ≡ Some new → map_of after ≡ d
+held_still d es after path name rest new is members same there =
+    held d es after name rest new members (subst (λ p. value_at es p ≡ Some new → after ≡ es) is same) (subst (λ p. value_in d p ≡ Some new) is there)
+
 -- inside a map, and inside what isn't one
 pub mapped : (value : Data) (es after : Entries) (path : List (List ℕ)) → map_of es ≡ value → after ≡ without_value_at es path → map_of after ≡ on_members (λ fields. without_value_at fields path) value
 mapped value es after path is done = ap map_of done ∙ sym (on_map es (λ fields. without_value_at fields path)) ∙ ap (on_members (λ fields. without_value_at fields path)) is

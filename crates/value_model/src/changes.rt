@@ -33,6 +33,7 @@ fn or_null(value: Option<Value>) -> Value
 }
 
 /// The value with another inside it, at the names of the path from this index on.
+#[cycle(with)]
 fn with_inner(
     alloc: Global,
     value: Value,
@@ -44,16 +45,36 @@ fn with_inner(
     ensures done { IfOk result (λ changed. changed ≡ with_value value (drop from path.now) new) }
     ensures same { IfOk result (λ d. value_in value (drop from path.now) ≡ Option.Some new → d ≡ value) }
 {
+    if from >= path.len() {
+        return Ok(new);
+    }
+    let fields = with_member(alloc, members(alloc, value)?, path, from, new)?;
+    Value::map(alloc, fields)
+}
+
+/// The fields with the value inside them, at the names of the path from this index on.
+#[cycle(with)]
+fn with_member(
+    alloc: Global,
+    mut fields: Fields,
+    path: &FieldPath,
+    from: u64,
+    new: Value,
+) -> Result<Fields, NoMemory>
+    requires inside { from < length path.now }
+    requires path { path.now ≢ codes "__name__" ∷ [] }
+    ensures done { IfOk result (λ f. Data.map_of f ≡ with_value (Data.map_of fields) (drop from path.now) new) }
+    ensures same { IfOk result (λ f. value_at fields (drop from path.now) ≡ Option.Some new → f ≡ fields) }
+{
+    let _count = fields.len();
     let _names = path.len();
     let Some(name) = path.segment(from) else {
-        return Ok(new);
+        return Ok(fields);
     };
-    let mut fields = members(alloc, value)?;
-    let _count = fields.len();
     let inner = or_null(fields.replace(name, Value { kind: Kind::Null }));
     let changed = with_inner(alloc, inner, path, from + 1, new)?;
     fields.put(alloc, Text::from_str(alloc, name)?, changed)?;
-    Value::map(alloc, fields)
+    Ok(fields)
 }
 
 /// The value without what stands inside it, at the names of the path from this index on.
@@ -120,8 +141,8 @@ impl Fields {
         ensures done { IfOk result (λ fields. fields ≡ with_value_at self path.now value) }
         ensures same { IfOk result (λ f. value_at self path.now ≡ Option.Some value → f ≡ self) }
     {
-        let whole = with_inner(alloc, Value::map(alloc, self)?, path, 0, value)?;
-        members(alloc, whole)
+        let _names = path.len();
+        with_member(alloc, self, path, 0, value)
     }
 
     /// The fields without what stands at the path. Nothing is made on the way to it.

@@ -38,7 +38,7 @@ array_of-returns-in_err-values t c =
 pub array_of-returns : goal.array_of-returns
 array_of-returns t c =
     let is : c.args.limit ≡ suc (c.args.limit - 1) = omega arith in
-    rw c.array.ensures (array_done c.args.limit (c.args.limit - 1) c.args.bytes.now c.in_ok-values.values.items c.in_ok-values.rest.now is c.in_ok-values.ensures)
+    rw c.in_ok-array.ensures (array_done c.args.limit (c.args.limit - 1) c.args.bytes.now c.in_ok-values.values.items c.in_ok-values.rest.now is c.in_ok-values.ensures)
 
 pub map_of-returns-then-limit-eq0 : goal.map_of-returns-then-limit-eq0
 map_of-returns-then-limit-eq0 t c = rw c.if-limit-eq0.true (no_map c.args.bytes.now)
@@ -52,7 +52,7 @@ map_of-returns-in_err-content t c =
 pub map_of-returns : goal.map_of-returns
 map_of-returns t c =
     let is : c.args.limit ≡ suc (c.args.limit - 1) = omega arith in
-    rw c.map.ensures (map_done c.args.limit (c.args.limit - 1) c.args.bytes.now c.in_ok-content.content c.in_ok-content.rest.now is c.in_ok-content.ensures)
+    rw c.in_ok-map.ensures (map_done c.args.limit (c.args.limit - 1) c.args.bytes.now c.in_ok-content.content c.in_ok-content.rest.now is c.in_ok-content.ensures)
 
 pub field_of-returns-in_err-name : goal.field_of-returns-in_err-name
 field_of-returns-in_err-name t c =

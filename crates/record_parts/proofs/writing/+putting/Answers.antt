@@ -8,17 +8,17 @@ use Rattle.record_parts.proofs.writing.+putting.Goals as goal
 
 pub put_value-returns-in_ok-put_values-in-Array : goal.put_value-returns-in_ok-put_values-in-Array
 put_value-returns-in_ok-put_values-in-Array t c =
-    byte_put c.args.out.now.items c.push-in-Array.new.self.items c.put_values.new.out.items (many value c.in-Array.values.items) (value c.args.content.now) 8
-    c.in_ok-push-in-Array.ensures.items c.in_ok-put_values-in-Array.ensures (rw (← c.content.view_is, c.in-Array.is) (array_value c.in-Array.values.items))
+    byte_put c.args.out.now.items c.push-in-Array.new.self.items c.put_values.new.out.items (many value c.in-Array.values) (value c.args.content.now) 8
+    c.in_ok-push-in-Array.ensures.items (rw c.as_slice-in-Array.ensures at c.in_ok-put_values-in-Array.ensures) (rw (← c.content.view_is, c.in-Array.is) (array_value c.in-Array.values))
 
 pub put_value-returns-in_ok-put_fields-in-Map : goal.put_value-returns-in_ok-put_fields-in-Map
 put_value-returns-in_ok-put_fields-in-Map t c =
     byte_put c.args.out.now.items c.push-in-Map.new.self.items c.put_fields.new.out.items (fields c.in-Map.content) (value c.args.content.now) 9
-    c.in_ok-push-in-Map.ensures.items c.in_ok-put_fields-in-Map.ensures (rw (← c.content.view_is, c.in-Map.is) (map_value c.in-Map.content))
+    c.in_ok-push-in-Map.ensures.items (rw c.as_fields.ensures at c.in_ok-put_fields-in-Map.ensures) (rw (← c.content.view_is, c.in-Map.is) (map_value c.in-Map.content))
 
 pub put_values-put_value-requires : goal.put_values-put_value-requires
 put_values-put_value-requires t c =
-    let within = item_below c.deref-value-items.result.now c.loop-value.value-index c.value-item.result c.loop-value-test.true in
+    let within = item_below c.args.values.now c.loop-value.value-index c.value-item.result c.loop-value-test.true in
     search rules
 
 pub put_fields-put_value-requires : goal.put_fields-put_value-requires

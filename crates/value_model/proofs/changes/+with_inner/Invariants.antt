@@ -1,5 +1,0 @@
-use Rattle.std.proofs.Common.{◌-◌, length}
-use Rattle.value_model.proofs.changes.+with_inner.Given as goal
-
-abbrev pub decreases-with_inner : goal.decreases-with_inner
-decreases-with_inner l = length l.path.now - l.from
