@@ -147,11 +147,11 @@ pub fn print_value(alloc: Global, value: &Value) -> Result<Json, NoMemory>
             Ok(reference_json(alloc, text.as_str())?)
         }
         Kind::Array(values) => {
-            let values = print_values(alloc, values)?;
+            let values = print_values(alloc, values.as_slice())?;
             Ok(array_json(alloc, values)?)
         }
         Kind::Map(fields) => {
-            let fields = print_members(alloc, fields)?;
+            let fields = print_members(alloc, fields.as_fields())?;
             Ok(map_json(alloc, fields)?)
         }
     }
@@ -159,8 +159,8 @@ pub fn print_value(alloc: Global, value: &Value) -> Result<Json, NoMemory>
 
 #[tactic(auto, using(crate::proofs::Shown::items_more, value_model::proofs::Sizes::item_below))]
 #[cycle(print)]
-fn print_values(alloc: Global, values: &Vec<Value>) -> Result<Vec<Json>, NoMemory>
-    ensures { IfOk result (λ trees. items_view trees.items ≡ printed_items (items_of values.now.items)) }
+fn print_values(alloc: Global, values: &[Value]) -> Result<Vec<Json>, NoMemory>
+    ensures { IfOk result (λ trees. items_view trees.items ≡ printed_items (items_of values.now)) }
 {
     let mut trees = Vec::new(alloc);
     for value in values {

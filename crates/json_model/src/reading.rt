@@ -199,10 +199,10 @@ fn build_array(alloc: Global, setting: &Setting<'_>, json: &Json) -> Result<Valu
 {
     let members = clean_object(setting, Object::Array, json);
     let Some(list) = clean_member(setting, Object::Array, members, "values") else {
-        return Ok(Value::array(Vec::new(alloc)));
+        return Ok(Value::array(alloc, Vec::new(alloc))?);
     };
     let values = clean_values(alloc, setting, list)?;
-    Ok(Value::array(values))
+    Ok(Value::array(alloc, values)?)
 }
 
 /// The values of a list without faults.
@@ -240,10 +240,10 @@ fn build_map(alloc: Global, setting: &Setting<'_>, json: &Json) -> Result<Value,
 {
     let members = clean_object(setting, Object::Map, json);
     let Some(object) = clean_member(setting, Object::Map, members, "fields") else {
-        return Ok(Value::map(Fields::new(alloc)));
+        return Ok(Value::map(alloc, Fields::new(alloc))?);
     };
     let fields = clean_fields(alloc, setting, object)?;
-    Ok(Value::map(fields))
+    Ok(Value::map(alloc, fields)?)
 }
 
 /// The fields that a tree without faults spells.

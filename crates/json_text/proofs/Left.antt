@@ -1,7 +1,6 @@
 -- Lists and maps: what is put where there is nothing in them, and where there is.
-use Rattle.std.proofs.Common.{◌≡◌, ◌∙◌, ◌==◌, true, false, List, [], ◌∷◌, length, Vec, vec_len, codes, refl, sym, ap}
+use Rattle.std.proofs.Common.{◌≡◌, ◌∙◌, ◌==◌, true, false, List, [], ◌∷◌, length, codes, refl, sym, ap}
 use Rattle.std.proofs.lemmas.Bool.{eqb-true}
-use Rattle.std.specs.declared.alloc.Global.{Global}
 use Rattle.serde_json.specs.Data as json
 use Rattle.value_model.specs.Data.{Data, Entries, items_of, members_of}
 use Rattle.json_model.specs.Printed.{printed_items, printed_members, values_tree, fields_tree}
@@ -24,8 +23,8 @@ some_fields [] some = absurd (some refl)
 some_fields (e ∷ es) some = refl
 
 -- by the test of a list that was lent
-pub is_empty : (v : Vec Data Global) → true ≡ (vec_len v == 0) → values_tree (printed_items (items_of v.items)) ≡ empty
-is_empty v none = no_values v.items (sym v.ok.0 ∙ eqb-true (vec_len v) 0 (sym none))
+pub is_empty : (ds : List Data) → true ≡ (length ds == 0) → values_tree (printed_items (items_of ds)) ≡ empty
+is_empty ds none = no_values ds (eqb-true (length ds) 0 (sym none))
 
-pub is_some : (v : Vec Data Global) → false ≡ (vec_len v == 0) → values_tree (printed_items (items_of v.items)) ≡ one (codes "values") (json.array (printed_items (items_of v.items)))
-is_some v some = some_values v.items (λ none. let e : false ≡ true = some ∙ ap (λ m. m == 0) (v.ok.0 ∙ none) in cc)
+pub is_some : (ds : List Data) → false ≡ (length ds == 0) → values_tree (printed_items (items_of ds)) ≡ one (codes "values") (json.array (printed_items (items_of ds)))
+is_some ds some = some_values ds (λ none. let e : false ≡ true = some ∙ ap (λ m. m == 0) none in cc)

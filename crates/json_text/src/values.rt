@@ -33,16 +33,16 @@ pub fn put_value(alloc: Global, out: &mut Writer, value: &Value) -> Result<(), N
         Kind::Text(text) => Ok(put_string(out, text)?),
         Kind::Bytes(bytes) => put_bytes(alloc, out, bytes.as_slice()),
         Kind::Reference(name) => put_reference(alloc, out, name),
-        Kind::Array(values) => put_array(alloc, out, values),
-        Kind::Map(fields) => put_map(alloc, out, fields),
+        Kind::Array(values) => put_array(alloc, out, values.as_slice()),
+        Kind::Map(fields) => put_map(alloc, out, fields.as_fields()),
     }
 }
 
 /// Puts an array of these values.
 #[cycle(put)]
-fn put_array(alloc: Global, out: &mut Writer, values: &Vec<Value>) -> Result<(), NoMemory>
+fn put_array(alloc: Global, out: &mut Writer, values: &[Value]) -> Result<(), NoMemory>
     ensures { Puts result out.old out.new
-        (one (codes "arrayValue") (values_tree (printed_items (items_of values.now.items)))) }
+        (one (codes "arrayValue") (values_tree (printed_items (items_of values.now)))) }
 {
     if values.is_empty() {
         return Ok(put_empty(out, "arrayValue")?);
@@ -56,8 +56,8 @@ fn put_array(alloc: Global, out: &mut Writer, values: &Vec<Value>) -> Result<(),
 
 /// Puts the values, with the closing bracket.
 #[cycle(put)]
-fn put_items(alloc: Global, out: &mut Writer, values: &Vec<Value>) -> Result<(), NoMemory>
-    ensures { PutsItems result out.old out.new (printed_items (items_of values.now.items)) }
+fn put_items(alloc: Global, out: &mut Writer, values: &[Value]) -> Result<(), NoMemory>
+    ensures { PutsItems result out.old out.new (printed_items (items_of values.now)) }
 {
     for value in values {
         put_value(alloc, out, value)?;

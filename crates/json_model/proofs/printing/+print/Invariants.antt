@@ -10,13 +10,13 @@ abbrev pub decreases-print_value : goal.decreases-print_value
 decreases-print_value l = 2 * data_size l.value.now + 1
 
 abbrev pub decreases-print_values : goal.decreases-print_values
-decreases-print_values l = 2 * items_size (items_of l.values.now.items)
+decreases-print_values l = 2 * items_size (items_of l.values.now)
 
 abbrev pub decreases-print_members : goal.decreases-print_members
 decreases-print_members l = 2 * entries_size l.fields.now
 
 abbrev pub invariant-print_values-loop-value : goal.invariant-print_values-loop-value
-invariant-print_values-loop-value l = items_view l.trees.items ≡ printed_items (items_of (take l.value-index l.value-items))
+invariant-print_values-loop-value l = items_view l.trees.items ≡ printed_items (items_of (take l.value-index l.values))
 
 abbrev pub invariant-print_members-loop-field : goal.invariant-print_members-loop-field
 invariant-print_members-loop-field l = members_view l.members.entries ≡ printed_members (members_of (fields_data (take l.field-index l.field-items)))

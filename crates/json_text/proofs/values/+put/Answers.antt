@@ -26,7 +26,7 @@ put_map-returns t c =
 
 pub put_items-put_value-requires : goal.put_items-put_value-requires
 put_items-put_value-requires t c =
-    let within = item_below c.deref-value-items.result.now c.loop-value.value-index c.value-item.result c.loop-value-test.true in
+    let within = item_below c.args.values.now c.loop-value.value-index c.value-item.result c.loop-value-test.true in
     search rules
 
 pub put_each-put_value-requires : goal.put_each-put_value-requires

@@ -11,10 +11,10 @@ abbrev pub decreases-put_value : goal.decreases-put_value
 decreases-put_value l = 3 * data_size l.value.now + 2
 
 abbrev pub decreases-put_array : goal.decreases-put_array
-decreases-put_array l = 3 * items_size (items_of l.values.now.items) + 1
+decreases-put_array l = 3 * items_size (items_of l.values.now) + 1
 
 abbrev pub decreases-put_items : goal.decreases-put_items
-decreases-put_items l = 3 * items_size (items_of l.values.now.items)
+decreases-put_items l = 3 * items_size (items_of l.values.now)
 
 abbrev pub decreases-put_map : goal.decreases-put_map
 decreases-put_map l = 3 * entries_size l.fields.now + 1
@@ -23,7 +23,7 @@ abbrev pub decreases-put_each : goal.decreases-put_each
 decreases-put_each l = 3 * entries_size l.fields.now
 
 abbrev pub invariant-put_items-loop-value : goal.invariant-put_items-loop-value
-invariant-put_items-loop-value l = IsPartOf l.fn.out l.out (tokens_of_items (printed_items (items_of (drop l.value-index l.value-items)))) (tokens_of_items (printed_items (items_of l.value-items)))
+invariant-put_items-loop-value l = IsPartOf l.fn.out l.out (tokens_of_items (printed_items (items_of (drop l.value-index l.values)))) (tokens_of_items (printed_items (items_of l.values)))
 
 abbrev pub invariant-put_each-loop-field : goal.invariant-put_each-loop-field
 invariant-put_each-loop-field l =
