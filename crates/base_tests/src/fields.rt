@@ -13,7 +13,7 @@ fn nested(alloc: Global, depth: u32) -> Result<Value, Fail> {
     for _level in 0..depth {
         let mut values = Vec::new(alloc);
         values.push(inner)?;
-        inner = Value::array(values);
+        inner = Value::array(alloc, values)?;
     }
     Ok(inner)
 }
@@ -38,8 +38,10 @@ fn depths(rt: HostRuntime) -> Result<(), Fail> {
 }
 
 #[test]
-fn depth_of_an_empty_array(rt: HostRuntime) {
-    assert!(rt; !Value::array(Vec::new(rt.alloc())).nests_within(0));
+fn depth_of_an_empty_array(rt: HostRuntime) -> Result<(), Fail> {
+    let empty = Value::array(rt.alloc(), Vec::new(rt.alloc()))?;
+    assert!(rt; !empty.nests_within(0));
+    Ok(())
 }
 
 #[test]

@@ -78,7 +78,7 @@ fn numbers(alloc: Global, items: &[i64]) -> Result<Value, Fail> {
     for item in items {
         values.push(number(*item))?;
     }
-    Ok(Value::array(values))
+    Ok(Value::array(alloc, values)?)
 }
 
 // a map of one field
@@ -89,7 +89,8 @@ fn map(alloc: Global, name: &str, item: i64) -> Result<Value, Fail> {
         name,
         value: number(item),
     })?;
-    Ok(Value::map(Fields::from_entries(entries).ok_or("one field")?))
+    let fields = Fields::from_entries(entries).ok_or("one field")?;
+    Ok(Value::map(alloc, fields)?)
 }
 
 fn made(alloc: Global, told: Told) -> Result<Value, Fail> {

@@ -67,7 +67,7 @@ fn array(alloc: Global, first: i64, with_null: bool) -> Result<Value, Fail> {
     if with_null {
         values.push(null())?;
     }
-    Ok(Value::array(values))
+    Ok(Value::array(alloc, values)?)
 }
 
 /// The field `n` of the document of this index; the sixth has none.
@@ -327,7 +327,7 @@ fn two_array_filters(rt: HostRuntime) -> Result<(), Fail> {
 
 #[test]
 fn no_operands(rt: HostRuntime) -> Result<(), Fail> {
-    let none = Value::array(Vec::new(rt.alloc()));
+    let none = Value::array(rt.alloc(), Vec::new(rt.alloc()))?;
     let raw = rooms(
         rt.alloc(),
         Some(compared(rt.alloc(), Operator::IsIn, none)?),

@@ -39,7 +39,7 @@ fn is_printed_as(value: &Value, other: &Value) -> bool
             are_printed_as(values.as_slice(), others.as_slice())
         }
         (Kind::Map(fields), Kind::Map(others)) => {
-            fields_are_printed_as(fields.as_slice(), others.as_slice())
+            fields_are_printed_as(fields.as_fields().as_slice(), others.as_fields().as_slice())
         }
         _ => are_null_or_equal(value, other),
     }

@@ -19,8 +19,8 @@ is_printed_as-returns-in_default t c =
 
 pub is_printed_as-returns-in-Array-Array : goal.is_printed_as-returns-in-Array-Array
 is_printed_as-returns-in-Array-Array t c =
-    let both = arrays_print c.in-Array-Array.values.items c.in-Array-Array.others.items in
-    let is = rw (c.as_slice.ensures.value, c.as_slice-in-Array-Array.ensures.value) at c.are_printed_as.ensures in
+    let both = arrays_print c.in-Array-Array.values c.in-Array-Array.others in
+    let is = rw (c.as_slice.ensures, c.as_slice-in-Array-Array.ensures) at c.are_printed_as.ensures in
     rw (← c.value.view_is, ← c.other.view_is, c.in-Array-Array.is-0, c.in-Array-Array.is-1) (λ yes. both.1 (is.0 yes), λ same. is.1 (both.0 same))
 
 pub are_printed_as-is_printed_as-requires : goal.are_printed_as-is_printed_as-requires
@@ -47,5 +47,5 @@ fields_are_printed_as-returns-then-not-is_printed_as t c =
 pub is_printed_as-returns-in-Map-Map : goal.is_printed_as-returns-in-Map-Map
 is_printed_as-returns-in-Map-Map t c =
     let both = maps_print c.in-Map-Map.fields c.in-Map-Map.others in
-    let is = rw (c.as_slice-in-Map-Map.ensures.shown, c.as_slice-in-Map-Map-2.ensures.shown) at c.fields_are_printed_as.ensures in
+    let is = rw (c.as_slice-in-Map-Map.ensures.shown, c.as_fields.ensures, c.as_slice-in-Map-Map-2.ensures.shown, c.as_fields-in-Map-Map.ensures) at c.fields_are_printed_as.ensures in
     rw (← c.value.view_is, ← c.other.view_is, c.in-Map-Map.is-0, c.in-Map-Map.is-1) (λ yes. both.1 (is.0 yes), λ same. is.1 (both.0 same))
