@@ -1,2 +1,4 @@
-pub mod Counting
+pub mod Listed
+pub mod Placing
 pub mod Tables
+pub mod Writes

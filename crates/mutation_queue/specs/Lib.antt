@@ -1,3 +1,4 @@
-pub mod Counts
 pub mod Line
+pub mod PlaceList
+pub mod Places
 pub mod Queue

@@ -1,6 +1,5 @@
 ghost use Rattle.std.specs.Prelude.{◌≡◌};
-ghost use Rattle.mutation_queue.specs.Counts.{times};
-ghost use Rattle.mutation_queue.specs.Queue.{keys_of, written_key};
+ghost use Rattle.mutation_queue.specs.Queue.{written_key};
 
 use document_keys::DocumentKey;
 use mutations::Write;
@@ -19,17 +18,4 @@ pub fn written_key(write: &Write) -> &DocumentKey
         } => key,
         Write::Delete { key, condition: _ } => key,
     }
-}
-
-/// How many of the writes have the key.
-pub(crate) fn times_written(key: &DocumentKey, writes: &[Write]) -> u64
-    ensures { result ≡ times key.now (keys_of writes.now) }
-{
-    let mut times = 0;
-    for write in writes {
-        if written_key(write).cmp(key).is_eq() {
-            times += 1;
-        }
-    }
-    times
 }
