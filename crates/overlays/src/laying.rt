@@ -1,6 +1,6 @@
 //! Writes laid on a document.
 
-ghost use Rattle.std.specs.Prelude.{◌≡◌, ◌↔◌, IsTrue, IfOk};
+ghost use Rattle.std.specs.Prelude.{◌≡◌, ◌↔◌, IsTrue, IfOk, map};
 ghost use Rattle.std.specs.List.{All};
 ghost use Rattle.mutations.specs.Effect.{IsOfFieldsOnly};
 ghost use Rattle.overlays.specs.Lent.{known};
@@ -70,7 +70,7 @@ pub(crate) fn laid_on(
 {
     let mut document = document;
     for write in batch.writes.as_slice() {
-        if written_key(write).cmp(key).is_eq() {
+        if written_key(write) == key {
             apply_local(alloc, &mut document, write, batch.at)?;
         }
     }
@@ -86,6 +86,24 @@ pub(crate) fn all_laid_on(
 ) -> Result<Option<Document>, NoMemory>
     requires { All IsBatchOfFields batches.now }
     ensures { IfOk result (λ new. new ≡ local_document key.now document batches.now) }
+{
+    let mut document = document;
+    for batch in batches {
+        document = laid_on(alloc, key, document, batch)?;
+    }
+    Ok(document)
+}
+
+/// The key's document after the batches that are lent.
+pub(crate) fn lent_laid_on(
+    alloc: Global,
+    key: &DocumentKey,
+    document: Option<Document>,
+    batches: &[&Batch],
+) -> Result<Option<Document>, NoMemory>
+    requires { All IsBatchOfFields (map (λ b. b.now) batches.now) }
+    ensures { IfOk result (λ new. new
+        ≡ local_document key.now document (map (λ b. b.now) batches.now)) }
 {
     let mut document = document;
     for batch in batches {

@@ -1,4 +1,4 @@
-ghost use Rattle.std.specs.Prelude.{◌≡◌, ◌↔◌, ℕ, List, Some, None, false, IsTrue, IsOk, OnOk, IfOk, is_some, option_map};
+ghost use Rattle.std.specs.Prelude.{◌≡◌, ◌↔◌, ℕ, List, Some, None, false, IsTrue, IsOk, OnOk, IfOk, drop, is_some, option_map};
 ghost use Rattle.std.specs.List.{All, AllPairs, Contains};
 ghost use Rattle.std.specs.Option.{ForSome, IsSome};
 ghost use Rattle.document_keys.specs.Order.{PathBefore};
@@ -8,10 +8,11 @@ ghost use Rattle.overlays.specs.LocalDocument.{after_batch, local_document};
 ghost use Rattle.overlays.specs.Table.{Changes, IsBatchOfFields, KeepsOtherPlaces, KeepsPlaces, SameOverlays};
 ghost use Rattle.overlays.specs.Table.{has_place, overlay_of, shown};
 
-use crate::laying::{all_laid_on, base, laid_on};
+use crate::laying::{all_laid_on, base, laid_on, lent_laid_on};
 use crate::slot::Slot;
 use document_keys::{CollectionPath, DocumentKey, NoMemory};
 use key_table::KeyTable;
+use mutation_queue::MutationQueue;
 use mutations::Batch;
 use std::alloc::Global;
 use std::marker::Model;
@@ -88,6 +89,31 @@ impl Overlays {
             Some(batch) => laid_on(alloc, key, document, batch)?,
             None => document,
         };
+        let key = key.copy(alloc)?;
+        Ok(Overlay { key, document })
+    }
+
+    /// Works out the local document of the key, from its entry and the pending batches, without the first `past`. No path of
+    /// their writes is `__name__`. It looks only at batches that name the key.
+    ///
+    /// # Errors
+    /// `NoMemory`
+    pub fn prepare_pending(
+        &self,
+        alloc: Global,
+        key: &DocumentKey,
+        entry: Option<&Entry>,
+        pending: &MutationQueue,
+        past: u64,
+    ) -> Result<Overlay, NoMemory>
+        requires { All IsBatchOfFields pending.now.batches }
+        ensures key { IfOk result (λ overlay. overlay.key ≡ key.now) }
+        ensures document { IfOk result (λ overlay. overlay.document ≡
+            local_document key.now (known entry.entry) (drop past pending.now.batches)) }
+    {
+        let batches = pending.naming(alloc, key, past)?;
+        let document = base(alloc, entry)?;
+        let document = lent_laid_on(alloc, key, document, batches.as_slice())?;
         let key = key.copy(alloc)?;
         Ok(Overlay { key, document })
     }
