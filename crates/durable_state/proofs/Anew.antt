@@ -12,7 +12,7 @@ use Rattle.document_keys.proofs.Order.{paths_compute}
 use Rattle.value_model.specs.declared.document.Document.{Document}
 use Rattle.value_model.specs.declared.document.Entry.{Entry}
 use Rattle.value_model.specs.declared.document.Seal.{Seal}
-use Rattle.value_model.specs.declared.document.Seal.TheVariants.{Committed}
+use Rattle.value_model.specs.declared.document.Seal.TheVariants.{Seen, Committed}
 use Rattle.value_model.specs.declared.timestamp.Timestamp.{Timestamp}
 use Rattle.mutations.specs.declared.batch.Batch.{Batch}
 use Rattle.mutations.specs.declared.results.WriteResult.{WriteResult}
@@ -31,7 +31,6 @@ use Rattle.durable_state.specs.Documents.{document_of, entry_of, is_among, is_na
 use Rattle.durable_state.specs.Ready.{AreOf, HasDocument, IsOver, LaysAnew, LaysKeys, moved, put_change, put_changes}
 use Rattle.durable_state.specs.State.{State}
 use Rattle.durable_state.specs.Tables.{AreLaid, overlay_for}
-use Rattle.durable_state.specs.declared.ready.EntryChange.{EntryChange}
 use Rattle.durable_state.specs.declared.ready.Step.{Step}
 use Rattle.durable_state.specs.declared.ready.Step.TheVariants.{Enqueue, Settle, Tell, Blank}
 use Rattle.durable_state.proofs.Changed.{get_changed}
@@ -69,9 +68,9 @@ gone entries (k ∷ keys) q there = by (is_among keys q) refl (gone (with_change
         untouched (with_changed entries (k, None)) (dropped keys) q (ap (λ l. is_among l q) (dropped_keys keys) ∙ e)
         ∙ get_changed entries (k, None) q ∙ ap (λ b. cond b None (finite.get entries q)) (key_of_one k q (is_among keys q) there e)
 
-pub put_keys : (cs : List EntryChange) → map (λ (c : Changed). c.0) (put_changes cs) ≡ map (λ c. c.key) cs
-put_keys [] = refl
-put_keys (c ∷ cs) = ap (λ l. c.key ∷ l) (put_keys cs)
+pub put_keys : (seal : Seal) (cs : List KeyedEntry) → map (λ (c : Changed). c.0) (put_changes seal cs) ≡ map (λ c. c.key) cs
+put_keys seal [] = refl
+put_keys seal (c ∷ cs) = ap (λ l. c.key ∷ l) (put_keys seal cs)
 
 not_among : (keys : List (List (List ℕ))) (q : List (List ℕ)) → All (λ k. is_key k q ≡ false) keys → is_among keys q ≡ false
 not_among [] q all = refl
@@ -79,31 +78,31 @@ not_among (k ∷ keys) q all =
     ap (λ b. b || is_among keys q) (All-head (λ x. is_key x q ≡ false) k keys all) ∙ not_among keys q (All-tail (λ x. is_key x q ≡ false) k keys all)
 
 -- each change comes before those behind it
-abbrev pub Ascend : List EntryChange → Type 0
+abbrev pub Ascend : List KeyedEntry → Type 0
 Ascend cs = AllPairs (λ a b. PathBefore a.key b.key) cs
 
-others_after : (c : EntryChange) (cs : List EntryChange) → Ascend (c ∷ cs) → All (λ k. is_key k c.key ≡ false) (map (λ x. x.key) cs)
+others_after : (c : KeyedEntry) (cs : List KeyedEntry) → Ascend (c ∷ cs) → All (λ k. is_key k c.key ≡ false) (map (λ x. x.key) cs)
 others_after c [] ascend = All-nil (λ k. is_key k c.key ≡ false)
 others_after c (x ∷ cs) ascend = All-cons (λ k. is_key k c.key ≡ false) x.key (map (λ y. y.key) cs) (differ x (ascend 0 1 c (omega arith) (omega arith))) (others_after c cs (λ i j d before below. skip i j d before below))
   where
-    differ : (x : EntryChange) → PathBefore c.key x.key → is_key x.key c.key ≡ false
+    differ : (x : KeyedEntry) → PathBefore c.key x.key → is_key x.key c.key ≡ false
     differ x before = turned c.key x.key ∙ ap is_eq (paths_compute.less c.key x.key before)
 
-    skip : (i j : ℕ) (d : EntryChange) → i < j → j < length (c ∷ cs) → PathBefore (get_or (c ∷ cs) i d).key (get_or (c ∷ cs) j d).key
+    skip : (i j : ℕ) (d : KeyedEntry) → i < j → j < length (c ∷ cs) → PathBefore (get_or (c ∷ cs) i d).key (get_or (c ∷ cs) j d).key
     skip i zero d before below = absurd (omega (arith, before))
     skip zero (suc j) d before below = ascend 0 (suc (suc j)) d (omega arith) (omega (arith, below))
     skip (suc i) (suc j) d before below = ascend (suc (suc i)) (suc (suc j)) d (omega (arith, before)) (omega (arith, below))
 
-pub cached_put : (entries : EntryMap) (cs : List EntryChange) (c : EntryChange) → Ascend cs → Contains cs c → cached (with_all entries (put_changes cs)) c.key ≡ Some c.entry
-cached_put entries [] c ascend there = absurd (omega (arith, there.1))
-cached_put entries (d ∷ cs) c ascend (zero, below, is) = subst (λ (x : EntryChange). cached (with_all (with_changed entries (put_change d)) (put_changes cs)) x.key ≡ Some x.entry) is here
+pub cached_put : (entries : EntryMap) (seal : Seal) (cs : List KeyedEntry) (c : KeyedEntry) → Ascend cs → Contains cs c → cached (with_all entries (put_changes seal cs)) c.key ≡ Some c.entry
+cached_put entries seal [] c ascend there = absurd (omega (arith, there.1))
+cached_put entries seal (d ∷ cs) c ascend (zero, below, is) = subst (λ (x : KeyedEntry). cached (with_all (with_changed entries (put_change seal d)) (put_changes seal cs)) x.key ≡ Some x.entry) is here
   where
-    here : cached (with_all (with_changed entries (put_change d)) (put_changes cs)) d.key ≡ Some d.entry
+    here : cached (with_all (with_changed entries (put_change seal d)) (put_changes seal cs)) d.key ≡ Some d.entry
     here =
-        cached_still (with_changed entries (put_change d)) (put_changes cs) d.key (ap (λ l. is_among l d.key) (put_keys cs) ∙ not_among (map (λ x. x.key) cs) d.key (others_after d cs ascend))
-        ∙ ap (option_map (λ (p : Entry × Seal). p.0)) (get_changed entries (put_change d) d.key ∙ ap (λ b. cond b (Some (d.entry, d.seal)) (finite.get entries d.key)) (same_itself d.key))
-cached_put entries (d ∷ cs) c ascend (suc i, below, is) =
-    cached_put (with_changed entries (put_change d)) cs c (λ i j x before under. ascend (suc i) (suc j) x (omega (arith, before)) (omega (arith, under))) (i, omega (arith, below), is)
+        cached_still (with_changed entries (put_change seal d)) (put_changes seal cs) d.key (ap (λ l. is_among l d.key) (put_keys seal cs) ∙ not_among (map (λ x. x.key) cs) d.key (others_after d cs ascend))
+        ∙ ap (option_map (λ (p : Entry × Seal). p.0)) (get_changed entries (put_change seal d) d.key ∙ ap (λ b. cond b (Some (d.entry, seal)) (finite.get entries d.key)) (same_itself d.key))
+cached_put entries seal (d ∷ cs) c ascend (suc i, below, is) =
+    cached_put (with_changed entries (put_change seal d)) seal cs c (λ i j x before under. ascend (suc i) (suc j) x (omega (arith, before)) (omega (arith, under))) (i, omega (arith, below), is)
 
 -- ---- keys that pass a test
 
@@ -204,15 +203,15 @@ pub lays_as : (s : State) (step other : Step) (cs ds : List Changed) (os : List 
 lays_as s step other cs ds os lifted keys step_is changes_are lifted_are lays = rw (step_is, changes_are, lifted_are) lays
 
 -- what a point brings
-pub lays_told : (s : State) (at : Timestamp) (rows : _) (cs : List EntryChange) (table : overlay.Table) (os : List Overlay) → Ascend cs
-    → LaysKeys table (IsOver s.batches cs) (filter (is_among (named_keys s.batches)) (map (λ c. c.key) cs)) os → LaysAnew s (moved s (Tell at rows) (put_changes cs)) os []
+pub lays_told : (s : State) (at : Timestamp) (rows : _) (cs : List KeyedEntry) (table : overlay.Table) (os : List Overlay) → Ascend cs
+    → LaysKeys table (IsOver s.batches cs) (filter (is_among (named_keys s.batches)) (map (λ c. c.key) cs)) os → LaysAnew s (moved s (Tell at rows) (seen_at cs)) os []
 lays_told s at rows cs table os ascend is =
-    lays_where s (Tell at rows) (put_changes cs) os refl (is.of_keys ∙ ap (filter (is_among (named_keys s.batches))) (sym (put_keys cs))) (λ i d below. right (get_or os i d) (is.right i d below))
+    lays_where s (Tell at rows) (seen_at cs) os refl (is.of_keys ∙ ap (filter (is_among (named_keys s.batches))) (sym (put_keys Seen cs))) (λ i d below. right (get_or os i d) (is.right i d below))
   where
-    right : (o : Overlay) → IsOver s.batches cs o → o.document ≡ document_of (moved s (Tell at rows) (put_changes cs)) o.key
+    right : (o : Overlay) → IsOver s.batches cs o → o.document ≡ document_of (moved s (Tell at rows) (seen_at cs)) o.key
     right o over =
-        over.document ∙ ap (λ e. local_document over.change.key (base_of e) s.batches) (sym (cached_put s.entries cs over.change ascend over.one))
-        ∙ ap (document_of (moved s (Tell at rows) (put_changes cs))) (sym over.of_key)
+        over.document ∙ ap (λ e. local_document over.change.key (base_of e) s.batches) (sym (cached_put s.entries Seen cs over.change ascend over.one))
+        ∙ ap (document_of (moved s (Tell at rows) (seen_at cs))) (sym over.of_key)
 
 filter_in : (p : List (List ℕ) → Bool) (keys : List (List (List ℕ))) (k : List (List ℕ)) → is_among (filter p keys) k ≡ true → is_among keys k ≡ true
 filter_in p [] k there = cc
@@ -237,15 +236,15 @@ lays_dropped s ids keys table os is =
 
 -- ---- the first batch leaves
 
-outside : (cs : List EntryChange) (keys : List (List (List ℕ))) (q : List (List ℕ)) → AreOf keys cs → is_among keys q ≡ false → is_among (map (λ (c : Changed). c.0) (put_changes cs)) q ≡ false
-outside [] keys q of none = refl
-outside (c ∷ cs) keys q of none =
-    ap (λ b. b || is_among (map (λ (x : Changed). x.0) (put_changes cs)) q) (first (is_key c.key q) refl)
-    ∙ outside cs keys q (All-tail (λ (x : EntryChange). Contains keys x.key) c cs of) none
+outside : (seal : Seal) (cs : List KeyedEntry) (keys : List (List (List ℕ))) (q : List (List ℕ)) → AreOf keys cs → is_among keys q ≡ false → is_among (map (λ (c : Changed). c.0) (put_changes seal cs)) q ≡ false
+outside seal [] keys q of none = refl
+outside seal (c ∷ cs) keys q of none =
+    ap (λ b. b || is_among (map (λ (x : Changed). x.0) (put_changes seal cs)) q) (first (is_key c.key q) refl)
+    ∙ outside seal cs keys q (All-tail (λ (x : KeyedEntry). Contains keys x.key) c cs of) none
   where
     first : (b : Bool) → is_key c.key q ≡ b → is_key c.key q ≡ false
     first false e = e
-    first true e = let there = in_among q keys (subst (Contains keys) (one_key c.key q e) (All-head (λ (x : EntryChange). Contains keys x.key) c cs of)) in let wrong = sym there ∙ none in cc
+    first true e = let there = in_among q keys (subst (Contains keys) (one_key c.key q e) (All-head (λ (x : KeyedEntry). Contains keys x.key) c cs of)) in let wrong = sym there ∙ none in cc
 
 first_named : (bs : List Batch) (q : List (List ℕ)) → is_among (keys_of (first_writes bs)) q ≡ false → is_among (named_keys (drop 1 bs)) q ≡ is_among (named_keys bs) q
 first_named [] q none = refl
@@ -259,26 +258,26 @@ turn : (b : Bool) → not b ≡ true → b ≡ false
 turn false e = refl
 turn true e = cc
 
-module _ (s : State) (cs : List EntryChange) (os : List Overlay) (lifted : List (List (List ℕ))) (of : AreOf (keys_of (first_writes s.batches)) cs) where
+module _ (s : State) (seal : Seal) (cs : List KeyedEntry) (os : List Overlay) (lifted : List (List (List ℕ))) (of : AreOf (keys_of (first_writes s.batches)) cs) where
   abbrev settled_keys : List (List (List ℕ))
   settled_keys = keys_of (first_writes s.batches)
 
   abbrev still_named : List (List ℕ) → Bool
   still_named = is_among (named_keys (drop 1 s.batches))
 
-  same_overlay : (q : List (List ℕ)) → is_among settled_keys q ≡ false → overlay_for (moved s Settle (put_changes cs)) q ≡ overlay_for s q
+  same_overlay : (q : List (List ℕ)) → is_among settled_keys q ≡ false → overlay_for (moved s Settle (put_changes seal cs)) q ≡ overlay_for s q
   same_overlay q none =
-      ap (λ b. cond b (Some (document_of (moved s Settle (put_changes cs)) q)) None) (first_named s.batches q none)
+      ap (λ b. cond b (Some (document_of (moved s Settle (put_changes seal cs)) q)) None) (first_named s.batches q none)
       ∙ ap (λ d. cond (is_named s q) (Some d) None)
-      (ap (λ e. local_document q (base_of e) (drop 1 s.batches)) (cached_still s.entries (put_changes cs) q (outside cs settled_keys q of none)) ∙ first_left s.batches q (base_of (entry_of s q)) none)
+      (ap (λ e. local_document q (base_of e) (drop 1 s.batches)) (cached_still s.entries (put_changes seal cs) q (outside seal cs settled_keys q of none)) ∙ first_left s.batches q (base_of (entry_of s q)) none)
 
-  either_way : (q : List (List ℕ)) (b : Bool) → still_named q ≡ b → is_among (filter still_named settled_keys) q ≡ false → is_among (filter (λ k. not (still_named k)) settled_keys) q ≡ false → overlay_for (moved s Settle (put_changes cs)) q ≡ overlay_for s q
+  either_way : (q : List (List ℕ)) (b : Bool) → still_named q ≡ b → is_among (filter still_named settled_keys) q ≡ false → is_among (filter (λ k. not (still_named k)) settled_keys) q ≡ false → overlay_for (moved s Settle (put_changes seal cs)) q ≡ overlay_for s q
   either_way q true e none lifted_none = same_overlay q (sym (among_filter still_named settled_keys q e) ∙ none)
   either_way q false e none lifted_none = same_overlay q (sym (among_filter (λ k. not (still_named k)) settled_keys q (ap not e)) ∙ lifted_none)
 
   pub lays_settled : (table : overlay.Table)
-      → LaysKeys table (HasDocument (λ key. local_document key (base_of (cached (with_all s.entries (put_changes cs)) key)) (drop 1 s.batches))) (filter still_named settled_keys) os
-      → lifted ≡ filter (λ key. not (still_named key)) settled_keys → LaysAnew s (moved s Settle (put_changes cs)) os lifted
+      → LaysKeys table (HasDocument (λ key. local_document key (base_of (cached (with_all s.entries (put_changes seal cs)) key)) (drop 1 s.batches))) (filter still_named settled_keys) os
+      → lifted ≡ filter (λ key. not (still_named key)) settled_keys → LaysAnew s (moved s Settle (put_changes seal cs)) os lifted
   lays_settled table is gone_are = record {
     named = all_keys os (filter still_named settled_keys) (λ k. still_named k ≡ true) is.of_keys (passed_all still_named settled_keys);
     right = is.right;
@@ -286,22 +285,7 @@ module _ (s : State) (cs : List EntryChange) (os : List Overlay) (lifted : List 
     others = λ q none lifted_none. either_way q (still_named q) refl (ap (λ l. is_among l q) (sym is.of_keys) ∙ none) (ap (λ l. is_among l q) (sym gone_are) ∙ lifted_none);
   }
 
--- ---- the keys of changes that were gathered
-
-keys_same : (told : List KeyedEntry) (cs : List EntryChange) → put_changes cs ≡ seen_at told → map (λ c. c.key) cs ≡ map (λ (e : KeyedEntry). e.key) told
-keys_same told cs is = sym (put_keys cs) ∙ ap (map (λ (c : Changed). c.0)) is ∙ seen_keys told
-  where
-    seen_keys : (told : List KeyedEntry) → map (λ (c : Changed). c.0) (seen_at told) ≡ map (λ (e : KeyedEntry). e.key) told
-    seen_keys [] = refl
-    seen_keys (e ∷ es) = ap (λ l. e.key ∷ l) (seen_keys es)
-
-pub ascend_seen : (told : List KeyedEntry) (cs : List EntryChange) → put_changes cs ≡ seen_at told → AllPairs (λ a b. PathBefore a.key b.key) told → Ascend cs
-ascend_seen told cs is ascend = λ i j d before below.
-    let same = keys_same told cs is in
-    let long : length cs ≡ length told = sym (length-map cs (λ (c : EntryChange). c.key)) ∙ ap length same ∙ length-map told (λ (e : KeyedEntry). e.key) in
-    let e : KeyedEntry = record { key = d.key; entry = d.entry } in
-    let at = λ (k : ℕ) (under : k < length cs). sym (get_or-map (λ (c : EntryChange). c.key) cs k d d.key under) ∙ ap (λ l. get_or l k d.key) same ∙ get_or-map (λ (x : KeyedEntry). x.key) told k e d.key (omega (arith, under, long)) in
-    rw (at i (omega (arith, before, below)), at j below) (ascend i j e before (omega (arith, below, long)))
+-- ---- the keys that an acknowledgement changes
 
 module _ (entries : EntryMap) (writes : List Write) (results : List WriteResult) (commit : Timestamp) where
   abbrev by_answer : List (List ℕ) → Option Changed
@@ -315,8 +299,9 @@ module _ (entries : EntryMap) (writes : List Write) (results : List WriteResult)
       by None rest = rest
       by (Some e) rest = All-cons (λ (x : Changed). Contains (k ∷ keys) x.0) (k, Some (e, Committed commit)) (filter_map by_answer keys) (Contains-append_left (k ∷ []) keys k (0, omega arith, refl)) rest
 
-  pub of_answered : (cs : List EntryChange) → put_changes cs ≡ acknowledged_keys entries writes results commit → AreOf (keys_of writes) cs
+  pub of_answered : (cs : List KeyedEntry) → put_changes (Committed commit) cs ≡ acknowledged_keys entries writes results commit → AreOf (keys_of writes) cs
   of_answered cs is = λ i d below.
-      let long = length-map cs put_change in
-      let at = get_or-map put_change cs i d (put_change d) below in
-      subst (λ (x : Changed). Contains (keys_of writes) x.0) at (subst (All (λ (x : Changed). Contains (keys_of writes) x.0)) (sym is) (all_answered (keys_of writes)) i (put_change d) (omega (arith, below, long)))
+      let put = put_change (Committed commit) in
+      let long = length-map cs put in
+      let at = get_or-map put cs i d (put d) below in
+      subst (λ (x : Changed). Contains (keys_of writes) x.0) at (subst (All (λ (x : Changed). Contains (keys_of writes) x.0)) (sym is) (all_answered (keys_of writes)) i (put d) (omega (arith, below, long)))

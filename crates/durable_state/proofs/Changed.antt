@@ -10,13 +10,11 @@ use Rattle.mutation_queue.specs.Queue.{keys_of, written_key}
 use Rattle.document_keys.specs.KeySet.{is_key}
 use Rattle.value_model.specs.declared.document.Entry.{Entry}
 use Rattle.value_model.specs.declared.document.Seal.{Seal}
-use Rattle.value_model.specs.declared.document.Seal.TheVariants.{Seen}
 use Rattle.outcome_codec.specs.declared.parts.KeyedEntry.{KeyedEntry}
 use Rattle.remote_documents.specs.Table.{EntryMap, Table, Changes, IsMapOf, KeepsPlaces, entries_in, has_place}
 use Rattle.remote_documents.proofs.Maps.{get_with, get_without, one_map}
-use Rattle.durable_state.specs.Cached.{Changed, cached, dropped, seen_at, with_all, with_changed}
+use Rattle.durable_state.specs.Cached.{Changed, cached, dropped, with_all, with_changed}
 use Rattle.durable_state.specs.Ready.{HavePlaces, put_change, put_changes}
-use Rattle.durable_state.specs.declared.ready.EntryChange.{EntryChange}
 
 -- what a key has after one change
 pub get_changed : (entries : EntryMap) (c : Changed) (q : List (List ℕ)) → finite.get (with_changed entries c) q ≡ cond (is_key c.0 q) c.1 (finite.get entries q)
@@ -35,8 +33,8 @@ all_more entries cs c = fold-append with_changed entries cs (c ∷ [])
 abbrev pub change_of : List Changed → List (List ℕ) → Option (Option (Entry × Seal)) → Option (Option (Entry × Seal))
 change_of cs q found = fold (λ now c. cond (is_key c.0 q) (Some c.1) now) found cs
 
-pub put_more : (entries : EntryMap) (cs : List EntryChange) (c : EntryChange) → with_all entries (put_changes (cs ++ c ∷ [])) ≡ with_changed (with_all entries (put_changes cs)) (c.key, Some (c.entry, c.seal))
-put_more entries cs c = ap (with_all entries) (map-append (λ (e : EntryChange). (e.key, Some (e.entry, e.seal))) cs (c ∷ [])) ∙ all_more entries (put_changes cs) (c.key, Some (c.entry, c.seal))
+pub put_more : (entries : EntryMap) (seal : Seal) (cs : List KeyedEntry) (c : KeyedEntry) → with_all entries (put_changes seal (cs ++ c ∷ [])) ≡ with_changed (with_all entries (put_changes seal cs)) (c.key, Some (c.entry, seal))
+put_more entries seal cs c = ap (with_all entries) (map-append (put_change seal) cs (c ∷ [])) ∙ all_more entries (put_changes seal cs) (c.key, Some (c.entry, seal))
 
 pub dropped_more : (entries : EntryMap) (keys : List (List (List ℕ))) (i : ℕ) (k : List (List ℕ)) → i < length keys → k ≡ get_or keys i k → with_all entries (dropped (take (i + 1) keys)) ≡ with_changed (with_all entries (dropped (take i keys))) (k, None)
 dropped_more entries keys i k below is =
@@ -49,44 +47,44 @@ all_append entries cs ds = fold-append with_changed entries cs ds
 -- ---- changes gathered one by one
 
 -- every place stays, and one more is there
-pub places_more : (old new : Table) (cs after : List EntryChange) (c : EntryChange) → after ≡ cs ++ c ∷ [] → KeepsPlaces old new → HavePlaces old cs → IsTrue (has_place new c.key) → HavePlaces new after
-places_more old new cs after c pushed keeps had place = subst (HavePlaces new) (sym pushed) (All-push (λ (e : EntryChange). IsTrue (has_place new e.key)) cs c (λ k d below. keeps _ (had k d below)) place)
+pub places_more : (old new : Table) (cs after : List KeyedEntry) (c : KeyedEntry) → after ≡ cs ++ c ∷ [] → KeepsPlaces old new → HavePlaces old cs → IsTrue (has_place new c.key) → HavePlaces new after
+places_more old new cs after c pushed keeps had place = subst (HavePlaces new) (sym pushed) (All-push (λ (e : KeyedEntry). IsTrue (has_place new e.key)) cs c (λ k d below. keeps _ (had k d below)) place)
 
-pub places_still : (old new : Table) (cs : List EntryChange) → KeepsPlaces old new → HavePlaces old cs → HavePlaces new cs
+pub places_still : (old new : Table) (cs : List KeyedEntry) → KeepsPlaces old new → HavePlaces old cs → HavePlaces new cs
 places_still old new cs keeps had = λ k d below. keeps _ (had k d below)
 
-pub seen_more : (told : List KeyedEntry) (e : KeyedEntry) (cs after : List EntryChange) → after ≡ cs ++ (record { key = e.key; entry = e.entry; seal = Seen }) ∷ [] → put_changes cs ≡ seen_at told → put_changes after ≡ seen_at (told ++ e ∷ [])
-seen_more told e cs after pushed is =
-    ap put_changes pushed ∙ map-append put_change cs (record { key = e.key; entry = e.entry; seal = Seen } ∷ []) ∙ ap (λ l. l ++ (e.key, Some (e.entry, Seen)) ∷ []) is
-    ∙ sym (map-append (λ (x : KeyedEntry). (x.key, Some (x.entry, Seen))) told (e ∷ []))
+-- places for the first ones and the next
+pub places_next : (old new : Table) (cs : List KeyedEntry) (i : ℕ) (c : KeyedEntry) → i < length cs → c ≡ get_or cs i c → KeepsPlaces old new → HavePlaces old (take i cs) → IsTrue (has_place new c.key) → HavePlaces new (take (i + 1) cs)
+places_next old new cs i c below item keeps had place =
+    places_more old new (take i cs) (take (i + 1) cs) c (take_more cs i c below ∙ ap (λ x. take i cs ++ x ∷ []) (sym item)) keeps had place
 
 -- the entry of a key after one change more
 entry_by : (b : Bool) (e : Entry) (s : Seal) (found : Option (Entry × Seal)) → option_map (λ p. p.0) (cond b (Some (e, s)) found) ≡ cond b (Some e) (option_map (λ p. p.0) found)
 entry_by true e s found = refl
 entry_by false e s found = refl
 
-pub cached_more : (entries : EntryMap) (cs : List EntryChange) (i : ℕ) (c : EntryChange) (q : List (List ℕ)) → i < length cs → c ≡ get_or cs i c
-    → cached (with_all entries (put_changes (take (i + 1) cs))) q ≡ cond (is_key c.key q) (Some c.entry) (cached (with_all entries (put_changes (take i cs))) q)
-cached_more entries cs i c q below is =
-    let front = with_all entries (put_changes (take i cs)) in
-    ap (λ l. cached (with_all entries (put_changes l)) q) (take_more cs i c below ∙ ap (λ x. take i cs ++ x ∷ []) (sym is))
-    ∙ ap (λ m. cached m q) (put_more entries (take i cs) c)
-    ∙ ap (option_map (λ (p : Entry × Seal). p.0)) (get_changed front (c.key, Some (c.entry, c.seal)) q)
-    ∙ entry_by (is_key c.key q) c.entry c.seal (finite.get front q)
+pub cached_more : (entries : EntryMap) (seal : Seal) (cs : List KeyedEntry) (i : ℕ) (c : KeyedEntry) (q : List (List ℕ)) → i < length cs → c ≡ get_or cs i c
+    → cached (with_all entries (put_changes seal (take (i + 1) cs))) q ≡ cond (is_key c.key q) (Some c.entry) (cached (with_all entries (put_changes seal (take i cs))) q)
+cached_more entries seal cs i c q below is =
+    let front = with_all entries (put_changes seal (take i cs)) in
+    ap (λ l. cached (with_all entries (put_changes seal l)) q) (take_more cs i c below ∙ ap (λ x. take i cs ++ x ∷ []) (sym is))
+    ∙ ap (λ m. cached m q) (put_more entries seal (take i cs) c)
+    ∙ ap (option_map (λ (p : Entry × Seal). p.0)) (get_changed front (c.key, Some (c.entry, seal)) q)
+    ∙ entry_by (is_key c.key q) c.entry seal (finite.get front q)
 
 -- the answer's entry of one key more, or none
-pub answered_more : {X : Type 0} (h : X → Option Changed) (xs : List X) (i : ℕ) (x : X) (cs after : List EntryChange) (c : EntryChange) (found : Option EntryChange) → i < length xs → x ≡ get_or xs i x → found ≡ Some c → after ≡ cs ++ c ∷ []
-    → option_map put_change found ≡ h x → put_changes cs ≡ filter_map h (take i xs) → put_changes after ≡ filter_map h (take (i + 1) xs)
-answered_more h xs i x cs after c found below item there pushed is so_far =
-    ap put_changes pushed ∙ map-append put_change cs (c ∷ []) ∙ ap (λ l. l ++ put_change c ∷ []) so_far
-    ∙ ap (λ (o : Option Changed). filter_map h (take i xs) ++ cons_option o []) (sym (ap (option_map put_change) there) ∙ is)
+pub answered_more : {X : Type 0} (seal : Seal) (h : X → Option Changed) (xs : List X) (i : ℕ) (x : X) (cs after : List KeyedEntry) (c : KeyedEntry) (found : Option KeyedEntry) → i < length xs → x ≡ get_or xs i x → found ≡ Some c → after ≡ cs ++ c ∷ []
+    → option_map (put_change seal) found ≡ h x → put_changes seal cs ≡ filter_map h (take i xs) → put_changes seal after ≡ filter_map h (take (i + 1) xs)
+answered_more seal h xs i x cs after c found below item there pushed is so_far =
+    ap (put_changes seal) pushed ∙ map-append (put_change seal) cs (c ∷ []) ∙ ap (λ l. l ++ put_change seal c ∷ []) so_far
+    ∙ ap (λ (o : Option Changed). filter_map h (take i xs) ++ cons_option o []) (sym (ap (option_map (put_change seal)) there) ∙ is)
     ∙ sym (ap (filter_map h) (take_more xs i x below ∙ ap (λ y. take i xs ++ y ∷ []) (sym item)) ∙ filter_map-append h (take i xs) (x ∷ []))
 
-pub answered_none : {X : Type 0} (h : X → Option Changed) (xs : List X) (i : ℕ) (x : X) (cs after : List EntryChange) (found : Option EntryChange) → i < length xs → x ≡ get_or xs i x → found ≡ None → after ≡ cs
-    → option_map put_change found ≡ h x → put_changes cs ≡ filter_map h (take i xs) → put_changes after ≡ filter_map h (take (i + 1) xs)
-answered_none h xs i x cs after found below item there same is so_far =
-    ap put_changes same ∙ so_far ∙ sym (append-nil (filter_map h (take i xs)))
-    ∙ ap (λ (o : Option Changed). filter_map h (take i xs) ++ cons_option o []) (sym (ap (option_map put_change) there) ∙ is)
+pub answered_none : {X : Type 0} (seal : Seal) (h : X → Option Changed) (xs : List X) (i : ℕ) (x : X) (cs after : List KeyedEntry) (found : Option KeyedEntry) → i < length xs → x ≡ get_or xs i x → found ≡ None → after ≡ cs
+    → option_map (put_change seal) found ≡ h x → put_changes seal cs ≡ filter_map h (take i xs) → put_changes seal after ≡ filter_map h (take (i + 1) xs)
+answered_none seal h xs i x cs after found below item there same is so_far =
+    ap (put_changes seal) same ∙ so_far ∙ sym (append-nil (filter_map h (take i xs)))
+    ∙ ap (λ (o : Option Changed). filter_map h (take i xs) ++ cons_option o []) (sym (ap (option_map (put_change seal)) there) ∙ is)
     ∙ sym (ap (filter_map h) (take_more xs i x below ∙ ap (λ y. take i xs ++ y ∷ []) (sym item)) ∙ filter_map-append h (take i xs) (x ∷ []))
 
 -- the keys of some writes, by their answers

@@ -2,6 +2,8 @@
 use Rattle.std.proofs.Common.{◌≡◌, ◌∙◌, ◌<◌, ℕ, List, [], ◌++◌, IsTrue, append-nil, refl, sym, ap, subst}
 use Rattle.std.specs.List.{All}
 use Rattle.std.proofs.lemmas.List.Elements.{All-nil}
+use Rattle.value_model.specs.declared.document.Seal.{Seal}
+use Rattle.outcome_codec.specs.declared.parts.KeyedEntry.{KeyedEntry}
 use Rattle.overlays.specs.Table as overlay
 use Rattle.overlays.specs.declared.overlays.Overlay.{Overlay}
 use Rattle.remote_documents.specs.Table as remote
@@ -9,7 +11,6 @@ use Rattle.durable_state.specs.Cached.{Changed, dropped}
 use Rattle.durable_state.specs.Ready.{HasRoomFor, HavePlaces, IsReady, LaysAnew, changes_of, moved, put_changes}
 use Rattle.durable_state.specs.State.{most_commits}
 use Rattle.durable_state.specs.Tables.{Tables, state_in}
-use Rattle.durable_state.specs.declared.ready.EntryChange.{EntryChange}
 use Rattle.durable_state.specs.declared.ready.Ready.{Ready}
 use Rattle.durable_state.specs.declared.ready.Step.{Step}
 use Rattle.durable_state.proofs.Anew.{lays_as, lays_nothing}
@@ -26,20 +27,20 @@ make_ready t ready step cs lifted left step_is changes_are lifted_are room entri
 }
 
 -- nothing is put, and so much is dropped
-pub only_dropped : (cs : List EntryChange) (ds keys : List (List (List ℕ))) → cs ≡ [] → ds ≡ keys → put_changes cs ++ dropped ds ≡ dropped keys
-only_dropped cs ds keys none is = ap (λ (x : List EntryChange). put_changes x ++ dropped ds) none ∙ ap dropped is
+pub only_dropped : (seal : Seal) (cs : List KeyedEntry) (ds keys : List (List (List ℕ))) → cs ≡ [] → ds ≡ keys → put_changes seal cs ++ dropped ds ≡ dropped keys
+only_dropped seal cs ds keys none is = ap (λ (x : List KeyedEntry). put_changes seal x ++ dropped ds) none ∙ ap dropped is
 
 -- nothing is dropped
-pub only_put : (cs : List EntryChange) (ds : List (List (List ℕ))) → ds ≡ [] → put_changes cs ++ dropped ds ≡ put_changes cs
-only_put cs ds none = ap (λ (ks : List (List (List ℕ))). put_changes cs ++ dropped ks) none ∙ append-nil (put_changes cs)
+pub only_put : (seal : Seal) (cs : List KeyedEntry) (ds : List (List (List ℕ))) → ds ≡ [] → put_changes seal cs ++ dropped ds ≡ put_changes seal cs
+only_put seal cs ds none = ap (λ (ks : List (List (List ℕ))). put_changes seal cs ++ dropped ks) none ∙ append-nil (put_changes seal cs)
 
 -- a step that changes no entry and no overlay
 pub ready_alone : (t : Tables) (ready : Ready) (step : Step) → t.number < most_commits → (moved (state_in t) step []).batches ≡ (state_in t).batches → ready.step ≡ step → ready.changes.items ≡ [] → ready.dropped ≡ [] → ready.overlays.items ≡ [] → ready.lifted.items ≡ []
     → HasRoomFor t.pending t.targets step → IsReady t ready
 ready_alone t ready step left batches step_is none_put none_dropped none_laid none_lifted room =
-    make_ready t ready step [] [] left step_is (only_dropped ready.changes.items ready.dropped [] none_put none_dropped) none_lifted room
+    make_ready t ready step [] [] left step_is (only_dropped ready.seal ready.changes.items ready.dropped [] none_put none_dropped) none_lifted room
     (subst (HavePlaces t.entries) (sym none_put) (All-nil _)) (subst (All (λ (o : Overlay). IsTrue (overlay.has_place t.overlays o.key))) (sym none_laid) (All-nil _))
     (subst (λ (os : List Overlay). LaysAnew (state_in t) (moved (state_in t) step []) os []) (sym none_laid) (lays_nothing (state_in t) (moved (state_in t) step []) batches refl))
 
-pub none_placed : (table : remote.Table) (changes : List EntryChange) → changes ≡ [] → HavePlaces table changes
+pub none_placed : (table : remote.Table) (changes : List KeyedEntry) → changes ≡ [] → HavePlaces table changes
 none_placed table changes none = subst (HavePlaces table) (sym none) (All-nil _)

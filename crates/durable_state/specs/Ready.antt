@@ -4,8 +4,10 @@ use Rattle.std.specs.List.{All, Contains}
 use Rattle.document_keys.specs.KeySet.{is_key}
 use Rattle.value_model.specs.declared.document.Document.{Document}
 use Rattle.value_model.specs.declared.document.Entry.{Entry}
+use Rattle.value_model.specs.declared.document.Seal.{Seal}
 use Rattle.value_model.specs.declared.timestamp.Timestamp.{Timestamp}
 use Rattle.mutations.specs.declared.batch.Batch.{Batch}
+use Rattle.outcome_codec.specs.declared.parts.KeyedEntry.{KeyedEntry}
 use Rattle.mutation_queue.specs.Queue as queue
 use Rattle.overlays.specs.LocalDocument.{base_of, local_document}
 use Rattle.overlays.specs.Table as overlay
@@ -19,7 +21,6 @@ use Rattle.durable_state.specs.Documents.{document_of, is_among, is_named}
 use Rattle.durable_state.specs.Rows.{HasRow, blanked, told}
 use Rattle.durable_state.specs.State.{State, most_commits}
 use Rattle.durable_state.specs.Tables.{Tables, overlay_for, state_in}
-use Rattle.durable_state.specs.declared.ready.EntryChange.{EntryChange}
 use Rattle.durable_state.specs.declared.ready.Ready.{Ready}
 use Rattle.durable_state.specs.declared.ready.Step.{Step}
 use Rattle.durable_state.specs.declared.relaying.Relaid.{Relaid}
@@ -46,16 +47,17 @@ rows_by rows (Tell at told_rows) = told at told_rows.items rows
 rows_by rows (Blank ids) = blanked ids.items rows
 rows_by rows _ = rows
 
--- an entry that is put, as a change of the cache
-abbrev pub put_change : EntryChange → Changed
-put_change c = (c.key, Some (c.entry, c.seal))
+-- an entry that is put with this seal, as a change of the cache
+abbrev pub put_change : Seal → KeyedEntry → Changed
+put_change seal c = (c.key, Some (c.entry, seal))
 
-abbrev pub put_changes : List EntryChange → List Changed
-put_changes changes = each put_change changes
+-- entries that are put with one seal
+abbrev pub put_changes : Seal → List KeyedEntry → List Changed
+put_changes seal changes = each (put_change seal) changes
 
 -- all that it changes in the cache
 abbrev pub changes_of : Ready → List Changed
-changes_of ready = put_changes ready.changes.items ++ dropped ready.dropped
+changes_of ready = put_changes ready.seal ready.changes.items ++ dropped ready.dropped
 
 -- the state after the step and the changes
 abbrev pub moved : State → Step → List Changed → State
@@ -83,12 +85,12 @@ HasRoomFor pending targets (Tell at rows) = All (λ row. HasRow targets.rows row
 HasRoomFor pending targets (Blank ids) = All (HasRow targets.rows) ids.items
 
 -- each entry that is changed has a place
-abbrev pub HavePlaces : remote.Table → List EntryChange → Type 0
-HavePlaces table changes = All (λ (c : EntryChange). IsTrue (remote.has_place table c.key)) changes
+abbrev pub HavePlaces : remote.Table → List KeyedEntry → Type 0
+HavePlaces table changes = All (λ (c : KeyedEntry). IsTrue (remote.has_place table c.key)) changes
 
 -- each change is one of these keys
-abbrev pub AreOf : List (List (List ℕ)) → List EntryChange → Type 0
-AreOf keys changes = All (λ (c : EntryChange). Contains keys c.key) changes
+abbrev pub AreOf : List (List (List ℕ)) → List KeyedEntry → Type 0
+AreOf keys changes = All (λ (c : KeyedEntry). Contains keys c.key) changes
 
 -- ---- the overlays
 
@@ -124,8 +126,8 @@ abbrev pub HasDocument : (List (List ℕ) → Option Document) → Overlay → T
 HasDocument document o = o.document ≡ document o.key
 
 -- its document is that of the batches over the new entry of a change
-pub record IsOver (batches : List Batch) (changes : List EntryChange) (o : Overlay) : Type 0 where
-  pub change : EntryChange
+pub record IsOver (batches : List Batch) (changes : List KeyedEntry) (o : Overlay) : Type 0 where
+  pub change : KeyedEntry
   pub one : Contains changes change
   pub of_key : o.key ≡ change.key
   pub document : o.document ≡ local_document change.key (base_of (Some change.entry)) batches

@@ -10,16 +10,16 @@ ghost use Rattle.target_cache.specs.Cache.{blank as blank_row, id_at};
 ghost use Rattle.target_cache.specs.Kept.{IsNew};
 ghost use Rattle.durable_state.specs.Cached.{dropped, with_all};
 
-use crate::ready::{EntryChange, Step};
+use crate::ready::Step;
 use document_keys::{DocumentKey, KeySet};
 use mutation_queue::MutationQueue;
-use outcome_codec::PointRow;
+use outcome_codec::{KeyedEntry, PointRow};
 use overlays::{Overlay, Overlays};
 use queries::Target;
 use remote_documents::RemoteDocuments;
 use std::alloc::Global;
 use target_cache::TargetCache;
-use value_model::Timestamp;
+use value_model::{Seal, Timestamp};
 
 impl Step {
     /// The id of the next batch behind it.
@@ -44,15 +44,16 @@ impl Step {
     }
 }
 
-/// Puts the entries in place of their keys' old ones, each of which has a place.
-pub(crate) fn put(entries: &mut RemoteDocuments, changes: Vec<EntryChange>)
+/// Puts the entries, each with the seal, in place of their keys' old ones, each of which has a place.
+pub(crate) fn put(entries: &mut RemoteDocuments, changes: Vec<KeyedEntry>, seal: Seal)
     requires places { HavePlaces entries.old changes.items }
     requires map { IsMapOf entries.old }
-    ensures is { entries_in entries.new ≡ with_all (entries_in entries.old) (put_changes changes.items) }
+    ensures is { entries_in entries.new
+        ≡ with_all (entries_in entries.old) (put_changes seal changes.items) }
     ensures map { IsMapOf entries.new }
 {
     for change in changes {
-        let EntryChange { key, entry, seal } = change;
+        let KeyedEntry { key, entry } = change;
         entries.set(&key, entry, seal);
         entries.is_map();
     }

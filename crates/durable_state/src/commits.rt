@@ -11,8 +11,8 @@ ghost use Rattle.durable_state.specs.Tables.{state_in};
 ghost use Rattle.durable_state.specs.declared.ready.Step.TheVariants.{Settle};
 
 use crate::durable_state::DurableState;
-use crate::ready::{EntryChange, Ready, Step};
-use crate::readying::{Answer, answered, seen};
+use crate::ready::{Ready, Step};
+use crate::readying::{Answer, answered, make_places};
 use crate::relaying::{lay_batch, lay_behind, lay_changed, lay_dropped};
 use document_keys::{KeySet, NoMemory, Sequence};
 use mutations::{Batch, WriteResults};
@@ -20,7 +20,7 @@ use outcome_codec::{KeyedEntry, PointRow};
 use queries::Target;
 use record_codec::Commit;
 use std::alloc::Global;
-use value_model::Timestamp;
+use value_model::{Seal, Timestamp};
 
 impl DurableState {
     /// Makes ready that the batch joins the pending ones.
@@ -39,11 +39,12 @@ impl DurableState {
         Ok(ready)
     }
 
-    /// Makes ready that the first pending batch leaves, and the entries change so.
+    /// Makes ready that the first pending batch leaves, and the entries change so, each with the seal.
     fn ready_settling(
         &mut self,
         alloc: Global,
-        changes: Vec<EntryChange>,
+        changes: Vec<KeyedEntry>,
+        seal: Seal,
     ) -> Result<Ready, NoMemory>
         requires number { self.old.number < most_commits }
         requires places { HavePlaces self.old.entries changes.items }
@@ -51,7 +52,7 @@ impl DurableState {
         ensures same { state_in self.new ≡ state_in self.old }
         ensures ready { IfOk result (IsReady self.new) }
         ensures moves { IfOk result (λ ready. state_by (state_in self.old) ready
-            ≡ moved (state_in self.old) Settle (put_changes changes.items)) }
+            ≡ moved (state_in self.old) Settle (put_changes seal changes.items)) }
     {
         let relaid = lay_behind(
             alloc,
@@ -62,6 +63,7 @@ impl DurableState {
         )?;
         let mut ready = Ready::alone(alloc, Step::Settle);
         ready.changes = changes;
+        ready.seal = seal;
         ready.overlays = relaid.laid;
         ready.lifted = relaid.lifted;
         Ok(ready)
@@ -89,7 +91,7 @@ impl DurableState {
             at,
         };
         let changes = answered(alloc, &mut self.entries, &answer)?;
-        self.ready_settling(alloc, changes)
+        self.ready_settling(alloc, changes, Seal::Committed(at))
     }
 
     /// Makes ready that the target gets the next id.
@@ -119,10 +121,12 @@ impl DurableState {
         ensures moves { IfOk result (λ ready. state_by (state_in self.old) ready
             ≡ committed (state_in self.old) (commits.Point at entries rows)) }
     {
-        let changes = seen(alloc, &mut self.entries, entries.into_vec())?;
+        let changes = entries.into_vec();
+        make_places(&mut self.entries, changes.as_slice())?;
         let overlays = lay_changed(alloc, &mut self.overlays, &self.pending, changes.as_slice())?;
         let mut ready = Ready::alone(alloc, Step::Tell(at, rows.into_vec()));
         ready.changes = changes;
+        ready.seal = Seal::Seen;
         ready.overlays = overlays;
         Ok(ready)
     }
@@ -166,7 +170,7 @@ impl DurableState {
                 at,
                 results,
             } => self.ready_answer(alloc, at, &results),
-            Commit::Reject { batch: _ } => self.ready_settling(alloc, Vec::new(alloc)),
+            Commit::Reject { batch: _ } => self.ready_settling(alloc, Vec::new(alloc), Seal::Seen),
             Commit::Allocate { id: _, target } => self.ready_target(alloc, target),
             Commit::Point { at, entries, rows } => self.ready_point(alloc, at, entries, rows),
             Commit::Reset { ids } => Ok(Ready::alone(alloc, Step::Blank(ids.into_vec()))),

@@ -152,6 +152,7 @@ impl DurableState {
         let Ready {
             step,
             changes,
+            seal,
             dropped,
             overlays,
             lifted,
@@ -160,7 +161,7 @@ impl DurableState {
         self.next_batch = step.next_batch(self.next_batch);
         self.last_read = step.last_read(self.last_read);
         take_step(self.alloc, &mut self.pending, &mut self.targets, step);
-        put(&mut self.entries, changes);
+        put(&mut self.entries, changes, seal);
         forget(&mut self.entries, &dropped);
         lay(&mut self.overlays, overlays);
         lift(&mut self.overlays, lifted);

@@ -20,4 +20,4 @@ mod relaying;
 
 pub use durable_state::{DurableState, MOST_COMMITS};
 pub use laws::{documents_are_local, entries_rise};
-pub use ready::{EntryChange, Ready, Step};
+pub use ready::{Ready, Step};

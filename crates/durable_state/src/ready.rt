@@ -2,19 +2,11 @@ ghost use Rattle.std.specs.Prelude.{◌≡◌, []};
 
 use document_keys::{DocumentKey, KeySet};
 use mutations::Batch;
-use outcome_codec::PointRow;
+use outcome_codec::{KeyedEntry, PointRow};
 use overlays::Overlay;
 use queries::Target;
 use std::alloc::Global;
-use value_model::{Entry, Seal, Timestamp};
-
-/// The new entry of a key, with its seal.
-#[derive(Debug, Drop)]
-pub struct EntryChange {
-    pub key: DocumentKey,
-    pub entry: Entry,
-    pub seal: Seal,
-}
+use value_model::{Seal, Timestamp};
 
 /// What a commit does beside the entries that it changes.
 #[derive(Debug, Drop)]
@@ -35,7 +27,10 @@ pub enum Step {
 #[derive(Debug, Drop)]
 pub struct Ready {
     pub(crate) step: Step,
-    pub(crate) changes: Vec<EntryChange>,
+    /// The new entries of keys.
+    pub(crate) changes: Vec<KeyedEntry>,
+    /// The seal of each of them.
+    pub(crate) seal: Seal,
     /// The keys that lose their entries.
     pub(crate) dropped: KeySet,
     /// The overlays of keys that pending writes name then.
@@ -56,6 +51,7 @@ impl Ready {
         Ready {
             step,
             changes: Vec::new(alloc),
+            seal: Seal::Seen,
             dropped: KeySet::new(alloc),
             overlays: Vec::new(alloc),
             lifted: Vec::new(alloc),

@@ -2,14 +2,15 @@
 
 ghost use Rattle.std.specs.Prelude.{◌≡◌, IsTrue, IfOk, IfSome, OnOk, option_map};
 ghost use Rattle.std.specs.List.{All};
+ghost use Rattle.value_model.specs.declared.document.Seal.{Seal};
+ghost use Rattle.value_model.specs.declared.document.Seal.TheVariants.{Committed};
 ghost use Rattle.mutations.specs.Effect.{IsOfFieldsOnly};
 ghost use Rattle.mutations.specs.Results.{FitsWrites};
 ghost use Rattle.remote_documents.specs.Table as remote;
 ghost use Rattle.remote_documents.specs.Table.{IsMapOf, entries_in};
-ghost use Rattle.durable_state.specs.Cached.{acknowledged_keys, answered_by, cached, seen_at, with_all};
+ghost use Rattle.durable_state.specs.Cached.{acknowledged_keys, answered_by, cached, with_all};
 ghost use Rattle.durable_state.specs.Ready.{HavePlaces, put_change, put_changes};
 
-use crate::ready::EntryChange;
 use acknowledgements::acknowledged_entry;
 use document_keys::{DocumentKey, NoMemory};
 use mutation_queue::written_key;
@@ -17,7 +18,7 @@ use mutations::{Write, WriteResult};
 use outcome_codec::KeyedEntry;
 use remote_documents::RemoteDocuments;
 use std::alloc::Global;
-use value_model::{Entry, Seal, Timestamp};
+use value_model::{Entry, Timestamp};
 
 /// The answer to a batch: its writes, with their results, and the time of the commit.
 #[derive(Drop)]
@@ -38,15 +39,15 @@ pub(crate) fn known<'a>(entries: &'a RemoteDocuments, key: &DocumentKey) -> Opti
     }
 }
 
-/// The entry of the key after the changes, without its seal.
+/// The entry of the key after the changes, without its seal, whatever seal the changes have.
 pub(crate) fn known_after<'a>(
     entries: &'a RemoteDocuments,
-    changes: &'a [EntryChange],
+    changes: &'a [KeyedEntry],
     key: &DocumentKey,
 ) -> Option<&'a Entry>
     requires { IsMapOf entries.now }
-    ensures { option_map (λ e. e.now) result
-        ≡ cached (with_all (entries_in entries.now) (put_changes changes.now)) key.now }
+    ensures { (seal : Seal) → option_map (λ e. e.now) result
+        ≡ cached (with_all (entries_in entries.now) (put_changes seal changes.now)) key.now }
 {
     let mut found = known(entries, key);
     for change in changes {
@@ -82,15 +83,16 @@ fn answered_key(
     entries: &mut RemoteDocuments,
     key: &DocumentKey,
     answer: &Answer,
-) -> Result<Option<EntryChange>, NoMemory>
+) -> Result<Option<KeyedEntry>, NoMemory>
     requires paths { All IsOfFieldsOnly answer.now.writes.now }
     requires fits { FitsWrites answer.now.writes.now answer.now.results.now }
     requires map { IsMapOf entries.old }
     ensures same { entries_in entries.new ≡ entries_in entries.old }
     ensures map { IsMapOf entries.new }
     ensures places { remote.KeepsPlaces entries.old entries.new }
-    ensures change { IfOk result (λ found. option_map put_change found ≡ answered_by
-        (entries_in entries.old) answer.now.writes.now answer.now.results.now answer.now.at key.now) }
+    ensures change { IfOk result (λ found. option_map (put_change (Committed answer.now.at)) found
+        ≡ answered_by (entries_in entries.old) answer.now.writes.now answer.now.results.now
+        answer.now.at key.now) }
     ensures place { IfOk result (λ found. IfSome found (λ c. IsTrue (remote.has_place entries.new c.key))) }
 {
     let entry = known(entries, key);
@@ -100,8 +102,7 @@ fn answered_key(
     };
     make_place(entries, key)?;
     let key = key.copy(alloc)?;
-    let seal = Seal::Committed(answer.at);
-    Ok(Some(EntryChange { key, entry, seal }))
+    Ok(Some(KeyedEntry { key, entry }))
 }
 
 /// The entries that the answer leaves of the keys that its writes name, and a place for each.
@@ -112,14 +113,15 @@ pub(crate) fn answered(
     alloc: Global,
     entries: &mut RemoteDocuments,
     answer: &Answer,
-) -> Result<Vec<EntryChange>, NoMemory>
+) -> Result<Vec<KeyedEntry>, NoMemory>
     requires paths { All IsOfFieldsOnly answer.now.writes.now }
     requires fits { FitsWrites answer.now.writes.now answer.now.results.now }
     requires map { IsMapOf entries.old }
     ensures same { entries_in entries.new ≡ entries_in entries.old }
     ensures map { IsMapOf entries.new }
-    ensures changes { IfOk result (λ changes. put_changes changes.items ≡ acknowledged_keys
-        (entries_in entries.old) answer.now.writes.now answer.now.results.now answer.now.at) }
+    ensures changes { IfOk result (λ changes. put_changes (Committed answer.now.at) changes.items
+        ≡ acknowledged_keys (entries_in entries.old) answer.now.writes.now answer.now.results.now
+        answer.now.at) }
     ensures places { IfOk result (λ changes. HavePlaces entries.new changes.items) }
 {
     let mut changes = Vec::with_capacity(alloc, answer.writes.len())?;
@@ -132,27 +134,21 @@ pub(crate) fn answered(
     Ok(changes)
 }
 
-/// The entries of a point, sealed as seen, and a place for each.
+/// Makes a place for each of the changes. No entry changes.
 ///
 /// # Errors
 /// `NoMemory`
-pub(crate) fn seen(
-    alloc: Global,
+pub(crate) fn make_places(
     entries: &mut RemoteDocuments,
-    told: Vec<KeyedEntry>,
-) -> Result<Vec<EntryChange>, NoMemory>
+    changes: &[KeyedEntry],
+) -> Result<(), NoMemory>
     requires { IsMapOf entries.old }
     ensures same { entries_in entries.new ≡ entries_in entries.old }
     ensures map { IsMapOf entries.new }
-    ensures changes { IfOk result (λ changes. put_changes changes.items ≡ seen_at told.items) }
-    ensures places { IfOk result (λ changes. HavePlaces entries.new changes.items) }
+    ensures places { OnOk result (HavePlaces entries.new changes.now) }
 {
-    let mut changes = Vec::with_capacity(alloc, told.len())?;
-    for keyed in told {
-        let KeyedEntry { key, entry } = keyed;
-        make_place(entries, &key)?;
-        let seal = Seal::Seen;
-        changes.push(EntryChange { key, entry, seal })?;
+    for change in changes {
+        make_place(entries, &change.key)?;
     }
-    Ok(changes)
+    Ok(())
 }

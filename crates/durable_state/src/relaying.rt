@@ -2,6 +2,7 @@
 
 ghost use Rattle.std.specs.Prelude.{◌≡◌, drop, not, map as each, None, IsTrue, IfOk, OnOk, option_map};
 ghost use Rattle.std.specs.List.{All, filter};
+ghost use Rattle.value_model.specs.declared.document.Seal.{Seal};
 ghost use Rattle.mutation_queue.specs.Queue.{keys_of, named_keys};
 ghost use Rattle.overlays.specs.LocalDocument.{after_batch, base_of, local_document};
 ghost use Rattle.overlays.specs.Table.{IsBatchOfFields, KeepsPlaces, SameOverlays, has_place, shown};
@@ -10,11 +11,11 @@ ghost use Rattle.durable_state.specs.Cached.{cached, first_writes, with_all};
 ghost use Rattle.durable_state.specs.Documents.{is_among};
 ghost use Rattle.durable_state.specs.Ready.{HasDocument, IsOver, LaysKeys, Settles, put_changes};
 
-use crate::ready::EntryChange;
 use crate::readying::{known, known_after};
 use document_keys::{DocumentKey, KeySet, NoMemory};
 use mutation_queue::{MutationQueue, written_key};
 use mutations::Batch;
+use outcome_codec::KeyedEntry;
 use overlays::{Overlay, Overlays};
 use remote_documents::RemoteDocuments;
 use std::alloc::Global;
@@ -100,7 +101,7 @@ pub(crate) fn lay_changed(
     alloc: Global,
     overlays: &mut Overlays,
     pending: &MutationQueue,
-    changes: &[EntryChange],
+    changes: &[KeyedEntry],
 ) -> Result<Vec<Overlay>, NoMemory>
     requires { All IsBatchOfFields pending.now.batches }
     ensures same { SameOverlays overlays.old overlays.new }
@@ -191,15 +192,17 @@ pub(crate) fn lay_behind(
     overlays: &mut Overlays,
     pending: &MutationQueue,
     entries: &RemoteDocuments,
-    changes: &[EntryChange],
+    changes: &[KeyedEntry],
 ) -> Result<Relaid, NoMemory>
     requires fields { All IsBatchOfFields pending.now.batches }
     requires map { IsMapOf entries.now }
     ensures same { SameOverlays overlays.old overlays.new }
-    ensures laid { IfOk result (λ relaid. LaysKeys overlays.new (HasDocument (λ key. local_document key (base_of
-        (cached (with_all (entries_in entries.now) (put_changes changes.now)) key)) (drop 1 pending.now.batches)))
-        (filter (is_among (named_keys (drop 1 pending.now.batches))) (keys_of (first_writes pending.now.batches)))
-        relaid.laid.items) }
+    ensures laid { IfOk result (λ relaid. (seal : Seal) → LaysKeys overlays.new
+        (HasDocument (λ key. local_document key
+        (base_of (cached (with_all (entries_in entries.now) (put_changes seal changes.now)) key))
+        (drop 1 pending.now.batches)))
+        (filter (is_among (named_keys (drop 1 pending.now.batches)))
+        (keys_of (first_writes pending.now.batches))) relaid.laid.items) }
     ensures lifted { IfOk result (λ relaid. relaid.lifted.items ≡
         filter (λ key. not (is_among (named_keys (drop 1 pending.now.batches)) key))
         (keys_of (first_writes pending.now.batches))) }

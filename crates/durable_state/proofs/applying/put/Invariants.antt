@@ -8,7 +8,7 @@ use Rattle.durable_state.proofs.applying.put.Given as goal
 abbrev pub invariant-loop-change : goal.invariant-loop-change
 invariant-loop-change l = record {
   split : l.fn.changes.items ≡ l.yielded ++ into_iter_items l.change-iterator;
-  is : entries_in l.entries ≡ with_all (entries_in l.initial.entries) (put_changes l.yielded);
+  is : entries_in l.entries ≡ with_all (entries_in l.initial.entries) (put_changes l.seal l.yielded);
   map : IsMapOf l.entries;
   places : (q : List (List ℕ)) → IsTrue (has_place l.initial.entries q) → IsTrue (has_place l.entries q);
 }

@@ -1,4 +1,5 @@
 use Rattle.std.proofs.Common.{◌∙◌, take, ◌+◌, sym, ap, subst}
+use Rattle.value_model.specs.declared.document.Seal.TheVariants.{Committed}
 use Rattle.mutations.specs.declared.write.Write.{Write}
 use Rattle.mutation_queue.specs.Queue.{written_key}
 use Rattle.remote_documents.specs.Table as remote
@@ -20,8 +21,8 @@ loop-write-preserved c =
       same = c.in_ok-found.ensures.same ∙ c.loop-write.invariant.same;
       map = c.in_ok-found.ensures.map;
       changes = elim c.match-found.branch [
-        | in-Some+in_ok-push w ↦ answered_more h writes i c.write-item.result c.loop-write.changes.items c.match-found.changes.items w.in-Some.change c.in_ok-found.found c.loop-write-test.true c.write-item.is w.in-Some.is (ap (λ v. v.items) w.changes-is ∙ w.in_ok-push.ensures.items) is so_far ∙ sym (filter_keys by (take (i + 1) writes))
-        | in_default w ↦ answered_none h writes i c.write-item.result c.loop-write.changes.items c.match-found.changes.items c.in_ok-found.found c.loop-write-test.true c.write-item.is w.in_default.is (ap (λ v. v.items) w.changes-is) is so_far ∙ sym (filter_keys by (take (i + 1) writes))
+        | in-Some+in_ok-push w ↦ answered_more (Committed c.args.answer.now.at) h writes i c.write-item.result c.loop-write.changes.items c.match-found.changes.items w.in-Some.change c.in_ok-found.found c.loop-write-test.true c.write-item.is w.in-Some.is (ap (λ v. v.items) w.changes-is ∙ w.in_ok-push.ensures.items) is so_far ∙ sym (filter_keys by (take (i + 1) writes))
+        | in_default w ↦ answered_none (Committed c.args.answer.now.at) h writes i c.write-item.result c.loop-write.changes.items c.match-found.changes.items c.in_ok-found.found c.loop-write-test.true c.write-item.is w.in_default.is (ap (λ v. v.items) w.changes-is) is so_far ∙ sym (filter_keys by (take (i + 1) writes))
       ];
       places = elim c.match-found.branch [
         | in-Some+in_ok-push w ↦ places_more c.loop-write.entries c.answered_key.new.entries c.loop-write.changes.items c.match-found.changes.items w.in-Some.change (ap (λ v. v.items) w.changes-is ∙ w.in_ok-push.ensures.items) c.in_ok-found.ensures.places c.loop-write.invariant.places (rw w.in-Some.is at c.in_ok-found.ensures.place)

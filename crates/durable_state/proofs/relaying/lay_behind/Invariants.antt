@@ -1,5 +1,6 @@
 use Rattle.std.proofs.Common.{◌≡◌, drop, not, take}
 use Rattle.std.specs.List.{filter}
+use Rattle.value_model.specs.declared.document.Seal.{Seal}
 use Rattle.mutation_queue.specs.Queue.{keys_of, named_keys}
 use Rattle.overlays.specs.LocalDocument.{base_of, local_document}
 use Rattle.overlays.specs.Table.{SameOverlays}
@@ -12,7 +13,7 @@ use Rattle.durable_state.proofs.relaying.lay_behind.Given as goal
 abbrev pub invariant-loop-write : goal.invariant-loop-write
 invariant-loop-write l = record {
   same : SameOverlays l.initial.overlays l.overlays;
-  laid : LaysKeys l.overlays (HasDocument (λ key. local_document key (base_of (cached (with_all (entries_in l.entries) (put_changes l.changes)) key)) (drop 1 l.pending.batches)))
+  laid : (seal : Seal) → LaysKeys l.overlays (HasDocument (λ key. local_document key (base_of (cached (with_all (entries_in l.entries) (put_changes seal l.changes)) key)) (drop 1 l.pending.batches)))
       (filter (is_among (named_keys (drop 1 l.pending.batches))) (keys_of (take l.write-index (first_writes l.pending.batches)))) l.relaid.laid.items;
   lifted : l.relaid.lifted.items ≡ filter (λ key. not (is_among (named_keys (drop 1 l.pending.batches)) key)) (keys_of (take l.write-index (first_writes l.pending.batches)));
 }

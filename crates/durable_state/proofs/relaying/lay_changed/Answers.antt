@@ -1,10 +1,10 @@
 use Rattle.std.proofs.Common.{◌∙◌, List, Some, refl, sym, ap}
 use Rattle.mutation_queue.specs.Queue.{named_keys}
 use Rattle.mutations.specs.declared.batch.Batch.{Batch}
+use Rattle.outcome_codec.specs.declared.parts.KeyedEntry.{KeyedEntry}
 use Rattle.overlays.specs.LocalDocument.{base_of, local_document}
 use Rattle.durable_state.specs.Documents.{is_among}
 use Rattle.durable_state.specs.Ready.{IsOver}
-use Rattle.durable_state.specs.declared.ready.EntryChange.{EntryChange}
 use Rattle.durable_state.proofs.Relaid.{laid_more, laid_same, passes_more, passes_still, told_among}
 use Rattle.durable_state.proofs.relaying.lay_changed.Goals as goal
 use Rattle.durable_state.proofs.relaying.lay_changed.Goals.{then-names+in_ok-overlay+in_ok-push, else-names}
@@ -23,7 +23,7 @@ loop-change-preserved c =
     let batches = c.args.pending.now.batches in
     let named = is_among (named_keys batches) in
     let told = told_among c.names.result (named_keys batches) change.key c.names.ensures in
-    let key_of = λ (x : EntryChange). x.key in
+    let key_of = λ (x : KeyedEntry). x.key in
     elim c.if-names.branch [
       | then-names+in_ok-overlay+in_ok-push w ↦
           let o = w.in_ok-overlay.field-0 in

@@ -18,6 +18,6 @@ lay-requires c = subst (λ (t : Tables). All (λ (o : Overlay). IsTrue (overlay.
 pub invariant_of-self : goal.invariant_of-self
 invariant_of-self c =
     let is_ready = subst (λ (t : Tables). IsReady t c.args.ready) (sym c.self.view_is) c.requires in
-    let entries = c.forget.ensures.is ∙ ap (λ m. with_all m (dropped c.args.ready.dropped)) c.put.ensures.is ∙ sym (all_append _ (put_changes c.args.ready.changes.items) (dropped c.args.ready.dropped)) in
+    let entries = c.forget.ensures.is ∙ ap (λ m. with_all m (dropped c.args.ready.dropped)) c.put.ensures.is ∙ sym (all_append _ (put_changes c.args.ready.seal c.args.ready.changes.items) (dropped c.args.ready.dropped)) in
     kept_by _ c.args.ready _ c.self.invariant is_ready (rw (c.next_batch-self-inside.ensures, c.last_read-self-inside.ensures, c.take_step.ensures.batches, c.take_step.ensures.rows, entries) refl) c.forget.ensures.map
     (λ q. c.lift.ensures q ∙ ap (λ f. lift_over q f c.args.ready.lifted.items) (c.lay.ensures q))

@@ -21,6 +21,6 @@ returns-clause-ready c =
     let number = subst (λ (t : Tables). t.number < most_commits) (sym c.self.view_is) c.requires.number in
     let places = subst (λ (t : Tables). HavePlaces t.entries c.args.changes.items) (sym c.self.view_is) c.requires.places in
     let of = subst (λ (t : Tables). AreOf (keys_of (first_writes t.pending.batches)) c.args.changes.items) (sym c.self.view_is) c.requires.keys in
-    let laid = rw c.as_slice.ensures.value at c.in_ok-relaid.ensures.laid in
-    make_ready _ _ Settle (put_changes c.args.changes.items) _ number c.alone-ready.ensures.step (only_put c.args.changes.items c.alone-ready.result.dropped c.alone-ready.ensures.dropped) refl tt places laid.places
-    (lays_settled _ c.args.changes.items c.in_ok-relaid.relaid.laid.items c.in_ok-relaid.relaid.lifted.items of c.lay_behind.new.overlays laid c.in_ok-relaid.ensures.lifted)
+    let laid = rw c.as_slice.ensures.value at (c.in_ok-relaid.ensures.laid c.args.seal) in
+    make_ready _ _ Settle (put_changes c.args.seal c.args.changes.items) _ number c.alone-ready.ensures.step (only_put c.args.seal c.args.changes.items c.alone-ready.result.dropped c.alone-ready.ensures.dropped) refl tt places laid.places
+    (lays_settled _ c.args.seal c.args.changes.items c.in_ok-relaid.relaid.laid.items c.in_ok-relaid.relaid.lifted.items of c.lay_behind.new.overlays laid c.in_ok-relaid.ensures.lifted)
