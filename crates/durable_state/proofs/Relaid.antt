@@ -1,9 +1,8 @@
 -- overlays worked out one by one
-use Rattle.std.proofs.Common.{◌≡◌, ◌∙◌, ◌<◌, ◌+◌, ◌-◌, ◌↔◌, ℕ, suc, Bool, true, false, cond, not, IsTrue, List, [], ◌∷◌, ◌++◌, map, take, drop, length, get_or, Option, Some, append-nil, refl, sym, ap, subst, arith}
+use Rattle.std.proofs.Common.{◌≡◌, ◌∙◌, ◌<◌, ◌+◌, ◌↔◌, ℕ, Bool, true, false, cond, not, IsTrue, List, [], ◌∷◌, ◌++◌, map, take, length, get_or, Option, Some, append-nil, refl, sym, ap, subst}
 use Rattle.std.specs.List.{Contains, filter, slice_get}
 use Rattle.std.proofs.lemmas.Option.{same_Some}
 use Rattle.durable_state.specs.Cached.{first_writes}
-use Rattle.std.proofs.Math.Seq.{take-length}
 use Rattle.std.proofs.lemmas.List.{map-append, take_more}
 use Rattle.std.proofs.lemmas.List.Elements.{All-nil, All-push, filter-append}
 use Rattle.mutation_queue.specs.Queue.{named_keys}
@@ -17,13 +16,6 @@ use Rattle.mutations.specs.declared.batch.Batch.{Batch}
 use Rattle.value_model.specs.declared.document.Document.{Document}
 use Rattle.value_model.specs.declared.document.Entry.{Entry}
 use Rattle.durable_state.proofs.Laid.{among_in, in_among, not_so}
-
-one_less : (n : ℕ) → suc n - 1 ≡ n
-one_less n = omega arith
-
-pub tail_whole : {X : Type 0} (xs : List X) → take (length xs - 1) (drop 1 xs) ≡ drop 1 xs
-tail_whole [] = refl
-tail_whole (x ∷ xs) = ap (λ n. take n xs) (one_less (length xs)) ∙ take-length xs
 
 -- whether a key is among others, as it was told
 pub told_among : (told : Bool) (keys : List (List (List ℕ))) (key : List (List ℕ)) → IsTrue told ↔ Contains keys key → is_among keys key ≡ told

@@ -51,7 +51,7 @@ pub(crate) fn known_after<'a>(
 {
     let mut found = known(entries, key);
     for change in changes {
-        if change.key.cmp(key).is_eq() {
+        if change.key == *key {
             found = Some(&change.entry);
         }
     }

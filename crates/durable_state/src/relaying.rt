@@ -21,7 +21,8 @@ use remote_documents::RemoteDocuments;
 use std::alloc::Global;
 use value_model::Entry;
 
-/// The overlay of the key with its local document over the entry and the batches; a place is made for it.
+/// The overlay of the key with its local document over the entry and the pending batches past the first so many; a place
+/// is made for it.
 ///
 /// # Errors
 /// `NoMemory`
@@ -30,18 +31,20 @@ fn overlay_over(
     overlays: &mut Overlays,
     key: &DocumentKey,
     entry: Option<&Entry>,
-    batches: &[Batch],
+    pending: &MutationQueue,
+    past: u64,
 ) -> Result<Overlay, NoMemory>
-    requires { All IsBatchOfFields batches.now }
+    requires { All IsBatchOfFields pending.now.batches }
     ensures same { SameOverlays overlays.old overlays.new }
     ensures places { KeepsPlaces overlays.old overlays.new }
     ensures key { IfOk result (λ o. o.key ≡ key.now) }
     ensures place { OnOk result (IsTrue (has_place overlays.new key.now)) }
     ensures document { IfOk result (λ o. o.document
-        ≡ local_document key.now (base_of (option_map (λ e. e.now) entry.entry)) batches.now) }
+        ≡ local_document key.now (base_of (option_map (λ e. e.now) entry.entry))
+        (drop past pending.now.batches)) }
 {
     overlays.reserve(key)?;
-    overlays.prepare(alloc, key, entry, batches, None)
+    overlays.prepare_pending(alloc, key, entry, pending, past)
 }
 
 /// The overlay of the key after one batch more; a place is made for it.
@@ -112,7 +115,7 @@ pub(crate) fn lay_changed(
     for change in changes {
         if pending.names(&change.key) {
             let entry = Some(&change.entry);
-            let overlay = overlay_over(alloc, overlays, &change.key, entry, pending.as_slice());
+            let overlay = overlay_over(alloc, overlays, &change.key, entry, pending, 0);
             laid.push(overlay?)?;
         }
     }
@@ -138,7 +141,7 @@ pub(crate) fn lay_dropped(
     let mut laid = Vec::new(alloc);
     for key in keys.as_slice() {
         if pending.names(key) {
-            let overlay = overlay_over(alloc, overlays, key, None, pending.as_slice());
+            let overlay = overlay_over(alloc, overlays, key, None, pending, 0);
             laid.push(overlay?)?;
         }
     }
@@ -175,8 +178,7 @@ impl Relaid {
             self.lifted.push(key.copy(alloc)?)?;
             return Ok(());
         }
-        let behind = &pending.as_slice()[1..];
-        let overlay = overlay_over(alloc, overlays, key, entry, behind)?;
+        let overlay = overlay_over(alloc, overlays, key, entry, pending, 1)?;
         self.laid.push(overlay)?;
         Ok(())
     }

@@ -1,8 +1,6 @@
-use Rattle.std.proofs.Common.{◌∙◌, List, Some, refl, sym, ap}
+use Rattle.std.proofs.Common.{◌∙◌, refl, sym}
 use Rattle.mutation_queue.specs.Queue.{named_keys}
-use Rattle.mutations.specs.declared.batch.Batch.{Batch}
 use Rattle.outcome_codec.specs.declared.parts.KeyedEntry.{KeyedEntry}
-use Rattle.overlays.specs.LocalDocument.{base_of, local_document}
 use Rattle.durable_state.specs.Documents.{is_among}
 use Rattle.durable_state.specs.Ready.{IsOver}
 use Rattle.durable_state.proofs.Relaid.{laid_more, laid_same, passes_more, passes_still, told_among}
@@ -27,7 +25,7 @@ loop-change-preserved c =
     elim c.if-names.branch [
       | then-names+in_ok-overlay+in_ok-push w ↦
           let o = w.in_ok-overlay.field-0 in
-          let right : IsOver batches cs o = record { change = change; one = (i, c.loop-change-test.true, sym c.change-item.is); of_key = w.in_ok-overlay.ensures.key; document = w.in_ok-overlay.ensures.document ∙ ap (λ (bs : List Batch). local_document change.key (base_of (Some change.entry)) bs) w.as_slice.ensures } in
+          let right : IsOver batches cs o = record { change = change; one = (i, c.loop-change-test.true, sym c.change-item.is); of_key = w.in_ok-overlay.ensures.key; document = w.in_ok-overlay.ensures.document } in
           rw (w.overlays-is, w.laid-is) (record {
             same = λ q. w.overlay_over-overlay.ensures.same q ∙ c.loop-change.invariant.same q;
             laid = laid_same (IsOver batches cs) _ _ _ _ _ refl (passes_more key_of cs i change c.loop-change-test.true c.change-item.is named (told ∙ w.if-names.true))

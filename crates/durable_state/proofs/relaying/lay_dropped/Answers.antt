@@ -1,5 +1,4 @@
 use Rattle.std.proofs.Common.{◌≡◌, ◌∙◌, ◌<◌, List, ℕ, None, length, get_or, refl, sym, ap, subst}
-use Rattle.mutations.specs.declared.batch.Batch.{Batch}
 use Rattle.mutation_queue.specs.Queue.{named_keys}
 use Rattle.overlays.specs.LocalDocument.{local_document}
 use Rattle.durable_state.specs.Documents.{is_among}
@@ -28,7 +27,7 @@ loop-key-preserved c =
     elim c.if-names.branch [
       | then-names+in_ok-overlay+in_ok-push w ↦
           let o = w.in_ok-overlay.field-0 in
-          let right = w.in_ok-overlay.ensures.document ∙ ap (λ (bs : List Batch). local_document key None bs) w.as_slice.ensures ∙ ap document (sym w.in_ok-overlay.ensures.key) in
+          let right = w.in_ok-overlay.ensures.document ∙ ap document (sym w.in_ok-overlay.ensures.key) in
           rw (w.overlays-is, w.laid-is) (record {
             same = λ q. w.overlay_over-overlay.ensures.same q ∙ c.loop-key.invariant.same q;
             laid = laid_same (HasDocument document) _ _ _ _ _ refl (passes_more_itself keys i key below item named (told ∙ w.if-names.true))
