@@ -47,6 +47,18 @@ fn batch(alloc: Global, id: u64, write: Write) -> Result<Batch, Fail> {
     })
 }
 
+/// A batch that deletes the room twice.
+fn deleted_twice(alloc: Global, id: u64, room: &str) -> Result<Batch, Fail> {
+    let mut writes = Vec::new(alloc);
+    writes.push(deletion(alloc, room)?)?;
+    writes.push(deletion(alloc, room)?)?;
+    Ok(Batch {
+        id,
+        at: time(9),
+        writes: Writes::from_vec(writes),
+    })
+}
+
 fn check_names(
     rt: &(impl Abort + AllocGlobal),
     queue: &MutationQueue,
@@ -108,14 +120,81 @@ fn batches_leave_in_order(rt: HostRuntime) -> Result<(), Fail> {
     Ok(())
 }
 
+/// The batches that name the room, without the first `past`, have these ids.
+fn check_naming(
+    rt: &(impl Abort + AllocGlobal),
+    queue: &MutationQueue,
+    id: &str,
+    past: u64,
+    wanted: &[u64],
+) -> Result<(), Fail> {
+    let key = room(rt.alloc(), id)?;
+    let found = queue.naming(rt.alloc(), &key, past)?;
+    assert!(rt; found.len() == wanted.len(), "{id} {past}");
+    for (batch, wanted) in found.iter().zip(wanted) {
+        assert!(rt; batch.id == *wanted, "{id} {past}");
+    }
+    Ok(())
+}
+
+fn check_naming_all(rt: &(impl Abort + AllocGlobal), queue: &MutationQueue) -> Result<(), Fail> {
+    check_naming(rt, queue, "a", 0, &[1, 3, 4])?;
+    check_naming(rt, queue, "b", 0, &[2])?;
+    check_naming(rt, queue, "c", 0, &[])
+}
+
+fn check_naming_past(rt: &(impl Abort + AllocGlobal), queue: &MutationQueue) -> Result<(), Fail> {
+    check_naming(rt, queue, "a", 1, &[3, 4])?;
+    check_naming(rt, queue, "a", 3, &[4])?;
+    check_naming(rt, queue, "a", 9, &[])?;
+    check_naming(rt, queue, "b", 2, &[])
+}
+
+/// Takes the first two batches out, of which the first names one room, and the second the other.
+fn check_naming_behind(
+    rt: &(impl Abort + AllocGlobal),
+    queue: &mut MutationQueue,
+) -> Result<(), Fail> {
+    check_removed(rt, queue, 1, &[("a", true), ("b", true)])?;
+    check_naming(rt, queue, "a", 0, &[3, 4])?;
+    check_naming(rt, queue, "a", 2, &[4])?;
+    check_removed(rt, queue, 2, &[("a", true), ("b", false)])?;
+    check_naming(rt, queue, "a", 1, &[4])?;
+    check_naming(rt, queue, "b", 0, &[])
+}
+
+#[test]
+fn batches_are_found_by_key(rt: HostRuntime) -> Result<(), Fail> {
+    let mut queue = three_batches(rt.alloc())?;
+    queue.push(rt.alloc(), deleted_twice(rt.alloc(), 4, "a")?)?;
+    check_naming_all(&rt, &queue)?;
+    check_naming_past(&rt, &queue)?;
+    check_naming_behind(&rt, &mut queue)
+}
+
+/// Makes room for one more batch that deletes the room, and pushes it.
+fn push_where_room_is(
+    rt: &(impl Abort + AllocGlobal),
+    queue: &mut MutationQueue,
+    id: u64,
+    room: &str,
+) -> Result<(), Fail> {
+    let batch = batch(rt.alloc(), id, deletion(rt.alloc(), room)?)?;
+    let len = queue.len();
+    queue.reserve(&batch)?;
+    assert!(rt; queue.len() == len);
+    queue.push_reserved(batch);
+    Ok(())
+}
+
 #[test]
 fn room_is_kept_for_a_batch(rt: HostRuntime) -> Result<(), Fail> {
     let mut queue = MutationQueue::new(rt.alloc());
-    let batch = batch(rt.alloc(), 1, deletion(rt.alloc(), "a")?)?;
-    queue.reserve(&batch)?;
-    assert!(rt; queue.len() == 0);
-    queue.push_reserved(batch);
-    check_names(&rt, &queue, &[("a", true)])
+    push_where_room_is(&rt, &mut queue, 1, "a")?;
+    push_where_room_is(&rt, &mut queue, 2, "a")?;
+    push_where_room_is(&rt, &mut queue, 3, "a")?;
+    check_names(&rt, &queue, &[("a", true)])?;
+    check_naming(&rt, &queue, "a", 1, &[2, 3])
 }
 
 /// The number at `n` in the room's document, if there is one.
@@ -151,6 +230,25 @@ fn prepare(
     }
     let key = room(alloc, id)?;
     let overlay = overlays.prepare(alloc, &key, entry, batches, None)?;
+    overlays.reserve(&overlay.key)?;
+    overlays.set(overlay);
+    Ok(())
+}
+
+/// Works out the room's document from the pending batches, without the first `past`, and puts it in place.
+fn prepare_pending(
+    alloc: Global,
+    overlays: &mut Overlays,
+    id: &str,
+    entry: Option<&Entry>,
+    queue: &MutationQueue,
+    past: u64,
+) -> Result<(), Fail> {
+    if !are_of_fields(queue.as_slice()) {
+        return Err("a path is __name__".into());
+    }
+    let key = room(alloc, id)?;
+    let overlay = overlays.prepare_pending(alloc, &key, entry, queue, past)?;
     overlays.reserve(&overlay.key)?;
     overlays.set(overlay);
     Ok(())
@@ -196,6 +294,29 @@ fn documents_are_laid_on(rt: HostRuntime) -> Result<(), Fail> {
     let queue = three_batches(rt.alloc())?;
     let mut overlays = Overlays::new(rt.alloc());
     check_overlays(&rt, &queue, &mut overlays)
+}
+
+fn check_pending(
+    rt: &(impl Abort + AllocGlobal),
+    queue: &MutationQueue,
+    overlays: &mut Overlays,
+) -> Result<(), Fail> {
+    let alloc = rt.alloc();
+    let known = known(alloc)?;
+    prepare_pending(alloc, overlays, "b", Some(&known), queue, 0)?;
+    assert!(rt; number_in(alloc, overlays, "b", None)? == Some(41));
+    prepare_pending(alloc, overlays, "b", Some(&known), queue, 2)?;
+    assert!(rt; number_in(alloc, overlays, "b", None)? == Some(40));
+    prepare_pending(alloc, overlays, "a", Some(&known), queue, 1)?;
+    assert!(rt; number_in(alloc, overlays, "a", Some(&known))? == None);
+    Ok(())
+}
+
+#[test]
+fn documents_are_laid_on_by_key(rt: HostRuntime) -> Result<(), Fail> {
+    let queue = three_batches(rt.alloc())?;
+    let mut overlays = Overlays::new(rt.alloc());
+    check_pending(&rt, &queue, &mut overlays)
 }
 
 fn check_extended(rt: &(impl Abort + AllocGlobal), overlays: &mut Overlays) -> Result<(), Fail> {
