@@ -78,11 +78,12 @@ impl MutationQueue {
     /// Puts the batch at the end.
     ///
     /// # Errors
-    /// `NoMemory`, never where there is room: the batches are then as before.
+    /// `NoMemory`, never where there is room: the batches are then as before, and no room is used.
     pub fn push(&mut self, _alloc: Global, batch: Batch) -> Result<(), NoMemory>
         ensures done { OnOk result (self.new.batches ≡ self.old.batches ++ batch ∷ []) }
         ensures undone { OnErr result (self.new.batches ≡ self.old.batches) }
-        ensures held { KeepsRoom 1 (keys_of batch.writes) self.old self.new }
+        ensures held { OnOk result (KeepsRoom 1 (keys_of batch.writes) self.old self.new) }
+        ensures unused { OnErr result (KeepsRoom 0 [] self.old self.new) }
         ensures kept { HasRoom self.old batch.writes → IsOk result }
     {
         self.reserve(&batch)?;

@@ -1,13 +1,6 @@
 use Rattle.std.proofs.Common.{refl, arith}
 use Rattle.mutation_queue.proofs.queue.MutationQueue.push.Goals as goal
 
-pub returns-in_err-reserve-clause-held : goal.returns-in_err-reserve-clause-held
-returns-in_err-reserve-clause-held c = record {
-  spare = omega (arith, c.reserve.ensures.held.spare);
-  places = λ q none had. c.reserve.ensures.held.places q refl had;
-  pushed = omega (arith, c.reserve.ensures.held.pushed);
-}
-
 pub returns-clause-held : goal.returns-clause-held
 returns-clause-held c = record {
   spare = omega (arith, c.reserve.ensures.held.spare, c.push_reserved.ensures.held.spare);
