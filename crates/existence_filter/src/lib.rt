@@ -1,6 +1,9 @@
 //! Whether what the backend counts in a target is what the client was told of it.
 //!
-//! `judge` compares the two numbers; its `Verdict` decides whether the target is listened to from the beginning.
+//! An existence filter comes on the stream of listeners with the number of documents that the backend has in a target. A client
+//! that was told another number has missed something: the target is then listened to from the beginning. Which keys were told,
+//! and what becomes of the target, is said above, in `watch_aggregator`. Here `judge` compares the two numbers, and its `Verdict`
+//! says how it went.
 #![tactic(auto)]
 
 ghost use Rattle.std.specs.Prelude.{◌≡◌, ◌==◌, if◌then◌else◌};
