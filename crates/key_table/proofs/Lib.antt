@@ -1,3 +1,4 @@
 pub mod Listing
+pub mod Orders
 pub mod Ranges
 pub mod Tables

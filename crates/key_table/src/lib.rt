@@ -7,6 +7,8 @@
 #![tactic(auto)]
 
 mod below;
+mod lists;
+mod order;
 mod table;
 
 pub use table::KeyTable;

@@ -4,7 +4,8 @@ ghost use Rattle.document_keys.specs.Order.{PathBefore};
 ghost use Rattle.value_model.specs.Documents.{IsIn};
 ghost use Rattle.key_table.specs.Table.{HasEachKeyOnce, Puts, SameValues, has_key, value_at};
 
-use crate::below::is_below;
+use crate::lists::{gathered, listed, sorted};
+use crate::order::{in_order, put, take};
 use document_keys::{CollectionPath, DocumentKey, KeySet, NoMemory};
 use std::alloc::Global;
 use std::collections::{BTreeSet, HashMap};
@@ -14,7 +15,8 @@ use std::marker::Model;
 #[derive(Debug, Drop)]
 pub struct KeyTable<V> {
     places: HashMap<DocumentKey, V>,
-    order: BTreeSet<DocumentKey>,
+    // all keys, from `arrange` on
+    order: Option<BTreeSet<DocumentKey>>,
 }
 
 impl<V> Model for KeyTable<V> {
@@ -27,7 +29,7 @@ impl<V> Model for KeyTable<V> {
 
     ghost view = { λ table. table.places.entries };
 
-    ghost invariant = { λ table. AreInOrder table.places.entries table.order.keys };
+    ghost invariant = { λ table. AreInOrder table.places.entries table.order };
 }
 
 impl<V> KeyTable<V> {
@@ -37,7 +39,7 @@ impl<V> KeyTable<V> {
     {
         KeyTable {
             places: HashMap::new(alloc),
-            order: BTreeSet::new(alloc),
+            order: None,
         }
     }
 
@@ -78,9 +80,8 @@ impl<V> KeyTable<V> {
     {
         // what it says of the key is the invariant of the table
         let _count = key.len();
-        let ordered = key.copy(alloc)?;
         self.places.reserve(1)?;
-        self.order.insert(ordered)?;
+        put(&mut self.order, alloc, &key)?;
         let Ok(_) = self.places.insert(key, value) else {
             unreachable!();
         };
@@ -111,7 +112,7 @@ impl<V> KeyTable<V> {
         ensures done { Puts key.now None self.old self.new }
     {
         let value = self.places.remove(key)?;
-        self.order.remove(key);
+        take(&mut self.order, key);
         Some(value)
     }
 
@@ -122,7 +123,21 @@ impl<V> KeyTable<V> {
         let _places = self.places.iter();
     }
 
-    /// The keys of the collection's documents, ascending. It looks at the keys below the collection's path alone.
+    /// Keeps the keys in order from now on, for listings. It costs nothing where they are kept so already.
+    ///
+    /// # Errors
+    /// `NoMemory`
+    pub fn arrange(&mut self, alloc: Global) -> Result<(), NoMemory>
+        ensures { self.new ≡ self.old }
+    {
+        if self.order.is_none() {
+            self.order = Some(in_order(alloc, &self.places)?);
+        }
+        Ok(())
+    }
+
+    /// The keys of the collection's documents, ascending. Where the keys are kept in order, it looks at those below the
+    /// collection's path alone, and else at all of them.
     ///
     /// # Errors
     /// `NoMemory`
@@ -135,17 +150,10 @@ impl<V> KeyTable<V> {
         ensures members { IfOk result (λ keys. (key : List (List ℕ)) →
             Contains keys.items key ↔ (IsIn collection.now key × IsTrue (has_key self.now key))) }
     {
-        let least = DocumentKey::least_in(alloc, collection)?;
-        let mut keys = Vec::new(alloc);
-        for key in self.order.range(&least..) {
-            if !is_below(collection, key) {
-                return Ok(keys);
-            }
-            if key.is_in(collection) {
-                keys.push(key.copy(alloc)?)?;
-            }
+        match &self.order {
+            Some(order) => listed(alloc, order, collection),
+            None => sorted(alloc, &self.places, collection),
         }
-        Ok(keys)
     }
 
     /// All keys.
@@ -156,10 +164,9 @@ impl<V> KeyTable<V> {
         ensures { IfOk result (λ keys. (key : List (List ℕ)) →
             Contains keys key ↔ IsTrue (has_key self.now key)) }
     {
-        let mut keys = KeySet::with_capacity(alloc, self.order.len())?;
-        for key in self.order.iter() {
-            keys.insert(alloc, key.copy(alloc)?)?;
+        match &self.order {
+            Some(order) => gathered(alloc, order),
+            None => gathered(alloc, &in_order(alloc, &self.places)?),
         }
-        Ok(keys)
     }
 }

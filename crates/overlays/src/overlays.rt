@@ -174,6 +174,16 @@ impl Overlays {
         Ok(())
     }
 
+    /// Keeps the places in order from now on, for listings. It costs nothing where they are kept so already.
+    ///
+    /// # Errors
+    /// `NoMemory`
+    pub fn arrange(&mut self) -> Result<(), NoMemory>
+        ensures { self.new ≡ self.old }
+    {
+        self.slots.arrange(self.alloc)
+    }
+
     /// Puts the overlay in place of its key's old one, where there is a place. It takes no memory.
     pub fn set(&mut self, overlay: Overlay)
         requires { IsTrue (has_place self.old overlay.key) }
@@ -229,8 +239,8 @@ impl Overlays {
         matches!(self.slots.get(key), Some(Slot::Laid(Some(_))))
     }
 
-    /// The keys of the collection's documents among those that have an overlay, ascending. It looks at the places below
-    /// the collection's path alone.
+    /// The keys of the collection's documents among those that have an overlay, ascending. Where the places are kept in
+    /// order, it looks at those below the collection's path alone.
     ///
     /// # Errors
     /// `NoMemory`

@@ -76,6 +76,16 @@ impl RemoteDocuments {
         Ok(())
     }
 
+    /// Keeps the places in order from now on, for listings. It costs nothing where they are kept so already.
+    ///
+    /// # Errors
+    /// `NoMemory`
+    pub fn arrange(&mut self) -> Result<(), NoMemory>
+        ensures { self.new ≡ self.old }
+    {
+        self.slots.arrange(self.alloc)
+    }
+
     /// Puts the entry with its seal in place of the key's old one, where there is a place. It takes no memory.
     pub fn set(&mut self, key: &DocumentKey, entry: Entry, seal: Seal)
         requires { IsTrue (has_place self.old key.now) }
@@ -121,8 +131,8 @@ impl RemoteDocuments {
         matches!(self.slots.get(key), Some(Slot::Held(_, _)))
     }
 
-    /// The keys of the collection's documents among those that have an entry, ascending. It looks at the places below the
-    /// collection's path alone.
+    /// The keys of the collection's documents among those that have an entry, ascending. Where the places are kept in
+    /// order, it looks at those below the collection's path alone.
     ///
     /// # Errors
     /// `NoMemory`

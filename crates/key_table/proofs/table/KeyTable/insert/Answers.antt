@@ -2,17 +2,15 @@ use Rattle.std.proofs.Common.{◌≡◌, ◌∙◌, IsTrue, Some, None, ap, refl
 use Rattle.std.specs.Option.{is_some, IsSome}
 use Rattle.std.specs.Result.{OnErr}
 use Rattle.key_table.specs.Table.{SameValues, value_at}
-use Rattle.key_table.proofs.Tables.{changed, found, stays, still_in_order}
+use Rattle.key_table.proofs.Tables.{changed, found, stays}
 use Rattle.key_table.proofs.table.KeyTable.insert.Goals as goal
 
 pub invariant_of-self : goal.invariant_of-self
 invariant_of-self g c =
     let there : IsSome (value_at c.self.inside.places.entries c.args.key) = subst (λ o. IsTrue (is_some o)) (c.in-Some.ensures.value ∙ found c.self.inside.places.entries c.args.key) refl in
     let wrote = (c.get_mut.follows.holds c.args.value).3 (subst IsSome c.in-Some.ensures.value refl) in
-    still_in_order c.self.inside.places.entries (c.get_mut.follows.lender c.args.value).entries c.args.key (Some c.args.value) c.self.inside.order.keys c.self.inside.order.keys
-    (changed c.self.inside.places.entries (c.get_mut.follows.lender c.args.value).entries c.args.key (Some c.args.value) wrote.0)
-    (λ q. stays c.self.inside.places.entries c.self.inside.order.keys c.args.key q there c.self.invariant)
-    (λ some. c.self.invariant.of_documents c.args.key there) c.self.invariant
+    stays c.self.inside.places.entries (c.get_mut.follows.lender c.args.value).entries c.args.key c.args.value c.self.inside.order
+    (changed c.self.inside.places.entries (c.get_mut.follows.lender c.args.value).entries c.args.key (Some c.args.value) wrote.0) there c.self.invariant
 
 pub returns-in-Some-clause-done : goal.returns-in-Some-clause-done
 returns-in-Some-clause-done g c =

@@ -1,13 +1,20 @@
-use Rattle.std.proofs.Common.{◌≡◌, ◌∙◌, ◌∷◌, subst}
-use Rattle.document_keys.specs.KeySet.{Inserts}
-use Rattle.key_table.proofs.Listing.{all_gathered, gathered}
+use Rattle.std.proofs.Common.{◌↔◌, IsTrue, subst}
+use Rattle.std.specs.List.{Contains}
+use Rattle.std.specs.Option.{IfSome}
+use Rattle.std.proofs.lemmas.Result.{IfOk-weaker}
+use Rattle.key_table.specs.Table.{HasKeysOf, has_key}
+use Rattle.key_table.proofs.Listing.{has_from_order}
 use Rattle.key_table.proofs.table.KeyTable.keys.Goals as goal
 
-pub loop-key-preserved : goal.loop-key-preserved
-loop-key-preserved g c =
-    let step : c.loop-key.key-iterator ≡ c.in-Some.key.now ∷ c.next.new.self = c.in-Some.ensures.steps in
-    gathered c.into_iter-key-iterator.result c.in-Some.key.now c.next.new.self c.loop-key.key-iterator c.loop-key.keys c.insert.new.self step
-    (subst (λ k. Inserts k c.loop-key.keys c.insert.new.self) c.in_ok-copy.ensures c.in_ok-insert.ensures.done) c.loop-key.invariant
+pub returns-in-Some : goal.returns-in-Some
+returns-in-Some g c =
+    let same = subst (λ o. IfSome o (λ set. HasKeysOf c.self.inside.places.entries set.keys)) c.in-Some.is c.self.invariant.same in
+    IfOk-weaker c.gathered.result _ _ (λ keys members q.
+    let has = has_from_order c.self.inside.places.entries c.in-Some.order.keys same q in
+    subst (λ t. Contains keys q ↔ IsTrue (has_key t q)) c.self.view_is (λ there. has.0 ((members q).0 there), λ there. (members q).1 (has.1 there))) c.gathered.ensures
 
-pub returns : goal.returns
-returns g c = λ q. rw (← c.self.view_is) (all_gathered c.self.inside.places.entries c.self.inside.order.keys c.into_iter-key-iterator.result c.loop-key.key-iterator c.self.invariant (c.into_iter-key-iterator.ensures.into_iter_gives ∙ c.iter-key-items.ensures.rest) c.in-None.ensures.steps.0 c.loop-key.invariant q)
+pub returns-in_ok-in_order-in-None : goal.returns-in_ok-in_order-in-None
+returns-in_ok-in_order-in-None g c =
+    IfOk-weaker c.gathered-in-None.result _ _ (λ keys members q.
+    let has = has_from_order c.self.inside.places.entries c.in_ok-in_order-in-None.field-0.keys c.in_ok-in_order-in-None.ensures q in
+    subst (λ t. Contains keys q ↔ IsTrue (has_key t q)) c.self.view_is (λ there. has.0 ((members q).0 there), λ there. (members q).1 (has.1 there))) c.gathered-in-None.ensures

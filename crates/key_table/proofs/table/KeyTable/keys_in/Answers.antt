@@ -1,39 +1,28 @@
-use Rattle.std.proofs.Common.{◌≡◌, ◌∙◌, ◌++◌, ◌∷◌, [], ap}
-use Rattle.key_table.proofs.Listing.{all_left, ascending_paths, none_ahead, none_at_end, none_left, passed, taken}
-use Rattle.key_table.proofs.Ranges.{part_is}
+use Rattle.std.proofs.Common.{◌↔◌, IsTrue, subst}
+use Rattle.std.specs.List.{Contains}
+use Rattle.std.specs.Option.{IfSome}
+use Rattle.std.proofs.lemmas.Result.{IfOk-weaker}
+use Rattle.value_model.specs.Documents.{IsIn}
+use Rattle.key_table.specs.Table.{HasKeysOf, has_key}
+use Rattle.key_table.proofs.Listing.{has_from_order}
 use Rattle.key_table.proofs.table.KeyTable.keys_in.Goals as goal
 
-pub loop-key-init : goal.loop-key-init
-loop-key-init g c =
-    let whole = part_is c.args.collection.now c.in_ok-least.least c.self.inside.order.keys c.range-key-items.result c.into_iter-key-iterator.result c.in_ok-least.ensures (c.range-key-items.ensures.between tt) c.into_iter-key-iterator.ensures.into_iter_gives in
-    all_left c.args.collection.now c.self.inside.order.keys c.into_iter-key-iterator.result c.new-keys.result.items whole c.new-keys.ensures.items c.range-key-items.ensures.ordered
+pub listed-requires : goal.listed-requires
+listed-requires g c =
+    let same = subst (λ o. IfSome o (λ set. HasKeysOf c.self.inside.places.entries set.keys)) c.in-Some.is c.self.invariant.same in
+    λ q there. c.self.invariant.of_documents q ((has_from_order c.self.inside.places.entries c.in-Some.order.keys same q).0 there)
 
-pub loop-key-preserved-in_ok-push : goal.loop-key-preserved-in_ok-push
-loop-key-preserved-in_ok-push g c =
-    let step : c.loop-key.key-iterator ≡ c.in-Some.key.now ∷ c.next.new.self = c.in-Some.ensures.steps in
-    let push : c.push.new.self.items ≡ c.loop-key.keys.items ++ c.in_ok-copy.field-0 ∷ [] = c.in_ok-push.ensures.items in
-    let pushed : c.push.new.self.items ≡ c.loop-key.keys.items ++ c.in-Some.key.now ∷ [] = push ∙ ap (λ k. c.loop-key.keys.items ++ k ∷ []) c.in_ok-copy.ensures in
-    taken c.args.collection.now c.into_iter-key-iterator.result c.in-Some.key.now c.next.new.self c.loop-key.key-iterator c.loop-key.keys.items step c.loop-key.invariant c.push.new.self.items pushed (c.is_in.ensures.0 c.if-is_in.true)
+pub returns-in-Some-clause-members : goal.returns-in-Some-clause-members
+returns-in-Some-clause-members g c =
+    let same = subst (λ o. IfSome o (λ set. HasKeysOf c.self.inside.places.entries set.keys)) c.in-Some.is c.self.invariant.same in
+    IfOk-weaker c.listed.result _ _ (λ keys members q.
+    let has = has_from_order c.self.inside.places.entries c.in-Some.order.keys same q in
+    subst (λ t. Contains keys.items q ↔ (IsIn c.args.collection.now q × IsTrue (has_key t q))) c.self.view_is (
+      λ there. (((members q).0 there).0, has.0 (((members q).0 there).1)),
+      λ both. (members q).1 (both.0, has.1 both.1),
+    )) c.listed.ensures.members
 
-pub loop-key-preserved : goal.loop-key-preserved
-loop-key-preserved g c =
-    let step : c.loop-key.key-iterator ≡ c.in-Some.key.now ∷ c.next.new.self = c.in-Some.ensures.steps in
-    passed c.args.collection.now c.into_iter-key-iterator.result c.in-Some.key.now c.next.new.self c.loop-key.key-iterator c.loop-key.keys.items step c.loop-key.invariant (λ it. let yes_it_is = c.is_in.ensures.1 it in let no_it_is = c.if-is_in.false in cc)
-
-pub returns-then-not-is_below-clause-ascending : goal.returns-then-not-is_below-clause-ascending
-returns-then-not-is_below-clause-ascending g c = ascending_paths c.loop-key.keys.items c.loop-key.invariant.ascending
-
-pub returns-then-not-is_below-clause-members : goal.returns-then-not-is_below-clause-members
-returns-then-not-is_below-clause-members g c =
-    let step : c.loop-key.key-iterator ≡ c.in-Some.key.now ∷ c.next.new.self = c.in-Some.ensures.steps in
-    let whole = part_is c.args.collection.now c.in_ok-least.least c.self.inside.order.keys c.range-key-items.result c.into_iter-key-iterator.result c.in_ok-least.ensures (c.range-key-items.ensures.between tt) c.into_iter-key-iterator.ensures.into_iter_gives in
-    let none = none_ahead c.args.collection.now c.into_iter-key-iterator.result c.in-Some.key.now c.next.new.self c.loop-key.key-iterator c.loop-key.keys.items step c.loop-key.invariant (λ below. let yes_it_is = c.is_below.ensures.1 below in let no_it_is = c.if-not-is_below.true in cc) in
-    λ q. rw (← c.self.view_is) (none_left c.self.inside.places.entries c.self.inside.order.keys c.into_iter-key-iterator.result c.loop-key.key-iterator c.self.invariant whole none c.loop-key.invariant q)
-
-pub returns-clause-ascending : goal.returns-clause-ascending
-returns-clause-ascending g c = ascending_paths c.loop-key.keys.items c.loop-key.invariant.ascending
-
-pub returns-clause-members : goal.returns-clause-members
-returns-clause-members g c =
-    let whole = part_is c.args.collection.now c.in_ok-least.least c.self.inside.order.keys c.range-key-items.result c.into_iter-key-iterator.result c.in_ok-least.ensures (c.range-key-items.ensures.between tt) c.into_iter-key-iterator.ensures.into_iter_gives in
-    λ q. rw (← c.self.view_is) (none_left c.self.inside.places.entries c.self.inside.order.keys c.into_iter-key-iterator.result c.loop-key.key-iterator c.self.invariant whole (none_at_end c.args.collection.now c.loop-key.key-iterator c.in-None.ensures.steps.0) c.loop-key.invariant q)
+pub returns-in-None-clause-members : goal.returns-in-None-clause-members
+returns-in-None-clause-members g c =
+    IfOk-weaker c.sorted.result _ _ (λ keys members q.
+    subst (λ t. Contains keys.items q ↔ (IsIn c.args.collection.now q × IsTrue (has_key t q))) c.self.view_is (members q)) c.sorted.ensures.members

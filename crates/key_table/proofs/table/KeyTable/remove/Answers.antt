@@ -11,9 +11,9 @@ returns-in_err-value-clause-done g c = λ q. rw (← c.self.view_is) (changed c.
 
 pub invariant_of-self-2 : goal.invariant_of-self-2
 invariant_of-self-2 g c =
-    still_in_order c.self.inside.places.entries c.remove.new.self.entries c.args.key.now None c.self.inside.order.keys c.remove-2.new.self.keys
+    still_in_order c.self.inside.places.entries c.remove.new.self.entries c.args.key.now None c.self.inside.order c.take.new.order
     (changed c.self.inside.places.entries c.remove.new.self.entries c.args.key.now None c.remove.ensures.updates.0)
-    c.remove-2.ensures.updates.0 (λ some. cc) c.self.invariant
+    c.take.ensures (λ some. cc) c.self.invariant
 
 pub returns-clause-value : goal.returns-clause-value
 returns-clause-value g c = sym c.in_ok-value.was ∙ c.remove.ensures.value ∙ found c.self.inside.places.entries c.args.key.now ∙ ap (λ t. value_at t c.args.key.now) c.self.view_is

@@ -1,7 +1,7 @@
 use Rattle.std.proofs.Common.{◌≡◌, ◌∙◌, IsTrue, Some, None, ap, refl, subst, sym}
 use Rattle.std.specs.Option.{is_some, IsSome}
 use Rattle.key_table.specs.Table.{value_at}
-use Rattle.key_table.proofs.Tables.{changed, found, stays, still_in_order}
+use Rattle.key_table.proofs.Tables.{changed, found, stays}
 use Rattle.key_table.proofs.table.KeyTable.set.Goals as goal
 
 pub returns-in_default : goal.returns-in_default
@@ -14,10 +14,8 @@ pub invariant_of-self-2 : goal.invariant_of-self-2
 invariant_of-self-2 g c =
     let there : IsSome (value_at c.self.inside.places.entries c.args.key.now) = subst (λ o. IsTrue (is_some o)) (c.in-Some.ensures.value ∙ found c.self.inside.places.entries c.args.key.now) refl in
     let wrote = (c.get_mut.follows.holds c.args.value).3 (subst IsSome c.in-Some.ensures.value refl) in
-    still_in_order c.self.inside.places.entries (c.get_mut.follows.lender c.args.value).entries c.args.key.now (Some c.args.value) c.self.inside.order.keys c.self.inside.order.keys
-    (changed c.self.inside.places.entries (c.get_mut.follows.lender c.args.value).entries c.args.key.now (Some c.args.value) wrote.0)
-    (λ q. stays c.self.inside.places.entries c.self.inside.order.keys c.args.key.now q there c.self.invariant)
-    (λ some. c.self.invariant.of_documents c.args.key.now there) c.self.invariant
+    stays c.self.inside.places.entries (c.get_mut.follows.lender c.args.value).entries c.args.key.now c.args.value c.self.inside.order
+    (changed c.self.inside.places.entries (c.get_mut.follows.lender c.args.value).entries c.args.key.now (Some c.args.value) wrote.0) there c.self.invariant
 
 pub returns : goal.returns
 returns g c =
