@@ -1,7 +1,8 @@
-//! Pending batches, and the local documents that they make.
+//! Tables by key, pending batches, and the local documents that they make.
 
 use crate::fixtures::{key, number, put, time};
 use document_keys::{DocumentKey, FieldPath};
+use key_table::KeyTable;
 use mutation_queue::MutationQueue;
 use mutations::{Batch, Change, Mask, Precondition, Transform, Transforms, Write, Writes};
 use overlays::{Overlays, are_of_fields, is_of_fields};
@@ -338,4 +339,67 @@ fn check_extended(rt: &(impl Abort + AllocGlobal), overlays: &mut Overlays) -> R
 fn documents_are_extended(rt: HostRuntime) -> Result<(), Fail> {
     let mut overlays = Overlays::new(rt.alloc());
     check_extended(&rt, &mut overlays)
+}
+
+fn insert(alloc: Global, table: &mut KeyTable<u64>, segments: &[&str]) -> Result<(), Fail> {
+    table.insert(alloc, key(alloc, segments)?, 0)?;
+    Ok(())
+}
+
+/// Three rooms, a document below one of them, and one of another collection.
+fn rooms(alloc: Global) -> Result<KeyTable<u64>, Fail> {
+    let mut table = KeyTable::new(alloc);
+    insert(alloc, &mut table, &["rooms", "c"])?;
+    insert(alloc, &mut table, &["rooms", "a"])?;
+    insert(alloc, &mut table, &["rooms", "a", "seats", "b"])?;
+    insert(alloc, &mut table, &["walls", "b"])?;
+    insert(alloc, &mut table, &["rooms", "b"])?;
+    Ok(table)
+}
+
+/// The table lists these rooms, and has so many keys.
+fn check_rooms(
+    rt: &(impl Abort + AllocGlobal),
+    table: &KeyTable<u64>,
+    wanted: &[&str],
+    count: u64,
+) -> Result<(), Fail> {
+    let alloc = rt.alloc();
+    let rooms = room(alloc, "a")?.parent(alloc)?;
+    let keys = table.keys_in(alloc, &rooms)?;
+    assert!(rt; keys.len() == wanted.len());
+    for (key, id) in keys.iter().zip(wanted) {
+        assert!(rt; *key == room(alloc, id)?, "{id}");
+    }
+    assert!(rt; table.keys(alloc)?.len() == count);
+    Ok(())
+}
+
+/// Puts a room into the table, and takes one out.
+fn change_rooms(alloc: Global, table: &mut KeyTable<u64>) -> Result<(), Fail> {
+    insert(alloc, table, &["rooms", "aa"])?;
+    let _value = table.remove(&room(alloc, "b")?);
+    Ok(())
+}
+
+fn check_listed(rt: &(impl Abort + AllocGlobal), table: &mut KeyTable<u64>) -> Result<(), Fail> {
+    check_rooms(rt, table, &["a", "b", "c"], 5)?;
+    change_rooms(rt.alloc(), table)?;
+    check_rooms(rt, table, &["a", "aa", "c"], 5)
+}
+
+#[test]
+fn keys_are_listed_without_an_order(rt: HostRuntime) -> Result<(), Fail> {
+    let mut table = rooms(rt.alloc())?;
+    check_listed(&rt, &mut table)?;
+    table.arrange(rt.alloc())?;
+    check_rooms(&rt, &table, &["a", "aa", "c"], 5)
+}
+
+#[test]
+fn keys_are_listed_along_their_order(rt: HostRuntime) -> Result<(), Fail> {
+    let mut table = rooms(rt.alloc())?;
+    table.arrange(rt.alloc())?;
+    table.arrange(rt.alloc())?;
+    check_listed(&rt, &mut table)
 }

@@ -1,6 +1,6 @@
 //! Each kind of commit made ready. The state stays; places are made for what it will put.
 
-ghost use Rattle.std.specs.Prelude.{◌≡◌, ◌<◌, ℕ, IfOk};
+ghost use Rattle.std.specs.Prelude.{◌≡◌, ◌<◌, ◌≤◌, ℕ, IfOk, OnOk};
 ghost use Rattle.mutation_queue.specs.Queue.{keys_of};
 ghost use Rattle.durable_state.specs.Cached.{first_writes};
 ghost use Rattle.record_codec.specs.declared.commit.Commit.TheVariants as commits;
@@ -17,10 +17,33 @@ use crate::relaying::{lay_batch, lay_behind, lay_changed, lay_dropped};
 use document_keys::{KeySet, NoMemory, Sequence};
 use mutations::{Batch, WriteResults};
 use outcome_codec::{KeyedEntry, PointRow};
+use overlays::Overlays;
 use queries::Target;
 use record_codec::Commit;
+use remote_documents::RemoteDocuments;
 use std::alloc::Global;
+use target_cache::TargetCache;
 use value_model::{Seal, Timestamp};
+
+/// Makes room for one target more. Only what has a target lists collections, so the documents are kept in order from then
+/// on. Nothing else changes.
+///
+/// # Errors
+/// `NoMemory`
+fn make_room(
+    entries: &mut RemoteDocuments,
+    overlays: &mut Overlays,
+    targets: &mut TargetCache,
+) -> Result<(), NoMemory>
+    ensures same_entries { entries.new ≡ entries.old }
+    ensures same_overlays { overlays.new ≡ overlays.old }
+    ensures same_rows { targets.new.rows ≡ targets.old.rows }
+    ensures room { OnOk result (1 ≤ targets.new.spare) }
+{
+    entries.arrange()?;
+    overlays.arrange()?;
+    targets.reserve(1)
+}
 
 impl DurableState {
     /// Makes ready that the batch joins the pending ones.
@@ -102,7 +125,7 @@ impl DurableState {
         ensures moves { IfOk result (λ ready. (id : ℕ) → state_by (state_in self.old) ready
             ≡ committed (state_in self.old) (commits.Allocate id target)) }
     {
-        self.targets.reserve(1)?;
+        make_room(&mut self.entries, &mut self.overlays, &mut self.targets)?;
         Ok(Ready::alone(alloc, Step::Allocate(target)))
     }
 
