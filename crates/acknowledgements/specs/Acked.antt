@@ -5,6 +5,7 @@ use Rattle.std.specs.List.{Contains, filter, zip}
 use Rattle.std.specs.Option.{option_and_then}
 use Rattle.std.specs.Ordering.{int_cmp, is_lt, nat_cmp, ordering_then}
 use Rattle.document_keys.specs.KeySet.{is_key}
+use Rattle.keyed_writes.specs.Keyed.{key_of}
 use Rattle.value_model.specs.Order.{Earlier}
 use Rattle.value_model.specs.Versions.{version_of}
 use Rattle.value_model.specs.declared.document.Entry.{Entry}
@@ -12,12 +13,10 @@ use Rattle.value_model.specs.declared.timestamp.Timestamp.{Timestamp}
 use Rattle.mutations.specs.Acknowledged.{acknowledged, version_in}
 use Rattle.mutations.specs.declared.results.WriteResult.{WriteResult}
 use Rattle.mutations.specs.declared.write.Write.{Write}
-use Rattle.mutations.specs.declared.write.Write.TheVariants.{Update, Delete}
 
 -- the key of the document that a write speaks of
 abbrev pub key_of_write : Write → List (List ℕ)
-key_of_write (Update key fields mask transforms condition) = key
-key_of_write (Delete key condition) = key
+key_of_write write = key_of write
 
 -- the entry that is lent, if one is
 abbrev pub lent_entry : Option (Bor Entry) → Option Entry

@@ -2,38 +2,15 @@
 
 ghost use Rattle.std.specs.Prelude.{◌≡◌, IfOk};
 ghost use Rattle.std.specs.List.{All};
-ghost use Rattle.acknowledgements.specs.Acked.{acked, greatest, is_below, is_earlier, key_of_write, latest, left_by, lent_entry};
-ghost use Rattle.document_keys.specs.KeySet.{is_key};
+ghost use Rattle.acknowledgements.specs.Acked.{acked, greatest, is_below, is_earlier, latest, left_by, lent_entry};
 ghost use Rattle.mutations.specs.Effect.{IsOfFieldsOnly};
 ghost use Rattle.mutations.specs.Results.{FitsWrites};
 
 use document_keys::{DocumentKey, NoMemory};
-use mutations::{Write, WriteResult, apply_result};
+use keyed_writes::KeyedWrites;
+use mutations::{WriteResult, apply_result};
 use std::alloc::Global;
 use value_model::{Entry, Timestamp};
-
-/// The key of the document that the write speaks of.
-pub fn key_of_write(write: &Write) -> &DocumentKey
-    ensures { result.now ≡ key_of_write write.now }
-{
-    match write {
-        Write::Update {
-            key,
-            fields: _,
-            mask: _,
-            transforms: _,
-            condition: _,
-        } => key,
-        Write::Delete { key, condition: _ } => key,
-    }
-}
-
-/// Whether the write has the key.
-fn has_key(write: &Write, key: &DocumentKey) -> bool
-    ensures { result ≡ is_key (key_of_write write.now) key.now }
-{
-    key_of_write(write).cmp(key).is_eq()
-}
 
 /// Whether one time is before another.
 fn is_earlier(time: Timestamp, other: Timestamp) -> bool
@@ -61,19 +38,20 @@ fn latest(found: Option<Timestamp>, time: Timestamp) -> Option<Timestamp>
 /// The greatest version of the key's writes; `None` where no write has the key.
 fn greatest(
     key: &DocumentKey,
-    writes: &[Write],
+    writes: &KeyedWrites,
     results: &[WriteResult],
     commit: Timestamp,
 ) -> Option<Timestamp>
     requires { FitsWrites writes.now results.now }
     ensures { result ≡ greatest key.now writes.now results.now commit }
 {
+    let count = writes.as_slice().len();
     let mut found = None;
-    for place in 0..writes.len() {
-        if has_key(&writes[place], key) {
-            let version = results[place].version(commit);
-            found = latest(found, version);
-        }
+    let mut place = writes.first(key);
+    while place < count {
+        let version = results[place].version(commit);
+        found = latest(found, version);
+        place = writes.after(place);
     }
     found
 }
@@ -104,19 +82,19 @@ fn left_by(
     key: &DocumentKey,
     version: Timestamp,
     entry: Option<Entry>,
-    writes: &[Write],
+    writes: &KeyedWrites,
     results: &[WriteResult],
 ) -> Result<Option<Entry>, NoMemory>
     requires paths { All IsOfFieldsOnly writes.now }
     requires fits { FitsWrites writes.now results.now }
     ensures { IfOk result (λ left. left ≡ left_by key.now version entry writes.now results.now) }
 {
+    let all = writes.as_slice();
     let mut left = entry;
-    for place in 0..writes.len() {
-        let write = &writes[place];
-        if has_key(write, key) {
-            apply_result(alloc, &mut left, write, &results[place], version)?;
-        }
+    let mut place = writes.first(key);
+    while place < all.len() {
+        apply_result(alloc, &mut left, &all[place], &results[place], version)?;
+        place = writes.after(place);
     }
     Ok(left)
 }
@@ -131,7 +109,7 @@ pub fn acknowledged_entry(
     alloc: Global,
     key: &DocumentKey,
     entry: Option<&Entry>,
-    writes: &[Write],
+    writes: &KeyedWrites,
     results: &[WriteResult],
     commit: Timestamp,
 ) -> Result<Option<Entry>, NoMemory>

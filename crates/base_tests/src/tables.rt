@@ -3,6 +3,7 @@
 use crate::fixtures::{key, number, put, time};
 use document_keys::{DocumentKey, FieldPath};
 use key_table::KeyTable;
+use keyed_writes::KeyedWrites;
 use mutation_queue::MutationQueue;
 use mutations::{Batch, Change, Mask, Precondition, Transform, Transforms, Write, Writes};
 use overlays::{Overlays, are_of_fields, is_of_fields};
@@ -260,7 +261,8 @@ fn extend(alloc: Global, overlays: &mut Overlays, id: &str, more: &Batch) -> Res
         return Err("a path is __name__".into());
     }
     let key = room(alloc, id)?;
-    let overlay = overlays.extend(alloc, &key, None, more)?;
+    let writes = KeyedWrites::new(alloc, more.writes.as_slice())?;
+    let overlay = overlays.extend(alloc, &key, None, &writes, more.at)?;
     overlays.reserve(&overlay.key)?;
     overlays.set(overlay);
     Ok(())
@@ -402,4 +404,57 @@ fn keys_are_listed_along_their_order(rt: HostRuntime) -> Result<(), Fail> {
     table.arrange(rt.alloc())?;
     table.arrange(rt.alloc())?;
     check_listed(&rt, &mut table)
+}
+
+/// So many deletions, of the rooms `a` and `b` in turn.
+fn in_turn(alloc: Global, count: u64) -> Result<Vec<Write>, Fail> {
+    let mut writes = Vec::new(alloc);
+    for place in 0..count {
+        let id = if place % 2 == 0 { "a" } else { "b" };
+        writes.push(deletion(alloc, id)?)?;
+    }
+    Ok(writes)
+}
+
+/// The next place of the key of the write at the place.
+fn after(writes: &KeyedWrites, place: usize) -> usize {
+    if place >= writes.as_slice().len() {
+        return place;
+    }
+    writes.after(place)
+}
+
+fn check_places(
+    rt: &(impl Abort + AllocGlobal),
+    writes: &KeyedWrites,
+    count: usize,
+) -> Result<(), Fail> {
+    let alloc = rt.alloc();
+    assert!(rt; writes.first(&room(alloc, "a")?) == 0);
+    assert!(rt; writes.first(&room(alloc, "b")?) == 1);
+    assert!(rt; writes.first(&room(alloc, "c")?) == count);
+    assert!(rt; after(writes, 0) == 2 && after(writes, 1) == 3);
+    assert!(rt; after(writes, 2) == count && after(writes, 3) == count);
+    Ok(())
+}
+
+#[test]
+fn few_writes_have_places(rt: HostRuntime) -> Result<(), Fail> {
+    let writes = in_turn(rt.alloc(), 4)?;
+    check_places(&rt, &KeyedWrites::new(rt.alloc(), writes.as_slice())?, 4)
+}
+
+fn check_many(rt: &(impl Abort + AllocGlobal), writes: &KeyedWrites) -> Result<(), Fail> {
+    let alloc = rt.alloc();
+    assert!(rt; writes.first(&room(alloc, "b")?) == 1);
+    assert!(rt; writes.first(&room(alloc, "c")?) == 20);
+    assert!(rt; after(writes, 0) == 2 && after(writes, 17) == 19);
+    assert!(rt; after(writes, 18) == 20 && after(writes, 19) == 20);
+    Ok(())
+}
+
+#[test]
+fn many_writes_have_places(rt: HostRuntime) -> Result<(), Fail> {
+    let writes = in_turn(rt.alloc(), 20)?;
+    check_many(&rt, &KeyedWrites::new(rt.alloc(), writes.as_slice())?)
 }

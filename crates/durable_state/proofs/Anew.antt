@@ -26,14 +26,15 @@ use Rattle.overlays.specs.Table as overlay
 use Rattle.overlays.specs.declared.overlays.Overlay.{Overlay}
 use Rattle.remote_documents.specs.Table.{EntryMap}
 use Rattle.remote_documents.proofs.Maps.{turned}
-use Rattle.durable_state.specs.Cached.{Changed, acknowledged_keys, answered_by, cached, dropped, first_writes, seen_at, with_all, with_changed}
+use Rattle.durable_state.specs.Cached.{Changed, answered_by, cached, dropped, first_writes, seen_at, with_all, with_changed}
 use Rattle.durable_state.specs.Documents.{document_of, entry_of, is_among, is_named}
-use Rattle.durable_state.specs.Ready.{AreOf, HasDocument, IsOver, LaysAnew, LaysKeys, moved, put_change, put_changes}
+use Rattle.durable_state.specs.Ready.{AreOf, HasDocument, IsOver, LaysAnew, LaysKeys, first_keys, moved, put_change, put_changes}
 use Rattle.durable_state.specs.State.{State}
 use Rattle.durable_state.specs.Tables.{AreLaid, overlay_for}
 use Rattle.durable_state.specs.declared.ready.Step.{Step}
 use Rattle.durable_state.specs.declared.ready.Step.TheVariants.{Enqueue, Settle, Tell, Blank}
 use Rattle.durable_state.proofs.Changed.{get_changed}
+use Rattle.durable_state.proofs.Firsts.{among_first}
 use Rattle.durable_state.proofs.Laid.{among-append, first_false, in_among, local_more, named_more, not_named, not_written, or_false, or_true, second_false}
 
 -- ---- entries that changes leave, and those that they put
@@ -142,13 +143,13 @@ shows s table key laid = ap (λ f. unwrap_or f (base_of (entry_of s key))) (laid
     by false e = ap (λ b. unwrap_or (cond b (Some (document_of s key)) None) (base_of (entry_of s key))) e ∙ sym (not_named key s.batches (base_of (entry_of s key)) e)
 
 pub lays_batch : (s : State) (batch : Batch) (before after : overlay.Table) (os : List Overlay) → AreLaid s before
-    → LaysKeys after (HasDocument (λ key. after_batch key (overlay.shown before key (base_of (cached s.entries key))) batch)) (keys_of batch.writes) os → LaysAnew s (moved s (Enqueue batch) []) os []
+    → LaysKeys after (HasDocument (λ key. after_batch key (overlay.shown before key (base_of (cached s.entries key))) batch)) (first_keys batch.writes) os → LaysAnew s (moved s (Enqueue batch) []) os []
 lays_batch s batch before after os laid is = record {
-  named = all_keys os (keys_of batch.writes) (λ k. IsTrue (is_among (named_keys (s.batches ++ batch ∷ [])) k)) is.of_keys (λ i d below. joined (get_or (keys_of batch.writes) i d) (i, below, same_at i d below));
+  named = all_keys os (first_keys batch.writes) (λ k. IsTrue (is_among (named_keys (s.batches ++ batch ∷ [])) k)) is.of_keys (λ i d below. joined (get_or (first_keys batch.writes) i d) (i, below, same_at i d below));
   right = λ i d below. is.right i d below ∙ ap (λ x. after_batch (get_or os i d).key x batch) (shows s before (get_or os i d).key laid) ∙ sym (local_more (get_or os i d).key (base_of (entry_of s (get_or os i d).key)) s.batches batch);
   unnamed = All-nil (λ k. is_among (named_keys (s.batches ++ batch ∷ [])) k ≡ false);
   others = λ q none gone.
-      let not_of : is_among (keys_of batch.writes) q ≡ false = ap (λ l. is_among l q) (sym is.of_keys) ∙ none in
+      let not_of : is_among (keys_of batch.writes) q ≡ false = sym (among_first batch.writes q) ∙ ap (λ l. is_among l q) (sym is.of_keys) ∙ none in
       let named : is_among (named_keys (s.batches ++ batch ∷ [])) q ≡ is_named s q =
       ap (λ l. is_among l q) (named_more s.batches batch) ∙ among-append (named_keys s.batches) (keys_of batch.writes) q ∙ ap (λ b. is_named s q || b) not_of ∙ or_false (is_named s q) in
       let document : local_document q (base_of (entry_of s q)) (s.batches ++ batch ∷ []) ≡ document_of s q =
@@ -156,11 +157,11 @@ lays_batch s batch before after os laid is = record {
       ap (λ b. cond b (Some (local_document q (base_of (entry_of s q)) (s.batches ++ batch ∷ []))) None) named ∙ ap (λ x. cond (is_named s q) (Some x) None) document;
 }
   where
-    joined : (k : List (List ℕ)) → Contains (keys_of batch.writes) k → IsTrue (is_among (named_keys (s.batches ++ batch ∷ [])) k)
-    joined k there = ap (λ l. is_among l k) (named_more s.batches batch) ∙ among-append (named_keys s.batches) (keys_of batch.writes) k ∙ ap (λ b. is_named s k || b) (in_among k (keys_of batch.writes) there) ∙ or_true (is_named s k)
+    joined : (k : List (List ℕ)) → Contains (first_keys batch.writes) k → IsTrue (is_among (named_keys (s.batches ++ batch ∷ [])) k)
+    joined k there = ap (λ l. is_among l k) (named_more s.batches batch) ∙ among-append (named_keys s.batches) (keys_of batch.writes) k ∙ ap (λ b. is_named s k || b) (sym (among_first batch.writes k) ∙ in_among k (first_keys batch.writes) there) ∙ or_true (is_named s k)
 
-    same_at : (i : ℕ) (d : List (List ℕ)) → i < length (keys_of batch.writes) → get_or (keys_of batch.writes) i (get_or (keys_of batch.writes) i d) ≡ get_or (keys_of batch.writes) i d
-    same_at i d below = get_or_default (keys_of batch.writes) i (get_or (keys_of batch.writes) i d) d below
+    same_at : (i : ℕ) (d : List (List ℕ)) → i < length (first_keys batch.writes) → get_or (first_keys batch.writes) i (get_or (first_keys batch.writes) i d) ≡ get_or (first_keys batch.writes) i d
+    same_at i d below = get_or_default (first_keys batch.writes) i (get_or (first_keys batch.writes) i d) d below
 
 -- batches and entries stay
 pub lays_nothing : (s new : State) → new.batches ≡ s.batches → new.entries ≡ s.entries → LaysAnew s new [] []
@@ -258,18 +259,21 @@ turn : (b : Bool) → not b ≡ true → b ≡ false
 turn false e = refl
 turn true e = cc
 
-module _ (s : State) (seal : Seal) (cs : List KeyedEntry) (os : List Overlay) (lifted : List (List (List ℕ))) (of : AreOf (keys_of (first_writes s.batches)) cs) where
+module _ (s : State) (seal : Seal) (cs : List KeyedEntry) (os : List Overlay) (lifted : List (List (List ℕ))) (of : AreOf (first_keys (first_writes s.batches)) cs) where
   abbrev settled_keys : List (List (List ℕ))
-  settled_keys = keys_of (first_writes s.batches)
+  settled_keys = first_keys (first_writes s.batches)
 
   abbrev still_named : List (List ℕ) → Bool
   still_named = is_among (named_keys (drop 1 s.batches))
 
+  unwritten : (q : List (List ℕ)) → is_among settled_keys q ≡ false → is_among (keys_of (first_writes s.batches)) q ≡ false
+  unwritten q none = sym (among_first (first_writes s.batches) q) ∙ none
+
   same_overlay : (q : List (List ℕ)) → is_among settled_keys q ≡ false → overlay_for (moved s Settle (put_changes seal cs)) q ≡ overlay_for s q
   same_overlay q none =
-      ap (λ b. cond b (Some (document_of (moved s Settle (put_changes seal cs)) q)) None) (first_named s.batches q none)
+      ap (λ b. cond b (Some (document_of (moved s Settle (put_changes seal cs)) q)) None) (first_named s.batches q (unwritten q none))
       ∙ ap (λ d. cond (is_named s q) (Some d) None)
-      (ap (λ e. local_document q (base_of e) (drop 1 s.batches)) (cached_still s.entries (put_changes seal cs) q (outside seal cs settled_keys q of none)) ∙ first_left s.batches q (base_of (entry_of s q)) none)
+      (ap (λ e. local_document q (base_of e) (drop 1 s.batches)) (cached_still s.entries (put_changes seal cs) q (outside seal cs settled_keys q of none)) ∙ first_left s.batches q (base_of (entry_of s q)) (unwritten q none))
 
   either_way : (q : List (List ℕ)) (b : Bool) → still_named q ≡ b → is_among (filter still_named settled_keys) q ≡ false → is_among (filter (λ k. not (still_named k)) settled_keys) q ≡ false → overlay_for (moved s Settle (put_changes seal cs)) q ≡ overlay_for s q
   either_way q true e none lifted_none = same_overlay q (sym (among_filter still_named settled_keys q e) ∙ none)
@@ -299,9 +303,9 @@ module _ (entries : EntryMap) (writes : List Write) (results : List WriteResult)
       by None rest = rest
       by (Some e) rest = All-cons (λ (x : Changed). Contains (k ∷ keys) x.0) (k, Some (e, Committed commit)) (filter_map by_answer keys) (Contains-append_left (k ∷ []) keys k (0, omega arith, refl)) rest
 
-  pub of_answered : (cs : List KeyedEntry) → put_changes (Committed commit) cs ≡ acknowledged_keys entries writes results commit → AreOf (keys_of writes) cs
+  pub of_answered : (cs : List KeyedEntry) → put_changes (Committed commit) cs ≡ filter_map by_answer (first_keys writes) → AreOf (first_keys writes) cs
   of_answered cs is = λ i d below.
       let put = put_change (Committed commit) in
       let long = length-map cs put in
       let at = get_or-map put cs i d (put d) below in
-      subst (λ (x : Changed). Contains (keys_of writes) x.0) at (subst (All (λ (x : Changed). Contains (keys_of writes) x.0)) (sym is) (all_answered (keys_of writes)) i (put d) (omega (arith, below, long)))
+      subst (λ (x : Changed). Contains (first_keys writes) x.0) at (subst (All (λ (x : Changed). Contains (first_keys writes) x.0)) (sym is) (all_answered (first_keys writes)) i (put d) (omega (arith, below, long)))

@@ -5,8 +5,6 @@ use Rattle.std.proofs.lemmas.Grind.{fold-append}
 use Rattle.std.proofs.lemmas.List.{map-append, take_more}
 use Rattle.std.proofs.lemmas.List.Elements.{All-push, filter_map-append}
 use Rattle.std.specs.List.{cons_option, filter_map}
-use Rattle.mutations.specs.declared.write.Write.{Write}
-use Rattle.mutation_queue.specs.Queue.{keys_of, written_key}
 use Rattle.document_keys.specs.KeySet.{is_key}
 use Rattle.value_model.specs.declared.document.Entry.{Entry}
 use Rattle.value_model.specs.declared.document.Seal.{Seal}
@@ -59,7 +57,7 @@ places_next old new cs i c below item keeps had place =
     places_more old new (take i cs) (take (i + 1) cs) c (take_more cs i c below ∙ ap (λ x. take i cs ++ x ∷ []) (sym item)) keeps had place
 
 -- the entry of a key after one change more
-entry_by : (b : Bool) (e : Entry) (s : Seal) (found : Option (Entry × Seal)) → option_map (λ p. p.0) (cond b (Some (e, s)) found) ≡ cond b (Some e) (option_map (λ p. p.0) found)
+pub entry_by : (b : Bool) (e : Entry) (s : Seal) (found : Option (Entry × Seal)) → option_map (λ p. p.0) (cond b (Some (e, s)) found) ≡ cond b (Some e) (option_map (λ p. p.0) found)
 entry_by true e s found = refl
 entry_by false e s found = refl
 
@@ -73,21 +71,16 @@ cached_more entries seal cs i c q below is =
     ∙ entry_by (is_key c.key q) c.entry seal (finite.get front q)
 
 -- the answer's entry of one key more, or none
-pub answered_more : {X : Type 0} (seal : Seal) (h : X → Option Changed) (xs : List X) (i : ℕ) (x : X) (cs after : List KeyedEntry) (c : KeyedEntry) (found : Option KeyedEntry) → i < length xs → x ≡ get_or xs i x → found ≡ Some c → after ≡ cs ++ c ∷ []
-    → option_map (put_change seal) found ≡ h x → put_changes seal cs ≡ filter_map h (take i xs) → put_changes seal after ≡ filter_map h (take (i + 1) xs)
-answered_more seal h xs i x cs after c found below item there pushed is so_far =
+pub answered_one : (seal : Seal) (h : List (List ℕ) → Option Changed) (keys : List (List (List ℕ))) (key : List (List ℕ)) (cs after : List KeyedEntry) (c : KeyedEntry) (found : Option KeyedEntry) → found ≡ Some c → after ≡ cs ++ c ∷ []
+    → option_map (put_change seal) found ≡ h key → put_changes seal cs ≡ filter_map h keys → put_changes seal after ≡ filter_map h (keys ++ key ∷ [])
+answered_one seal h keys key cs after c found there pushed is so_far =
     ap (put_changes seal) pushed ∙ map-append (put_change seal) cs (c ∷ []) ∙ ap (λ l. l ++ put_change seal c ∷ []) so_far
-    ∙ ap (λ (o : Option Changed). filter_map h (take i xs) ++ cons_option o []) (sym (ap (option_map (put_change seal)) there) ∙ is)
-    ∙ sym (ap (filter_map h) (take_more xs i x below ∙ ap (λ y. take i xs ++ y ∷ []) (sym item)) ∙ filter_map-append h (take i xs) (x ∷ []))
+    ∙ ap (λ (o : Option Changed). filter_map h keys ++ cons_option o []) (sym (ap (option_map (put_change seal)) there) ∙ is)
+    ∙ sym (filter_map-append h keys (key ∷ []))
 
-pub answered_none : {X : Type 0} (seal : Seal) (h : X → Option Changed) (xs : List X) (i : ℕ) (x : X) (cs after : List KeyedEntry) (found : Option KeyedEntry) → i < length xs → x ≡ get_or xs i x → found ≡ None → after ≡ cs
-    → option_map (put_change seal) found ≡ h x → put_changes seal cs ≡ filter_map h (take i xs) → put_changes seal after ≡ filter_map h (take (i + 1) xs)
-answered_none seal h xs i x cs after found below item there same is so_far =
-    ap (put_changes seal) same ∙ so_far ∙ sym (append-nil (filter_map h (take i xs)))
-    ∙ ap (λ (o : Option Changed). filter_map h (take i xs) ++ cons_option o []) (sym (ap (option_map (put_change seal)) there) ∙ is)
-    ∙ sym (ap (filter_map h) (take_more xs i x below ∙ ap (λ y. take i xs ++ y ∷ []) (sym item)) ∙ filter_map-append h (take i xs) (x ∷ []))
-
--- the keys of some writes, by their answers
-pub filter_keys : (h : List (List ℕ) → Option Changed) (ws : List Write) → filter_map h (keys_of ws) ≡ filter_map (λ w. h (written_key w)) ws
-filter_keys h [] = refl
-filter_keys h (w ∷ ws) = ap (λ l. cons_option (h (written_key w)) l) (filter_keys h ws)
+pub answered_none : (seal : Seal) (h : List (List ℕ) → Option Changed) (keys : List (List (List ℕ))) (key : List (List ℕ)) (cs after : List KeyedEntry) (found : Option KeyedEntry) → found ≡ None → after ≡ cs
+    → option_map (put_change seal) found ≡ h key → put_changes seal cs ≡ filter_map h keys → put_changes seal after ≡ filter_map h (keys ++ key ∷ [])
+answered_none seal h keys key cs after found there same is so_far =
+    ap (put_changes seal) same ∙ so_far ∙ sym (append-nil (filter_map h keys))
+    ∙ ap (λ (o : Option Changed). filter_map h keys ++ cons_option o []) (sym (ap (option_map (put_change seal)) there) ∙ is)
+    ∙ sym (filter_map-append h keys (key ∷ []))

@@ -2,6 +2,8 @@ pub mod Kept
 pub mod Laid
 pub mod Anew
 pub mod Changed
+pub mod Firsts
+pub mod Newest
 pub mod Relaid
 pub mod Making
 pub mod Rows

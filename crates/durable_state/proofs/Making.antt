@@ -1,19 +1,27 @@
 -- commits that are ready
 use Rattle.std.proofs.Common.{◌≡◌, ◌∙◌, ◌<◌, ℕ, List, [], ◌++◌, IsTrue, append-nil, refl, sym, ap, subst}
-use Rattle.std.specs.List.{All}
+use Rattle.std.specs.List.{All, filter_map}
 use Rattle.std.proofs.lemmas.List.Elements.{All-nil}
 use Rattle.value_model.specs.declared.document.Seal.{Seal}
+use Rattle.value_model.specs.declared.document.Seal.TheVariants.{Committed}
+use Rattle.value_model.specs.declared.timestamp.Timestamp.{Timestamp}
+use Rattle.mutations.specs.declared.results.WriteResult.{WriteResult}
+use Rattle.mutations.specs.declared.write.Write.{Write}
 use Rattle.outcome_codec.specs.declared.parts.KeyedEntry.{KeyedEntry}
 use Rattle.overlays.specs.Table as overlay
 use Rattle.overlays.specs.declared.overlays.Overlay.{Overlay}
 use Rattle.remote_documents.specs.Table as remote
-use Rattle.durable_state.specs.Cached.{Changed, dropped}
-use Rattle.durable_state.specs.Ready.{HasRoomFor, HavePlaces, IsReady, LaysAnew, changes_of, moved, put_changes}
-use Rattle.durable_state.specs.State.{most_commits}
+use Rattle.record_codec.specs.declared.commit.Commit.TheVariants.{Acknowledge}
+use Rattle.remote_documents.specs.Table.{EntryMap}
+use Rattle.durable_state.specs.Cached.{Changed, acknowledged_keys, answered_by, dropped, first_writes, with_all}
+use Rattle.durable_state.specs.Ready.{HasRoomFor, HavePlaces, IsReady, LaysAnew, changes_of, first_keys, moved, put_changes}
+use Rattle.durable_state.specs.State.{State, committed, most_commits}
 use Rattle.durable_state.specs.Tables.{Tables, state_in}
 use Rattle.durable_state.specs.declared.ready.Ready.{Ready}
 use Rattle.durable_state.specs.declared.ready.Step.{Step}
+use Rattle.durable_state.specs.declared.ready.Step.TheVariants.{Settle}
 use Rattle.durable_state.proofs.Anew.{lays_as, lays_nothing}
+use Rattle.durable_state.proofs.Firsts.{answers_same}
 
 pub make_ready : (t : Tables) (ready : Ready) (step : Step) (cs : List Changed) (lifted : List (List (List ℕ))) → t.number < most_commits → ready.step ≡ step → changes_of ready ≡ cs → ready.lifted.items ≡ lifted
     → HasRoomFor t.pending t.targets step → HavePlaces t.entries ready.changes.items → All (λ (o : Overlay). IsTrue (overlay.has_place t.overlays o.key)) ready.overlays.items
@@ -44,3 +52,10 @@ ready_alone t ready step left batches step_is none_put none_dropped none_laid no
 
 pub none_placed : (table : remote.Table) (changes : List KeyedEntry) → changes ≡ [] → HavePlaces table changes
 none_placed table changes none = subst (HavePlaces table) (sym none) (All-nil _)
+
+-- an answer to each key once moves the state as the commit does
+pub answered_moved : (s : State) (id : ℕ) (at : Timestamp) (results : List WriteResult) (writes : List Write) (cs : List KeyedEntry) → writes ≡ first_writes s.batches
+    → put_changes (Committed at) cs ≡ filter_map (answered_by s.entries writes results at) (first_keys writes) → moved s Settle (put_changes (Committed at) cs) ≡ committed s (Acknowledge id at results)
+answered_moved s id at results writes cs first is =
+    ap (λ (m : EntryMap). record (moved s Settle (put_changes (Committed at) cs)) { entries = m })
+    (ap (with_all s.entries) is ∙ answers_same s.entries writes results at ∙ ap (λ (ws : List Write). with_all s.entries (acknowledged_keys s.entries ws results at)) first)

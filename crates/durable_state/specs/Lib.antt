@@ -1,6 +1,7 @@
 pub mod Cached
 pub mod Documents
 pub mod Lending
+pub mod News
 pub mod Ready
 pub mod Rising
 pub mod Rows

@@ -7,6 +7,7 @@ use Rattle.value_model.specs.declared.document.Entry.{Entry}
 use Rattle.value_model.specs.declared.document.Seal.{Seal}
 use Rattle.value_model.specs.declared.timestamp.Timestamp.{Timestamp}
 use Rattle.mutations.specs.declared.batch.Batch.{Batch}
+use Rattle.mutations.specs.declared.write.Write.{Write}
 use Rattle.outcome_codec.specs.declared.parts.KeyedEntry.{KeyedEntry}
 use Rattle.mutation_queue.specs.Queue as queue
 use Rattle.overlays.specs.LocalDocument.{base_of, local_document}
@@ -87,6 +88,14 @@ HasRoomFor pending targets (Blank ids) = All (HasRow targets.rows) ids.items
 -- each entry that is changed has a place
 abbrev pub HavePlaces : remote.Table → List KeyedEntry → Type 0
 HavePlaces table changes = All (λ (c : KeyedEntry). IsTrue (remote.has_place table c.key)) changes
+
+-- the keys with that of a write, unless it is there
+abbrev pub with_first : List (List (List ℕ)) → Write → List (List (List ℕ))
+with_first keys write = keys ++ (if is_among keys (queue.written_key write) then [] else queue.written_key write ∷ [])
+
+-- the keys of some writes, each once, where it comes first
+abbrev pub first_keys : List Write → List (List (List ℕ))
+first_keys writes = fold with_first [] writes
 
 -- each change is one of these keys
 abbrev pub AreOf : List (List (List ℕ)) → List KeyedEntry → Type 0

@@ -1,11 +1,10 @@
 //! Each kind of commit made ready. The state stays; places are made for what it will put.
 
 ghost use Rattle.std.specs.Prelude.{◌≡◌, ◌<◌, ◌≤◌, ℕ, IfOk, OnOk};
-ghost use Rattle.mutation_queue.specs.Queue.{keys_of};
 ghost use Rattle.durable_state.specs.Cached.{first_writes};
 ghost use Rattle.record_codec.specs.declared.commit.Commit.TheVariants as commits;
 ghost use Rattle.record_codec.specs.Spelling.{HasSpelling};
-ghost use Rattle.durable_state.specs.Ready.{AreOf, HavePlaces, IsReady, moved, put_changes, state_by};
+ghost use Rattle.durable_state.specs.Ready.{AreOf, HavePlaces, IsReady, first_keys, moved, put_changes, state_by};
 ghost use Rattle.durable_state.specs.State.{Fits, committed, most_commits};
 ghost use Rattle.durable_state.specs.Tables.{state_in};
 ghost use Rattle.durable_state.specs.declared.ready.Step.TheVariants.{Settle};
@@ -71,7 +70,7 @@ impl DurableState {
     ) -> Result<Ready, NoMemory>
         requires number { self.old.number < most_commits }
         requires places { HavePlaces self.old.entries changes.items }
-        requires keys { AreOf (keys_of (first_writes self.old.pending.batches)) changes.items }
+        requires keys { AreOf (first_keys (first_writes self.old.pending.batches)) changes.items }
         ensures same { state_in self.new ≡ state_in self.old }
         ensures ready { IfOk result (IsReady self.new) }
         ensures moves { IfOk result (λ ready. state_by (state_in self.old) ready

@@ -14,6 +14,7 @@ mod fitting;
 mod laws;
 mod lending;
 mod merging;
+mod news;
 mod ready;
 mod readying;
 mod relaying;

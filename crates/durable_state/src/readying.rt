@@ -1,18 +1,20 @@
 //! What a commit needs before it is made: entries, overlays, and a place for each.
 
 ghost use Rattle.std.specs.Prelude.{◌≡◌, IsTrue, IfOk, IfSome, OnOk, option_map};
-ghost use Rattle.std.specs.List.{All};
+ghost use Rattle.std.specs.List.{All, filter_map};
 ghost use Rattle.value_model.specs.declared.document.Seal.{Seal};
 ghost use Rattle.value_model.specs.declared.document.Seal.TheVariants.{Committed};
 ghost use Rattle.mutations.specs.Effect.{IsOfFieldsOnly};
 ghost use Rattle.mutations.specs.Results.{FitsWrites};
 ghost use Rattle.remote_documents.specs.Table as remote;
 ghost use Rattle.remote_documents.specs.Table.{IsMapOf, entries_in};
-ghost use Rattle.durable_state.specs.Cached.{acknowledged_keys, answered_by, cached, with_all};
-ghost use Rattle.durable_state.specs.Ready.{HavePlaces, put_change, put_changes};
+ghost use Rattle.durable_state.specs.Cached.{answered_by, cached, with_all};
+ghost use Rattle.durable_state.specs.Ready.{HavePlaces, first_keys, put_change, put_changes};
 
+use crate::news::News;
 use acknowledgements::acknowledged_entry;
 use document_keys::{DocumentKey, NoMemory};
+use keyed_writes::KeyedWrites;
 use mutation_queue::written_key;
 use mutations::{Write, WriteResult};
 use outcome_codec::KeyedEntry;
@@ -42,20 +44,17 @@ pub(crate) fn known<'a>(entries: &'a RemoteDocuments, key: &DocumentKey) -> Opti
 /// The entry of the key after the changes, without its seal, whatever seal the changes have.
 pub(crate) fn known_after<'a>(
     entries: &'a RemoteDocuments,
-    changes: &'a [KeyedEntry],
+    news: &News<'a>,
     key: &DocumentKey,
 ) -> Option<&'a Entry>
     requires { IsMapOf entries.now }
     ensures { (seal : Seal) → option_map (λ e. e.now) result
-        ≡ cached (with_all (entries_in entries.now) (put_changes seal changes.now)) key.now }
+        ≡ cached (with_all (entries_in entries.now) (put_changes seal news.now)) key.now }
 {
-    let mut found = known(entries, key);
-    for change in changes {
-        if change.key == *key {
-            found = Some(&change.entry);
-        }
+    match news.entry(key) {
+        Some(entry) => Some(entry),
+        None => known(entries, key),
     }
-    found
 }
 
 /// Makes a place for the key's entry. No entry changes.
@@ -82,27 +81,62 @@ fn answered_key(
     alloc: Global,
     entries: &mut RemoteDocuments,
     key: &DocumentKey,
+    writes: &KeyedWrites,
     answer: &Answer,
 ) -> Result<Option<KeyedEntry>, NoMemory>
-    requires paths { All IsOfFieldsOnly answer.now.writes.now }
-    requires fits { FitsWrites answer.now.writes.now answer.now.results.now }
+    requires paths { All IsOfFieldsOnly writes.now }
+    requires fits { FitsWrites writes.now answer.now.results.now }
     requires map { IsMapOf entries.old }
     ensures same { entries_in entries.new ≡ entries_in entries.old }
     ensures map { IsMapOf entries.new }
     ensures places { remote.KeepsPlaces entries.old entries.new }
     ensures change { IfOk result (λ found. option_map (put_change (Committed answer.now.at)) found
-        ≡ answered_by (entries_in entries.old) answer.now.writes.now answer.now.results.now
+        ≡ answered_by (entries_in entries.old) writes.now answer.now.results.now
         answer.now.at key.now) }
     ensures place { IfOk result (λ found. IfSome found (λ c. IsTrue (remote.has_place entries.new c.key))) }
 {
     let entry = known(entries, key);
-    let left = acknowledged_entry(alloc, key, entry, answer.writes, answer.results, answer.at)?;
+    let left = acknowledged_entry(alloc, key, entry, writes, answer.results, answer.at)?;
     let Some(entry) = left else {
         return Ok(None);
     };
     make_place(entries, key)?;
     let key = key.copy(alloc)?;
     Ok(Some(KeyedEntry { key, entry }))
+}
+
+/// The entries that the answer leaves of the keys that the writes name, and a place for each.
+///
+/// # Errors
+/// `NoMemory`
+fn answer_each(
+    alloc: Global,
+    entries: &mut RemoteDocuments,
+    writes: &KeyedWrites,
+    answer: &Answer,
+) -> Result<Vec<KeyedEntry>, NoMemory>
+    requires paths { All IsOfFieldsOnly writes.now }
+    requires fits { FitsWrites writes.now answer.now.results.now }
+    requires map { IsMapOf entries.old }
+    ensures same { entries_in entries.new ≡ entries_in entries.old }
+    ensures map { IsMapOf entries.new }
+    ensures changes { IfOk result (λ changes. put_changes (Committed answer.now.at) changes.items
+        ≡ filter_map (answered_by (entries_in entries.old) writes.now answer.now.results.now
+        answer.now.at) (first_keys writes.now)) }
+    ensures places { IfOk result (λ changes. HavePlaces entries.new changes.items) }
+{
+    let all = writes.as_slice();
+    let mut changes = Vec::with_capacity(alloc, all.len())?;
+    for place in 0..all.len() {
+        let key = written_key(&all[place]);
+        if writes.first(key) == place {
+            let found = answered_key(alloc, entries, key, writes, answer)?;
+            if let Some(change) = found {
+                changes.push(change)?;
+            }
+        }
+    }
+    Ok(changes)
 }
 
 /// The entries that the answer leaves of the keys that its writes name, and a place for each.
@@ -120,18 +154,12 @@ pub(crate) fn answered(
     ensures same { entries_in entries.new ≡ entries_in entries.old }
     ensures map { IsMapOf entries.new }
     ensures changes { IfOk result (λ changes. put_changes (Committed answer.now.at) changes.items
-        ≡ acknowledged_keys (entries_in entries.old) answer.now.writes.now answer.now.results.now
-        answer.now.at) }
+        ≡ filter_map (answered_by (entries_in entries.old) answer.now.writes.now answer.now.results.now
+        answer.now.at) (first_keys answer.now.writes.now)) }
     ensures places { IfOk result (λ changes. HavePlaces entries.new changes.items) }
 {
-    let mut changes = Vec::with_capacity(alloc, answer.writes.len())?;
-    for write in answer.writes {
-        let found = answered_key(alloc, entries, written_key(write), answer)?;
-        if let Some(change) = found {
-            changes.push(change)?;
-        }
-    }
-    Ok(changes)
+    let writes = KeyedWrites::new(alloc, answer.writes)?;
+    answer_each(alloc, entries, &writes, answer)
 }
 
 /// Makes a place for each of the changes. No entry changes.

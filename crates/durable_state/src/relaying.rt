@@ -1,25 +1,28 @@
 //! Overlays worked out for a commit, each with a place.
 
-ghost use Rattle.std.specs.Prelude.{◌≡◌, drop, not, map as each, None, IsTrue, IfOk, OnOk, option_map};
+ghost use Rattle.std.specs.Prelude.{◌≡◌, [], drop, not, map as each, None, IsTrue, IfOk, OnOk, option_map};
 ghost use Rattle.std.specs.List.{All, filter};
 ghost use Rattle.value_model.specs.declared.document.Seal.{Seal};
-ghost use Rattle.mutation_queue.specs.Queue.{keys_of, named_keys};
-ghost use Rattle.overlays.specs.LocalDocument.{after_batch, base_of, local_document};
+ghost use Rattle.mutations.specs.Effect.{IsOfFieldsOnly};
+ghost use Rattle.mutation_queue.specs.Queue.{named_keys};
+ghost use Rattle.overlays.specs.LocalDocument.{after_batch, after_writes, base_of, local_document};
 ghost use Rattle.overlays.specs.Table.{IsBatchOfFields, KeepsPlaces, SameOverlays, has_place, shown};
 ghost use Rattle.remote_documents.specs.Table.{IsMapOf, entries_in};
 ghost use Rattle.durable_state.specs.Cached.{cached, first_writes, with_all};
 ghost use Rattle.durable_state.specs.Documents.{is_among};
-ghost use Rattle.durable_state.specs.Ready.{HasDocument, IsOver, LaysKeys, Settles, put_changes};
+ghost use Rattle.durable_state.specs.Ready.{HasDocument, IsOver, LaysKeys, Settles, first_keys, put_changes};
 
+use crate::news::News;
 use crate::readying::{known, known_after};
 use document_keys::{DocumentKey, KeySet, NoMemory};
+use keyed_writes::KeyedWrites;
 use mutation_queue::{MutationQueue, written_key};
 use mutations::Batch;
 use outcome_codec::KeyedEntry;
 use overlays::{Overlay, Overlays};
 use remote_documents::RemoteDocuments;
 use std::alloc::Global;
-use value_model::Entry;
+use value_model::{Entry, Timestamp};
 
 /// The overlay of the key with its local document over the entry and the pending batches past the first so many; a place
 /// is made for it.
@@ -47,7 +50,7 @@ fn overlay_over(
     overlays.prepare_pending(alloc, key, entry, pending, past)
 }
 
-/// The overlay of the key after one batch more; a place is made for it.
+/// The overlay of the key after the writes of one batch more; a place is made for it.
 ///
 /// # Errors
 /// `NoMemory`
@@ -56,18 +59,50 @@ fn overlay_after(
     overlays: &mut Overlays,
     key: &DocumentKey,
     entry: Option<&Entry>,
-    batch: &Batch,
+    writes: &KeyedWrites,
+    at: Timestamp,
 ) -> Result<Overlay, NoMemory>
-    requires { IsBatchOfFields batch.now }
+    requires { All IsOfFieldsOnly writes.now }
     ensures same { SameOverlays overlays.old overlays.new }
     ensures places { KeepsPlaces overlays.old overlays.new }
     ensures key { IfOk result (λ o. o.key ≡ key.now) }
     ensures place { OnOk result (IsTrue (has_place overlays.new key.now)) }
-    ensures document { IfOk result (λ o. o.document ≡ after_batch key.now
-        (shown overlays.new key.now (base_of (option_map (λ e. e.now) entry.entry))) batch.now) }
+    ensures document { IfOk result (λ o. o.document ≡ after_writes key.now at
+        (shown overlays.new key.now (base_of (option_map (λ e. e.now) entry.entry))) writes.now) }
 {
     overlays.reserve(key)?;
-    overlays.extend(alloc, key, entry, batch)
+    overlays.extend(alloc, key, entry, writes, at)
+}
+
+/// The overlays of the keys of the writes, once these are the last pending ones, made at the time.
+///
+/// # Errors
+/// `NoMemory`
+fn lay_each(
+    alloc: Global,
+    overlays: &mut Overlays,
+    entries: &RemoteDocuments,
+    keyed: &KeyedWrites,
+    at: Timestamp,
+) -> Result<Vec<Overlay>, NoMemory>
+    requires fields { All IsOfFieldsOnly keyed.now }
+    requires map { IsMapOf entries.now }
+    ensures same { SameOverlays overlays.old overlays.new }
+    ensures laid { IfOk result (λ laid. LaysKeys overlays.new (HasDocument (λ key. after_writes key at
+        (shown overlays.old key (base_of (cached (entries_in entries.now) key))) keyed.now))
+        (first_keys keyed.now) laid.items) }
+{
+    let writes = keyed.as_slice();
+    let mut laid = Vec::with_capacity(alloc, writes.len())?;
+    for place in 0..writes.len() {
+        let key = written_key(&writes[place]);
+        if keyed.first(key) == place {
+            let entry = known(entries, key);
+            let overlay = overlay_after(alloc, overlays, key, entry, keyed, at);
+            laid.push(overlay?)?;
+        }
+    }
+    Ok(laid)
 }
 
 /// The overlays of the keys that the batch names, once it is the last pending one.
@@ -85,15 +120,10 @@ pub(crate) fn lay_batch(
     ensures same { SameOverlays overlays.old overlays.new }
     ensures laid { IfOk result (λ laid. LaysKeys overlays.new (HasDocument (λ key. after_batch key
         (shown overlays.old key (base_of (cached (entries_in entries.now) key))) batch.now))
-        (keys_of batch.now.writes) laid.items) }
+        (first_keys batch.now.writes) laid.items) }
 {
-    let mut laid = Vec::with_capacity(alloc, batch.writes.as_slice().len())?;
-    for write in batch.writes.as_slice() {
-        let key = written_key(write);
-        let overlay = overlay_after(alloc, overlays, key, known(entries, key), batch);
-        laid.push(overlay?)?;
-    }
-    Ok(laid)
+    let keyed = KeyedWrites::new(alloc, batch.writes.as_slice())?;
+    lay_each(alloc, overlays, entries, &keyed, batch.at)
 }
 
 /// The overlays of those keys that pending batches name, after their entries were changed.
@@ -156,6 +186,17 @@ pub(crate) struct Relaid {
 }
 
 impl Relaid {
+    /// Nothing yet.
+    fn none(alloc: Global) -> Relaid
+        ensures laid { result.laid.items ≡ [] }
+        ensures lifted { result.lifted.items ≡ [] }
+    {
+        Relaid {
+            laid: Vec::new(alloc),
+            lifted: Vec::new(alloc),
+        }
+    }
+
     /// Puts in what becomes of the key once the first pending batch has left.
     ///
     /// # Errors
@@ -184,6 +225,44 @@ impl Relaid {
     }
 }
 
+/// What becomes of the overlays of the keys of the writes, once the first pending batch has left and the entries were
+/// changed.
+///
+/// # Errors
+/// `NoMemory`
+fn settle_each<'a>(
+    alloc: Global,
+    overlays: &mut Overlays,
+    pending: &MutationQueue,
+    entries: &'a RemoteDocuments,
+    keyed: &KeyedWrites,
+    news: &News<'a>,
+) -> Result<Relaid, NoMemory>
+    requires fields { All IsBatchOfFields pending.now.batches }
+    requires map { IsMapOf entries.now }
+    ensures same { SameOverlays overlays.old overlays.new }
+    ensures laid { IfOk result (λ relaid. (seal : Seal) → LaysKeys overlays.new
+        (HasDocument (λ key. local_document key
+        (base_of (cached (with_all (entries_in entries.now) (put_changes seal news.now)) key))
+        (drop 1 pending.now.batches)))
+        (filter (is_among (named_keys (drop 1 pending.now.batches)))
+        (first_keys keyed.now)) relaid.laid.items) }
+    ensures lifted { IfOk result (λ relaid. relaid.lifted.items ≡
+        filter (λ key. not (is_among (named_keys (drop 1 pending.now.batches)) key))
+        (first_keys keyed.now)) }
+{
+    let mut relaid = Relaid::none(alloc);
+    let writes = keyed.as_slice();
+    for place in 0..writes.len() {
+        let key = written_key(&writes[place]);
+        if keyed.first(key) == place {
+            let entry = known_after(entries, news, key);
+            relaid.settle(alloc, overlays, pending, key, entry)?;
+        }
+    }
+    Ok(relaid)
+}
+
 /// What becomes of the overlays of the keys that the first pending batch names, once it has left and the entries were
 /// changed.
 ///
@@ -204,22 +283,15 @@ pub(crate) fn lay_behind(
         (base_of (cached (with_all (entries_in entries.now) (put_changes seal changes.now)) key))
         (drop 1 pending.now.batches)))
         (filter (is_among (named_keys (drop 1 pending.now.batches)))
-        (keys_of (first_writes pending.now.batches))) relaid.laid.items) }
+        (first_keys (first_writes pending.now.batches))) relaid.laid.items) }
     ensures lifted { IfOk result (λ relaid. relaid.lifted.items ≡
         filter (λ key. not (is_among (named_keys (drop 1 pending.now.batches)) key))
-        (keys_of (first_writes pending.now.batches))) }
+        (first_keys (first_writes pending.now.batches))) }
 {
-    let mut relaid = Relaid {
-        laid: Vec::new(alloc),
-        lifted: Vec::new(alloc),
-    };
     let Some(first) = pending.first() else {
-        return Ok(relaid);
+        return Ok(Relaid::none(alloc));
     };
-    for write in first.writes.as_slice() {
-        let key = written_key(write);
-        let entry = known_after(entries, changes, key);
-        relaid.settle(alloc, overlays, pending, key, entry)?;
-    }
-    Ok(relaid)
+    let keyed = KeyedWrites::new(alloc, first.writes.as_slice())?;
+    let news = News::new(alloc, changes)?;
+    settle_each(alloc, overlays, pending, entries, &keyed, &news)
 }

@@ -21,6 +21,10 @@ base_of (Some (Unknown version)) = None
 abbrev pub after_write : List (List ℕ) → Timestamp → Option Document → Write → Option Document
 after_write key at document write = if is_key (written_key write) key then effect document write at else document
 
+-- after some writes that are made at one time, in order
+abbrev pub after_writes : List (List ℕ) → Timestamp → Option Document → List Write → Option Document
+after_writes key at document writes = fold (after_write key at) document writes
+
 -- after a batch: its writes, in order
 abbrev pub after_batch : List (List ℕ) → Option Document → Batch → Option Document
 after_batch key document batch = fold (after_write key batch.at) document batch.writes

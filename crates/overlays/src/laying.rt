@@ -4,14 +4,15 @@ ghost use Rattle.std.specs.Prelude.{◌≡◌, ◌↔◌, IsTrue, IfOk, map};
 ghost use Rattle.std.specs.List.{All};
 ghost use Rattle.mutations.specs.Effect.{IsOfFieldsOnly};
 ghost use Rattle.overlays.specs.Lent.{known};
-ghost use Rattle.overlays.specs.LocalDocument.{after_batch, local_document};
+ghost use Rattle.overlays.specs.LocalDocument.{after_batch, after_writes, local_document};
 ghost use Rattle.overlays.specs.Table.{IsBatchOfFields};
 
 use document_keys::{DocumentKey, NoMemory};
+use keyed_writes::KeyedWrites;
 use mutation_queue::written_key;
 use mutations::{Batch, Write, apply_local};
 use std::alloc::Global;
-use value_model::{Document, Entry, SharedFields};
+use value_model::{Document, Entry, SharedFields, Timestamp};
 
 /// Whether no path of the writes is `__name__`.
 fn writes_are_of_fields(writes: &[Write]) -> bool
@@ -73,6 +74,27 @@ pub(crate) fn laid_on(
         if written_key(write) == key {
             apply_local(alloc, &mut document, write, batch.at)?;
         }
+    }
+    Ok(document)
+}
+
+/// The key's document after the writes that are made at the time. It looks at those of the key alone.
+pub(crate) fn keyed_laid_on(
+    alloc: Global,
+    key: &DocumentKey,
+    document: Option<Document>,
+    writes: &KeyedWrites,
+    at: Timestamp,
+) -> Result<Option<Document>, NoMemory>
+    requires { All IsOfFieldsOnly writes.now }
+    ensures { IfOk result (λ new. new ≡ after_writes key.now at document writes.now) }
+{
+    let all = writes.as_slice();
+    let mut document = document;
+    let mut place = writes.first(key);
+    while place < all.len() {
+        apply_local(alloc, &mut document, &all[place], at)?;
+        place = writes.after(place);
     }
     Ok(document)
 }

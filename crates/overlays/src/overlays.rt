@@ -2,16 +2,18 @@ ghost use Rattle.std.specs.Prelude.{◌≡◌, ◌↔◌, ℕ, List, Some, None,
 ghost use Rattle.std.specs.List.{All, AllPairs, Contains};
 ghost use Rattle.std.specs.Option.{ForSome, IsSome};
 ghost use Rattle.document_keys.specs.Order.{PathBefore};
+ghost use Rattle.mutations.specs.Effect.{IsOfFieldsOnly};
 ghost use Rattle.value_model.specs.Documents.{IsIn};
 ghost use Rattle.overlays.specs.Lent.{known, lent_document, with_more};
-ghost use Rattle.overlays.specs.LocalDocument.{after_batch, local_document};
+ghost use Rattle.overlays.specs.LocalDocument.{after_writes, local_document};
 ghost use Rattle.overlays.specs.Table.{Changes, IsBatchOfFields, KeepsOtherPlaces, KeepsPlaces, SameOverlays};
 ghost use Rattle.overlays.specs.Table.{has_place, overlay_of, shown};
 
-use crate::laying::{all_laid_on, base, laid_on, lent_laid_on};
+use crate::laying::{all_laid_on, base, keyed_laid_on, laid_on, lent_laid_on};
 use crate::slot::Slot;
 use document_keys::{CollectionPath, DocumentKey, NoMemory};
 use key_table::KeyTable;
+use keyed_writes::KeyedWrites;
 use mutation_queue::MutationQueue;
 use mutations::Batch;
 use std::alloc::Global;
@@ -134,8 +136,8 @@ impl Overlays {
         }
     }
 
-    /// Works out the local document of the key after one batch more, from what it is now. No path of the batch's writes is
-    /// `__name__`.
+    /// Works out the local document of the key after the writes of one batch more, which is made at the time, from what it is
+    /// now. No path of the writes is `__name__`. It looks at those of the key alone.
     ///
     /// # Errors
     /// `NoMemory`
@@ -144,15 +146,16 @@ impl Overlays {
         alloc: Global,
         key: &DocumentKey,
         entry: Option<&Entry>,
-        more: &Batch,
+        more: &KeyedWrites,
+        at: Timestamp,
     ) -> Result<Overlay, NoMemory>
-        requires { IsBatchOfFields more.now }
+        requires { All IsOfFieldsOnly more.now }
         ensures key { IfOk result (λ overlay. overlay.key ≡ key.now) }
         ensures document { IfOk result (λ overlay. overlay.document ≡
-            after_batch key.now (shown self.now key.now (known entry.entry)) more.now) }
+            after_writes key.now at (shown self.now key.now (known entry.entry)) more.now) }
     {
         let document = self.shown(alloc, key, entry)?;
-        let document = laid_on(alloc, key, document, more)?;
+        let document = keyed_laid_on(alloc, key, document, more, at)?;
         let key = key.copy(alloc)?;
         Ok(Overlay { key, document })
     }

@@ -1,6 +1,15 @@
-use Rattle.std.proofs.Common.{◌≡◌, fold, drop}
-use Rattle.acknowledgements.specs.Acked.{answered, greatest, latest, versions}
+use Rattle.std.proofs.Common.{◌≡◌, ◌<◌, ◌≤◌, ◌-◌, true, fold, drop, get_or, length}
+use Rattle.document_keys.specs.KeySet.{is_key}
+use Rattle.mutations.specs.declared.write.Write.{Write}
+use Rattle.acknowledgements.specs.Acked.{answered, greatest, key_of_write, latest, versions}
 use Rattle.acknowledgements.proofs.acked.greatest.Given as goal
 
 abbrev pub invariant-loop-place : goal.invariant-loop-place
-invariant-loop-place l = fold latest l.found (versions l.commit (answered l.key (drop l.place l.writes) (drop l.place l.results))) ≡ greatest l.key l.writes l.results l.commit
+invariant-loop-place l = record {
+  within : l.place ≤ length l.writes;
+  of_key : (w : Write) → l.place < length l.writes → is_key (key_of_write (get_or l.writes l.place w)) l.key ≡ true;
+  so_far : fold latest l.found (versions l.commit (answered l.key (drop l.place l.writes) (drop l.place l.results))) ≡ greatest l.key l.writes l.results l.commit;
+}
+
+abbrev pub decreases-loop-place : goal.decreases-loop-place
+decreases-loop-place l = length l.writes - l.place

@@ -1,20 +1,15 @@
-use Rattle.std.proofs.Common.{◌≡◌, ◌∙◌, Bool, Some, cond, take, option_map, sym, ap}
-use Rattle.document_keys.specs.KeySet.{is_key}
-use Rattle.mutation_queue.proofs.Tables.{same_test}
+use Rattle.std.proofs.Common.{◌∙◌, option_map, sym, ap}
 use Rattle.remote_documents.specs.Table.{entries_in}
-use Rattle.durable_state.specs.Cached.{cached, with_all}
-use Rattle.durable_state.specs.Ready.{put_changes}
-use Rattle.durable_state.proofs.Changed.{cached_more}
+use Rattle.durable_state.specs.Cached.{cached}
+use Rattle.durable_state.proofs.Newest.{known_then, put_or}
 use Rattle.durable_state.proofs.readying.known_after.Goals as goal
-use Rattle.durable_state.proofs.readying.known_after.Goals.{then-eq, else-eq}
 
-pub loop-change-preserved : goal.loop-change-preserved
-loop-change-preserved c = λ seal.
-    let change = c.change-item.result in
-    let key = c.args.key.now in
-    let more = cached_more (entries_in c.args.entries.now) seal c.args.changes.now c.loop-change.change-index change key c.loop-change-test.true c.change-item.is in
-    let same : c.eq.result ≡ is_key change.key key = c.eq.ensures ∙ ap (λ test. test change.key key) same_test in
-    elim c.if-eq.branch [
-      | then-eq w ↦ ap (option_map (λ e. e.now)) w.found-is ∙ sym (more ∙ ap (λ (b : Bool). cond b (Some change.entry) (cached (with_all (entries_in c.args.entries.now) (put_changes seal (take c.loop-change.change-index c.args.changes.now))) key)) (sym same ∙ w.if-eq.true))
-      | else-eq w ↦ ap (option_map (λ e. e.now)) w.found-is ∙ c.loop-change.invariant seal ∙ sym (more ∙ ap (λ (b : Bool). cond b (Some change.entry) (cached (with_all (entries_in c.args.entries.now) (put_changes seal (take c.loop-change.change-index c.args.changes.now))) key)) (sym same ∙ w.if-eq.false))
-    ]
+pub returns-in-Some : goal.returns-in-Some
+returns-in-Some c = λ seal.
+    let was = cached (entries_in c.args.entries.now) c.args.key.now in
+    ap (λ o. put_or o was) c.in-Some.ensures ∙ sym (known_then (entries_in c.args.entries.now) seal c.args.news.now c.args.key.now)
+
+pub returns-in-None : goal.returns-in-None
+returns-in-None c = λ seal.
+    let was = cached (entries_in c.args.entries.now) c.args.key.now in
+    c.known.ensures ∙ ap (λ o. put_or o was) c.in-None.ensures ∙ sym (known_then (entries_in c.args.entries.now) seal c.args.news.now c.args.key.now)
