@@ -9,7 +9,7 @@ use Rattle.value_model.specs.declared.message.ListenResponse.{ListenResponse}
 use Rattle.value_model.specs.declared.message.ListenResponse.TheVariants as sent
 use Rattle.value_model.specs.declared.timestamp.Timestamp.{Timestamp}
 use Rattle.listen_protocol.specs.Calls as calls
-use Rattle.listen_protocol.specs.Calls.{Calls, asked, unasked, came, applied, skipped, is_of, is_add, is_remove, is_reset}
+use Rattle.listen_protocol.specs.Calls.{Calls, asked, unasked, came, applied, skipped, is_add, is_remove, is_reset}
 use Rattle.listen_protocol.specs.Transcript as stream
 use Rattle.listen_protocol.specs.ToldKeys.{told_keys}
 use Rattle.listen_protocol.proofs.ToldLaw.{told_members}
@@ -26,7 +26,7 @@ use Rattle.agreement.proofs.Events.{counts_is}
 use Rattle.agreement.proofs.Streams.{flip, open_same, asked_same, counts_same, heard_sorted, sort_of, sorted, started_by}
 use Rattle.agreement.proofs.StreamsTold.{counted_step, current_same, told_same}
 use Rattle.agreement.proofs.StreamsTokens.{came_token, last_since, nested, own_same, token_alone}
-use Rattle.sync_engine.specs.Watching.{held_keys, is_point, passed, wanted_document}
+use Rattle.client_turns.specs.Watching.{held_keys, is_point, passed, wanted_document}
 use Rattle.client_agreement.specs.Transcript.{request_of}
 
 -- ---- two lists of events that say the same of an id

@@ -8,25 +8,25 @@ use Rattle.client_events.specs.declared.event.Event.{Event as Happening}
 use Rattle.document_keys.specs.Names.{Root}
 use Rattle.listen_protocol.specs.Calls.{Calls, asked, unasked, came}
 use Rattle.listen_protocol.specs.Transcript as stream
-use Rattle.local_store.specs.State.{State}
+use Rattle.durable_state.specs.State.{State}
 use Rattle.mutations.specs.declared.batch.Batch.{Batch}
 use Rattle.record_codec.specs.declared.commit.Commit.{Commit}
 use Rattle.value_model.specs.declared.message.ListenResponse.{ListenResponse}
 use Rattle.agreement.specs.Backend.{Id}
 use Rattle.agreement.specs.Streams.{message_of}
 use Rattle.agreement.specs.Transcript.{Event, Asked, Cut, Heard, Unasked, token, told}
-use Rattle.sync_engine.specs.Asking.{AsksIf, resets_by}
-use Rattle.sync_engine.specs.LimboListens.{limbo_of}
-use Rattle.sync_engine.specs.Lines.{Line, add, document, error, listening, rejected, remove, result, send, snapshot, unlistened, wrote}
-use Rattle.sync_engine.specs.Order.{AreHeard}
-use Rattle.sync_engine.specs.Past.{Past, Turn, steps_by, steps_of}
-use Rattle.sync_engine.specs.Turn.{IsTurn, answered_next, batches_behind, is_heard, unless_refused, with_limbo}
-use Rattle.sync_engine.specs.Turns.{after}
-use Rattle.sync_engine.specs.Watching.{WatchStep, calls_by, calls_of, closes, held_keys, hears, is_watched, opens, passes, requested_by, requested_in, rings, step_of, wanted_document}
-use Rattle.sync_engine.specs.Writing.{request_of as batch_request, requests, to_send}
-use Rattle.sync_engine.specs.declared.refusal.Refusal.{Refusal}
-use Rattle.sync_engine.proofs.Requested.{IsAdd, all_adds}
-use Rattle.sync_engine.proofs.Requests.{AddsNone, settled_plain}
+use Rattle.client_turns.specs.Asking.{AsksIf, resets_by}
+use Rattle.client_turns.specs.LimboListens.{limbo_of}
+use Rattle.client_turns.specs.Lines.{Line, add, document, error, listening, rejected, remove, result, send, snapshot, unlistened, wrote}
+use Rattle.client_turns.specs.Order.{AreHeard}
+use Rattle.client_turns.specs.Past.{Past, Turn, steps_by, steps_of}
+use Rattle.client_turns.specs.Turn.{IsTurn, answered_next, batches_behind, is_heard, unless_refused, with_limbo}
+use Rattle.client_turns.specs.Turns.{after}
+use Rattle.client_turns.specs.Watching.{WatchStep, calls_by, calls_of, closes, held_keys, hears, is_watched, opens, passes, requested_by, requested_in, rings, step_of, wanted_document}
+use Rattle.client_turns.specs.Writing.{request_of as batch_request, requests, to_send}
+use Rattle.client_turns.specs.declared.refusal.Refusal.{Refusal}
+use Rattle.client_turns.proofs.Requested.{IsAdd, all_adds}
+use Rattle.client_turns.proofs.Requests.{AddsNone, settled_plain}
 use Rattle.write_pipeline.specs.Order.{latest_token}
 use Rattle.client_agreement.specs.Transcript.{asked_by, asked_in, came_by, is_removed_in, removes, request_of, transcript}
 use Rattle.client_agreement.proofs.Alike.{Alike, AreAlike, alike_again, alike_asked, alike_came, alike_cut, alike_first, alike_none, alike_passed, alike_unasked, says, token_came}

@@ -11,7 +11,8 @@ use Rattle.listen_protocol.specs.Calls.{Calls, came}
 use Rattle.listen_protocol.specs.ToldKeys.{StartsAscend}
 use Rattle.host_api.specs.Host.{Files}
 use Rattle.local_store.specs.Files.{FindsState}
-use Rattle.local_store.specs.State.{Replays, State, committed, most_commits, start}
+use Rattle.local_store.specs.State.{Replays}
+use Rattle.durable_state.specs.State.{State, committed, most_commits, start}
 use Rattle.outcome_codec.specs.Spelling.{IsSpelledRow}
 use Rattle.record_codec.specs.Spelling.{HasSpelling}
 use Rattle.std.proofs.lemmas.List.Elements.{All-contains}
@@ -24,18 +25,17 @@ use Rattle.target_cache.specs.declared.row.Row.{Row}
 use Rattle.value_model.specs.declared.timestamp.Timestamp.{Timestamp}
 use Rattle.value_model.specs.declared.message.ListenResponse.{ListenResponse}
 use Rattle.std.proofs.lemmas.List.Sums.{fold-append}
-use Rattle.sync_engine.proofs.Wanted.{first_among, later_among}
-use Rattle.sync_engine.specs.declared.refusal.Refusal.TheVariants.{IdsSpent}
-use Rattle.sync_engine.specs.Asking.{AsksIf, IsAddLine, IsListenLine, resets_by}
-use Rattle.sync_engine.specs.Hearing.{Blanks, IsHeard, dropped, ended, held, mismatch, none_held, nothing, old_point, point, point_spent}
-use Rattle.sync_engine.specs.Hearing.{fails as fails_heard}
-use Rattle.sync_engine.specs.LimboListens.{limbo_of}
-use Rattle.sync_engine.specs.Lines.{Line, remove}
-use Rattle.sync_engine.specs.Order.{AreHeard, now}
-use Rattle.sync_engine.specs.Past.{Entry, Past, Turn}
-use Rattle.sync_engine.specs.Turn.{answered_next, is_heard}
-use Rattle.sync_engine.specs.Turns.{after, commits, refused}
-use Rattle.sync_engine.specs.Watching.{WatchStep, calls_by, calls_of, closes, hears, held_keys, is_point, is_watched, opens, passed, passes, requested_by, requested_in, rings, step_of}
+use Rattle.client_turns.proofs.Wanted.{first_among, later_among}
+use Rattle.client_turns.specs.declared.refusal.Refusal.TheVariants.{IdsSpent}
+use Rattle.client_turns.specs.Asking.{AsksIf, IsAddLine, IsListenLine, resets_by}
+use Rattle.client_turns.specs.Hearing.{Blanks, IsHeard, dropped, ended, held, mismatch, none_held, nothing, old_point, point, point_spent, fails as fails_heard}
+use Rattle.client_turns.specs.LimboListens.{limbo_of}
+use Rattle.client_turns.specs.Lines.{Line, remove}
+use Rattle.client_turns.specs.Order.{AreHeard, now}
+use Rattle.client_turns.specs.Past.{Entry, Past, Turn}
+use Rattle.client_turns.specs.Turn.{answered_next, is_heard}
+use Rattle.client_turns.specs.Turns.{after, commits, refused}
+use Rattle.client_turns.specs.Watching.{WatchStep, calls_by, calls_of, closes, hears, held_keys, is_point, is_watched, opens, passed, passes, requested_by, requested_in, rings, step_of}
 use Rattle.client_agreement.proofs.Moments.{moments_found}
 use Rattle.client_agreement.proofs.EventKinds.{Kind, acks, allocates, breaks, enqueues, idle, kind_of, message, rejecting}
 use Rattle.client_agreement.proofs.GoingOut.{fold_asks, requested_plain}

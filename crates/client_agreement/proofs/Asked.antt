@@ -9,20 +9,20 @@ use Rattle.agreement.specs.Backend.{Id}
 use Rattle.agreement.specs.Transcript.{Event, Request, Unasked, request}
 use Rattle.document_keys.specs.Names.{Root}
 use Rattle.limbo_resolver.specs.Limbo.{is_odd}
-use Rattle.local_store.specs.State.{State, committed}
+use Rattle.durable_state.specs.State.{State, committed}
 use Rattle.queries.specs.declared.target.Target.TheVariants.{Document}
 use Rattle.record_codec.specs.declared.commit.Commit.{Commit}
 use Rattle.target_cache.specs.Cache.{IsRow, blank}
 use Rattle.target_cache.specs.declared.row.Row.{Row}
-use Rattle.sync_engine.proofs.Wanted.{first_among, later_among}
-use Rattle.sync_engine.specs.Asking.{AsksIf, IsAddLine, IsListenLine, resets_by}
-use Rattle.sync_engine.specs.LimboListens.{limbo_of}
-use Rattle.sync_engine.specs.Lines.{Line, add}
-use Rattle.sync_engine.specs.Order.{AreHeard, now}
-use Rattle.sync_engine.specs.Past.{Entry, Past}
-use Rattle.sync_engine.specs.Turn.{answered_next}
-use Rattle.sync_engine.specs.Turns.{after}
-use Rattle.sync_engine.specs.Watching.{WatchStep, closes, hears, is_watched, opens, passes, rings, step_of}
+use Rattle.client_turns.proofs.Wanted.{first_among, later_among}
+use Rattle.client_turns.specs.Asking.{AsksIf, IsAddLine, IsListenLine, resets_by}
+use Rattle.client_turns.specs.LimboListens.{limbo_of}
+use Rattle.client_turns.specs.Lines.{Line, add}
+use Rattle.client_turns.specs.Order.{AreHeard, now}
+use Rattle.client_turns.specs.Past.{Entry, Past}
+use Rattle.client_turns.specs.Turn.{answered_next}
+use Rattle.client_turns.specs.Turns.{after}
+use Rattle.client_turns.specs.Watching.{WatchStep, closes, hears, is_watched, opens, passes, rings, step_of}
 use Rattle.client_agreement.proofs.GoingOut.{fold_asks, asked_plain, asked_removes, reset_by}
 use Rattle.client_agreement.proofs.Odd.{running_odd}
 use Rattle.client_agreement.proofs.Parts.{Parts, parts}

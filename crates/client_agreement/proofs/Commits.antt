@@ -17,7 +17,7 @@ use Rattle.client_events.specs.declared.event.Event.TheVariants as event
 use Rattle.document_keys.specs.Names.{Root}
 use Rattle.listen_protocol.specs.Calls.{Calls, came}
 use Rattle.listen_protocol.specs.Transcript.{is_asked_in}
-use Rattle.local_store.specs.State.{State, most_commits}
+use Rattle.durable_state.specs.State.{State, most_commits}
 use Rattle.mutations.specs.declared.batch.Batch.{Batch}
 use Rattle.mutations.specs.declared.results.WriteResponse.{WriteResponse}
 use Rattle.queries.specs.declared.target.Target.{Target}
@@ -31,19 +31,18 @@ use Rattle.write_pipeline.specs.Order.{Steps}
 use Rattle.write_pipeline.specs.Standing.{closing_of}
 use Rattle.write_pipeline.specs.declared.answer.Closing.{Closing}
 use Rattle.write_pipeline.specs.declared.answer.Closing.TheVariants.{Kept as KeepsAll, Rejects}
-use Rattle.sync_engine.specs.Answers.{Answers, Begins, are_left, ends, listens}
-use Rattle.sync_engine.specs.Asking.{AsksIf, resets_by}
-use Rattle.sync_engine.specs.Hearing.{Blanks, HeardTurn, dropped, ended, held, mismatch, none_held, nothing, old_point, point, point_spent}
-use Rattle.sync_engine.specs.Hearing.{fails as fails_heard}
-use Rattle.sync_engine.specs.Lines.{Line}
-use Rattle.sync_engine.specs.Order.{now}
-use Rattle.sync_engine.specs.Past.{Past, Turn, listener, steps_of}
-use Rattle.sync_engine.specs.Turn.{IsTurn, SettlesAfter, answered_next, batches_behind, is_heard, unless_refused, with_limbo}
-use Rattle.sync_engine.specs.Turns.{after, commits, refused}
-use Rattle.sync_engine.specs.Watching.{WatchStep, calls_of, closes, hears, is_watched, opens, passes, rings, step_by}
-use Rattle.sync_engine.specs.Writing as writing
-use Rattle.sync_engine.specs.Writing.{WrittenTurn, acknowledges, bad_turn, closed_turn, fails, first_batch, is_open, is_stream_open, opened_turn, rejects, shakes}
-use Rattle.sync_engine.specs.declared.refusal.Refusal.{Refusal}
+use Rattle.client_turns.specs.Answers.{Answers, Begins, are_left, ends, listens}
+use Rattle.client_turns.specs.Asking.{AsksIf, resets_by}
+use Rattle.client_turns.specs.Hearing.{Blanks, HeardTurn, dropped, ended, held, mismatch, none_held, nothing, old_point, point, point_spent, fails as fails_heard}
+use Rattle.client_turns.specs.Lines.{Line}
+use Rattle.client_turns.specs.Order.{now}
+use Rattle.client_turns.specs.Past.{Past, Turn, listener, steps_of}
+use Rattle.client_turns.specs.Turn.{IsTurn, SettlesAfter, answered_next, batches_behind, is_heard, unless_refused, with_limbo}
+use Rattle.client_turns.specs.Turns.{after, commits, refused}
+use Rattle.client_turns.specs.Watching.{WatchStep, calls_of, closes, hears, is_watched, opens, passes, rings, step_by}
+use Rattle.client_turns.specs.Writing as writing
+use Rattle.client_turns.specs.Writing.{WrittenTurn, acknowledges, bad_turn, closed_turn, fails, first_batch, is_open, is_stream_open, opened_turn, rejects, shakes}
+use Rattle.client_turns.specs.declared.refusal.Refusal.{Refusal}
 use Rattle.client_agreement.proofs.Taking.{Takes, event_done}
 use Rattle.client_agreement.proofs.Moments.{brings_answered, spelled_calls}
 use Rattle.client_agreement.proofs.Reaching.{reach_then}

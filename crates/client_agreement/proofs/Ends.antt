@@ -18,7 +18,7 @@ use Rattle.listen_protocol.specs.Buffer.{buffered}
 use Rattle.listen_protocol.specs.Calls.{Calls, came, is_remove, lists}
 use Rattle.listen_protocol.specs.ToldKeys.{told_keys}
 use Rattle.listen_protocol.specs.Transcript as stream
-use Rattle.local_store.specs.State.{State, committed}
+use Rattle.durable_state.specs.State.{State, committed}
 use Rattle.record_codec.specs.declared.commit.Commit.{Commit}
 use Rattle.record_codec.specs.declared.commit.Commit.TheVariants.{Drop}
 use Rattle.target_cache.specs.Cache.{IsRow, id_at}
@@ -31,15 +31,15 @@ use Rattle.value_model.specs.declared.message.TargetChange.{TargetChange}
 use Rattle.value_model.specs.declared.document.RpcStatus.{RpcStatus}
 use Rattle.watch_aggregator.specs.Effects.{Gives, IsEnded, filter_effect}
 use Rattle.watch_aggregator.specs.declared.effect.Effect.TheVariants as effect
-use Rattle.sync_engine.specs.Asking.{is_told_dropped}
-use Rattle.sync_engine.specs.Hearing.{AreBlankedFor, Holds, by_current, by_row, by_told}
-use Rattle.sync_engine.specs.LimboListens.{is_running, limbo_of}
-use Rattle.sync_engine.specs.Past.{Past}
-use Rattle.sync_engine.specs.Standing.{HasTargetRow}
-use Rattle.sync_engine.specs.Turns.{after}
-use Rattle.sync_engine.specs.Watching.{calls_by, calls_of, current_keys, hears, is_dropped_by, is_mismatch, is_point, keys_at_point, passed, told_by}
-use Rattle.sync_engine.proofs.Mismatched.{mismatch_filter}
-use Rattle.sync_engine.proofs.Wanted.{any_at}
+use Rattle.client_turns.specs.Asking.{is_told_dropped}
+use Rattle.client_turns.specs.Hearing.{AreBlankedFor, Holds, by_current, by_row, by_told}
+use Rattle.client_turns.specs.LimboListens.{is_running, limbo_of}
+use Rattle.client_turns.specs.Past.{Past}
+use Rattle.client_turns.specs.Settling.{HasTargetRow}
+use Rattle.client_turns.specs.Turns.{after}
+use Rattle.client_turns.specs.Watching.{calls_by, calls_of, current_keys, hears, is_dropped_by, is_mismatch, is_point, keys_at_point, passed, told_by}
+use Rattle.client_turns.proofs.Given.{mismatch_filter}
+use Rattle.client_turns.proofs.Wanted.{any_at}
 use Rattle.client_agreement.proofs.Alike.{Alike}
 use Rattle.client_agreement.proofs.GoingOut.{TakenBy}
 use Rattle.client_agreement.proofs.Odd.{odd_unlistened, running_odd}

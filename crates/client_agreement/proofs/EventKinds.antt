@@ -4,7 +4,7 @@ use Rattle.std.proofs.lemmas.Bool.{false≢true}
 use Rattle.std.proofs.lemmas.Option.{none-some}
 use Rattle.client_events.specs.declared.event.Event.{Event}
 use Rattle.client_events.specs.declared.event.Event.TheVariants as event
-use Rattle.local_store.specs.State.{State, most_commits}
+use Rattle.durable_state.specs.State.{State, most_commits}
 use Rattle.mutations.specs.declared.batch.Batch.{Batch}
 use Rattle.mutations.specs.declared.results.WriteResponse.{WriteResponse}
 use Rattle.mutations.specs.declared.results.WriteResult.{WriteResult}
@@ -22,18 +22,16 @@ use Rattle.write_pipeline.specs.Order.{Steps}
 use Rattle.write_pipeline.specs.Standing.{closing_of}
 use Rattle.write_pipeline.specs.declared.answer.Closing.{Closing}
 use Rattle.write_pipeline.specs.declared.answer.Closing.TheVariants.{Kept as KeepsAll, Rejects}
-use Rattle.sync_engine.specs.Answers.{Answers, Begins, are_left, ends, listens}
-use Rattle.sync_engine.specs.Hearing.{HeardTurn, IsHeard}
-use Rattle.sync_engine.specs.Hearing.{Blanks, dropped, ended, held, mismatch, none_held, nothing, old_point, point, point_spent}
-use Rattle.sync_engine.specs.Hearing.{fails as fails_heard}
-use Rattle.sync_engine.specs.Past.{Past, Turn, listener, steps_of}
-use Rattle.sync_engine.specs.Turn.{is_heard}
-use Rattle.sync_engine.specs.Turns.{commits, refused}
-use Rattle.sync_engine.specs.Watching.{WatchStep, closes, is_watched, opens, passes, rings, step_by}
-use Rattle.sync_engine.specs.Writing as writing
-use Rattle.sync_engine.specs.Writing.{WrittenTurn, acknowledges, bad_turn, closed_turn, fails, first_batch, is_open, is_stream_open, opened_turn, rejects, shakes}
-use Rattle.sync_engine.specs.declared.refusal.Refusal.{Refusal}
-use Rattle.sync_engine.specs.declared.refusal.Refusal.TheVariants.{IdsSpent, ListenerTaken, NoListener, StreamState}
+use Rattle.client_turns.specs.Answers.{Answers, Begins, are_left, ends, listens}
+use Rattle.client_turns.specs.Hearing.{HeardTurn, IsHeard, Blanks, dropped, ended, held, mismatch, none_held, nothing, old_point, point, point_spent, fails as fails_heard}
+use Rattle.client_turns.specs.Past.{Past, Turn, listener, steps_of}
+use Rattle.client_turns.specs.Turn.{is_heard}
+use Rattle.client_turns.specs.Turns.{commits, refused}
+use Rattle.client_turns.specs.Watching.{WatchStep, closes, is_watched, opens, passes, rings, step_by}
+use Rattle.client_turns.specs.Writing as writing
+use Rattle.client_turns.specs.Writing.{WrittenTurn, acknowledges, bad_turn, closed_turn, fails, first_batch, is_open, is_stream_open, opened_turn, rejects, shakes}
+use Rattle.client_turns.specs.declared.refusal.Refusal.{Refusal}
+use Rattle.client_turns.specs.declared.refusal.Refusal.TheVariants.{IdsSpent, ListenerTaken, NoListener, StreamState}
 
 -- the step does nothing on the stream
 abbrev pub IsIdle : WatchStep → Type 0

@@ -9,8 +9,8 @@ use Rattle.std.proofs.lemmas.List.Elements.{All-cons, All-nil}
 use Rattle.agreement.specs.Agrees.{IsAhead}
 use Rattle.agreement.specs.Entries as agreed
 use Rattle.document_keys.specs.Names.{IsSegment}
-use Rattle.local_store.specs.Documents.{sealed_entry_of}
-use Rattle.local_store.specs.State.{start}
+use Rattle.durable_state.specs.Documents.{sealed_entry_of}
+use Rattle.durable_state.specs.State.{start}
 use Rattle.record_parts.specs.Spelling.{AreSpelledFields, IsSpelledKey}
 use Rattle.remote_documents.proofs.Maps.{order}
 use Rattle.value_model.specs.Storable.{AreStorableBytes}

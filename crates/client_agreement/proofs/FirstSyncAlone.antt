@@ -7,16 +7,16 @@ use Rattle.std.proofs.lemmas.Bool.Decides.{Decides-int_eq}
 use Rattle.document_keys.specs.Names.{Root}
 use Rattle.limbo_resolver.specs.Limbo.{Key}
 use Rattle.listen_protocol.specs.Transcript.{is_asked_in}
-use Rattle.local_store.specs.State.{State}
+use Rattle.durable_state.specs.State.{State}
 use Rattle.target_cache.specs.Cache.{IsRow}
 use Rattle.target_cache.specs.declared.row.Row.{Row}
 use Rattle.views.specs.Viewed.{Viewed}
-use Rattle.sync_engine.specs.Asking.{AreJust, Asks, IsAdded, IsListenAdded, IsRemoved}
-use Rattle.sync_engine.specs.LimboListens.{is_running, is_sought, limbo_of}
-use Rattle.sync_engine.specs.Lines.{Told, add}
-use Rattle.sync_engine.specs.Past.{Past}
-use Rattle.sync_engine.specs.Settling.{AreInLimbo, IsBelow, Settles, Shows, ShowsAt, ShowsInLimbo, ShowsInLimboAt, Stance, told_to}
-use Rattle.sync_engine.specs.Watching.{calls_of, is_wanted}
+use Rattle.client_turns.specs.Asking.{AreJust, Asks, IsAdded, IsListenAdded, IsRemoved}
+use Rattle.client_turns.specs.LimboListens.{is_running, is_sought, limbo_of}
+use Rattle.client_turns.specs.Lines.{Told, add}
+use Rattle.client_turns.specs.Past.{Past}
+use Rattle.client_turns.specs.Settling.{AreInLimbo, IsBelow, Settles, Shows, ShowsAt, ShowsInLimbo, ShowsInLimboAt, Stance, told_to}
+use Rattle.client_turns.specs.Watching.{calls_of, is_wanted}
 
 -- nothing is in an empty list
 pub none_in : {X : Type 0} (x : X) → Contains [] x → ⊥

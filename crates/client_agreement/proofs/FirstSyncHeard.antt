@@ -6,15 +6,15 @@ use Rattle.std.proofs.lemmas.Bool.{false≢true, true≢false}
 use Rattle.std.proofs.lemmas.Bool.Decides.{Decides-int_eq}
 use Rattle.std.proofs.lemmas.Option.{none-some}
 use Rattle.client_events.specs.declared.event.Event.TheVariants as event
-use Rattle.local_store.specs.State.{start}
+use Rattle.durable_state.specs.State.{start}
 use Rattle.target_cache.specs.Cache.{HasTarget, blank}
-use Rattle.sync_engine.specs.Asking.{resets_by}
-use Rattle.sync_engine.specs.Hearing.{nothing}
-use Rattle.sync_engine.specs.Lines.{listening}
-use Rattle.sync_engine.specs.Order.{AreHeard}
-use Rattle.sync_engine.specs.Past.{Past, listener}
-use Rattle.sync_engine.specs.Settling.{AreInLimbo, IsBelow, Settles, Shows, ShowsInLimbo, Stance, stance_of}
-use Rattle.sync_engine.specs.Turn.{IsTurn, answered_next}
+use Rattle.client_turns.specs.Asking.{resets_by}
+use Rattle.client_turns.specs.Hearing.{nothing}
+use Rattle.client_turns.specs.Lines.{listening}
+use Rattle.client_turns.specs.Order.{AreHeard}
+use Rattle.client_turns.specs.Past.{Past, listener}
+use Rattle.client_turns.specs.Settling.{AreInLimbo, IsBelow, Settles, Shows, ShowsInLimbo, Stance, stance_of}
+use Rattle.client_turns.specs.Turn.{IsTurn, answered_next}
 use Rattle.client_agreement.proofs.FirstSyncAlone.{IsAlone, alone_limbo, alone_settles, asks_first, asks_none, chosen_none}
 use Rattle.client_agreement.proofs.FirstSyncRun.{adds, allocates, catches_up, listening_state, listens, opens, past_added, past_current, past_listening, past_open, past_sent, query, quiet_turn, root, sends, waiting_view}
 use Rattle.client_agreement.proofs.FirstSyncShown.{shows_waiting, waiting_limbo, waiting_stance}

@@ -12,7 +12,7 @@ use Rattle.listen_protocol.specs.Buffer.{buffered}
 use Rattle.listen_protocol.specs.Calls.{Calls, Key, came}
 use Rattle.listen_protocol.specs.ToldKeys.{told_keys}
 use Rattle.listen_protocol.specs.Transcript.{counts, document_of, token_in}
-use Rattle.local_store.specs.State.{start}
+use Rattle.durable_state.specs.State.{start}
 use Rattle.outcome_codec.specs.declared.parts.KeyedEntry.{KeyedEntry}
 use Rattle.outcome_codec.specs.declared.parts.PointRow.{PointRow}
 use Rattle.remote_documents.proofs.Maps.{order, turned}
@@ -21,13 +21,13 @@ use Rattle.value_model.specs.declared.document.Entry.{Entry}
 use Rattle.value_model.specs.declared.document.Entry.TheVariants.{Found}
 use Rattle.value_model.specs.declared.document.Seal.{Seal}
 use Rattle.watch_points.specs.PointCommit.{GetsEntry, IsPointCommit, IsPointRow, Misses, Puts, entry_among}
-use Rattle.sync_engine.specs.Asking.{resets_by}
-use Rattle.sync_engine.specs.Hearing.{point as at_point}
-use Rattle.sync_engine.specs.Order.{AreHeard}
-use Rattle.sync_engine.specs.Past.{Past, Turn, listener, told as shown_by}
-use Rattle.sync_engine.specs.Settling.{AreInLimbo, Settles, Shows, ShowsInLimbo, Stance, stance_of}
-use Rattle.sync_engine.specs.Turn.{IsTurn, answered_next}
-use Rattle.sync_engine.specs.Watching.{calls_of}
+use Rattle.client_turns.specs.Asking.{resets_by}
+use Rattle.client_turns.specs.Hearing.{point as at_point}
+use Rattle.client_turns.specs.Order.{AreHeard}
+use Rattle.client_turns.specs.Past.{Past, Turn, listener, told as shown_by}
+use Rattle.client_turns.specs.Settling.{AreInLimbo, Settles, Shows, ShowsInLimbo, Stance, stance_of}
+use Rattle.client_turns.specs.Turn.{IsTurn, answered_next}
+use Rattle.client_turns.specs.Watching.{calls_of}
 use Rattle.client_agreement.proofs.FirstSyncAlone.{IsAlone, alone_limbo, alone_settles, asks_none, chosen_none}
 use Rattle.client_agreement.proofs.FirstSyncHeard.{asked_same, heard_current, turned_id}
 use Rattle.client_agreement.proofs.FirstSyncRun.{entries, first_moment, key_a, listening_state, past_current, past_synced, point, points, query, raised, root, rows, second_moment, syncs, synced_state, synced_view, told, waiting_view}

@@ -5,7 +5,7 @@ use Rattle.agreement.specs.History.{Write}
 use Rattle.client_events.specs.declared.event.Event.TheVariants as event
 use Rattle.document_keys.specs.Names.{Root}
 use Rattle.listen_protocol.specs.Calls.{Key}
-use Rattle.local_store.specs.State.{State, committed, start}
+use Rattle.durable_state.specs.State.{State, committed, start}
 use Rattle.outcome_codec.specs.declared.parts.KeyedEntry.{KeyedEntry}
 use Rattle.outcome_codec.specs.declared.parts.PointRow.{PointRow}
 use Rattle.queries.specs.Holding.{name_path}
@@ -27,8 +27,8 @@ use Rattle.views.specs.Viewed.{Viewed}
 use Rattle.views.specs.declared.change.Kind.TheVariants.{Added}
 use Rattle.views.specs.declared.raised.Raised.{Raised}
 use Rattle.views.specs.Row.{row}
-use Rattle.sync_engine.specs.Lines.{Told, add, listening, snapshot}
-use Rattle.sync_engine.specs.Past.{Entry, Past, Turn}
+use Rattle.client_turns.specs.Lines.{Told, add, listening, snapshot}
+use Rattle.client_turns.specs.Past.{Entry, Past, Turn}
 
 -- ---- the backend
 

@@ -13,7 +13,7 @@ use Rattle.document_keys.specs.KeySet.{is_key}
 use Rattle.durable_state.proofs.Local.{documents_local}
 use Rattle.durable_state.specs.Documents.{documents_of, sealed_entry_of, touched_keys_of, standing_by}
 use Rattle.limbo_resolver.specs.Limbo.{Key}
-use Rattle.local_store.specs.State.{start}
+use Rattle.durable_state.specs.State.{start}
 use Rattle.overlays.specs.LocalDocument.{base_of}
 use Rattle.remote_documents.proofs.Maps.{get_with, order}
 use Rattle.target_cache.specs.Cache.{blank}
@@ -30,7 +30,7 @@ use Rattle.views.specs.Picks.{leaves, none, takes}
 use Rattle.views.specs.Printed.{printed}
 use Rattle.views.specs.Row.{IsPrinted, Prints, row}
 use Rattle.views.specs.declared.view.Refresh.{Refresh}
-use Rattle.sync_engine.specs.Settling.{IsHeldFor, Shows, ShowsInLimbo, Stance, current_with}
+use Rattle.client_turns.specs.Settling.{IsHeldFor, Shows, ShowsInLimbo, Stance, current_with}
 use Rattle.client_agreement.proofs.FirstSyncAlone.{none_in}
 use Rattle.client_agreement.proofs.FirstSyncAnswers.{none_answered, one_answered}
 use Rattle.client_agreement.proofs.FirstSyncRun.{first_moment, key_a, listening_state, query, raised, root, second_moment, stored_a, synced_state, synced_view, waiting_view}

@@ -7,8 +7,8 @@ use Rattle.listen_protocol.specs.Calls.{Calls, is_remove, lists}
 use Rattle.listen_protocol.specs.Transcript.{is_live}
 use Rattle.value_model.specs.declared.message.ListenResponse.{ListenResponse}
 use Rattle.value_model.specs.declared.message.ListenResponse.TheVariants as message
-use Rattle.sync_engine.specs.LimboListens.{going_on, heard_limbo}
-use Rattle.sync_engine.specs.Watching.{WatchStep, closes, hears, opens, passes, rings}
+use Rattle.client_turns.specs.LimboListens.{going_on, heard_limbo}
+use Rattle.client_turns.specs.Watching.{WatchStep, closes, hears, opens, passes, rings}
 
 -- the listens without those that the backend ended
 abbrev pub but_ended : Calls → List ℤ → Limbo → Limbo

@@ -16,20 +16,20 @@ use Rattle.limbo_resolver.specs.Limbo.{updated}
 use Rattle.listen_protocol.specs.Buffer.{buffered}
 use Rattle.listen_protocol.specs.Calls.{Calls, came}
 use Rattle.listen_protocol.specs.Transcript.{is_asked_in}
-use Rattle.local_store.specs.State.{State}
+use Rattle.durable_state.specs.State.{State}
 use Rattle.record_codec.specs.declared.commit.Commit.{Commit}
 use Rattle.target_cache.specs.Cache.{IsRow}
 use Rattle.target_cache.specs.declared.row.Row.{Row}
-use Rattle.sync_engine.proofs.Requested.{IsAdd, are_adds, are_listens}
-use Rattle.sync_engine.proofs.Wanted.{cons_cases, first_among, later_among, same_truth}
-use Rattle.sync_engine.specs.Asking.{Asks, AsksIf, IsAddLine, resets_by}
-use Rattle.sync_engine.specs.LimboListens.{going_on, limbo_of}
-use Rattle.sync_engine.specs.Lines.{Line, add, document, error, listening, rejected, remove, result, send, snapshot, unlistened, wrote}
-use Rattle.sync_engine.specs.Past.{Entry, Past}
-use Rattle.sync_engine.specs.Standing.{HasTargetRow}
-use Rattle.sync_engine.specs.Turn.{answered_next}
-use Rattle.sync_engine.specs.Turns.{after}
-use Rattle.sync_engine.specs.Watching.{WatchStep, calls_by, calls_of, closes, current_keys, hears, if_so, is_offline, is_point, is_wanted, is_watched, online_of, opens, passed, passes, requested_by, requested_in, rings, step_by, step_of, told_by}
+use Rattle.client_turns.proofs.Requested.{IsAdd, are_adds, are_listens}
+use Rattle.client_turns.proofs.Wanted.{cons_cases, first_among, later_among, same_truth}
+use Rattle.client_turns.specs.Asking.{Asks, AsksIf, IsAddLine, resets_by}
+use Rattle.client_turns.specs.LimboListens.{going_on, limbo_of}
+use Rattle.client_turns.specs.Lines.{Line, add, document, error, listening, rejected, remove, result, send, snapshot, unlistened, wrote}
+use Rattle.client_turns.specs.Past.{Entry, Past}
+use Rattle.client_turns.specs.Settling.{HasTargetRow}
+use Rattle.client_turns.specs.Turn.{answered_next}
+use Rattle.client_turns.specs.Turns.{after}
+use Rattle.client_turns.specs.Watching.{WatchStep, calls_by, calls_of, closes, current_keys, hears, if_so, is_offline, is_point, is_wanted, is_watched, online_of, opens, passed, passes, requested_by, requested_in, rings, step_by, step_of, told_by}
 use Rattle.client_agreement.proofs.Odd.{odd_unlistened, running_odd}
 use Rattle.client_agreement.proofs.Parts.{AreNoRequests, Parts}
 use Rattle.client_agreement.proofs.Reaching.{HasRowsOf, IsFree, OnlyAsks, Reaches, adds_reach, listens_reach, reach_none, reach_one, reach_then}

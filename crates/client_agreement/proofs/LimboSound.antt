@@ -13,14 +13,13 @@ use Rattle.limbo_resolver.specs.Laws.{IsSound, Rises}
 use Rattle.limbo_resolver.specs.Limbo.{Key, Limbo, started}
 use Rattle.listen_protocol.specs.Calls.{Calls, lists}
 use Rattle.listen_protocol.specs.Transcript as stream
-use Rattle.local_store.specs.State.{State}
-use Rattle.sync_engine.proofs.Refused.{without_ids, without_sound}
-use Rattle.sync_engine.specs.LimboListens.{going_on, limbo_of}
-use Rattle.sync_engine.specs.Order.{AreHeard}
-use Rattle.sync_engine.specs.Past.{Entry, Past, Turn}
-use Rattle.sync_engine.specs.Telling.{without_all}
-use Rattle.sync_engine.specs.Turn.{IsTurn, LimboBehind, is_heard}
-use Rattle.sync_engine.specs.Watching.{WatchStep, calls_of, step_of}
+use Rattle.durable_state.specs.State.{State}
+use Rattle.client_turns.proofs.Refused.{without_ids, without_sound}
+use Rattle.client_turns.specs.LimboListens.{going_on, limbo_of, without_all}
+use Rattle.client_turns.specs.Order.{AreHeard}
+use Rattle.client_turns.specs.Past.{Entry, Past, Turn}
+use Rattle.client_turns.specs.Turn.{IsTurn, LimboBehind, is_heard}
+use Rattle.client_turns.specs.Watching.{WatchStep, calls_of, step_of}
 use Rattle.client_agreement.proofs.GoingOn.{but_ended, going_keeps}
 use Rattle.client_agreement.specs.LimboListens.{LimboListensStaySound, limbo_at}
 

@@ -11,9 +11,8 @@ use Rattle.client_events.specs.declared.event.Event.{Event}
 use Rattle.client_events.specs.declared.event.Event.TheVariants as event
 use Rattle.document_keys.specs.Names.{Root}
 use Rattle.durable_state.specs.Rows.{blanked, held_at, holding, holding_from, told as told_rows}
-use Rattle.listen_protocol.specs.Calls.{Key}
-use Rattle.listen_protocol.specs.Calls.{Calls, is_remove, lists}
-use Rattle.sync_engine.proofs.Dropped.{ended_change}
+use Rattle.listen_protocol.specs.Calls.{Key, Calls, is_remove, lists}
+use Rattle.client_turns.proofs.Given.{ended_change}
 use Rattle.value_model.specs.declared.message.ListenResponse.TheVariants as message
 use Rattle.value_model.specs.declared.message.TargetChange.{TargetChange}
 use Rattle.watch_aggregator.specs.Effects.{Gives, GivesTarget, IsEnded, RefusesTarget}
@@ -21,7 +20,7 @@ use Rattle.watch_aggregator.specs.declared.effect.Effect.TheVariants as effect
 use Rattle.watch_aggregator.specs.declared.effect.WatchFault.TheVariants as fault
 use Rattle.watch_aggregator.specs.declared.effect.WatchMember.{WatchMember}
 use Rattle.watch_aggregator.specs.declared.effect.WatchMember.TheVariants as member
-use Rattle.local_store.specs.State.{State, committed, most_commits}
+use Rattle.durable_state.specs.State.{State, committed, most_commits}
 use Rattle.mutations.specs.declared.batch.Batch.{Batch}
 use Rattle.mutations.specs.declared.results.WriteResponse.{WriteResponse}
 use Rattle.outcome_codec.specs.declared.parts.PointRow.{PointRow}
@@ -50,28 +49,26 @@ use Rattle.write_pipeline.specs.Order.{Steps, latest_token}
 use Rattle.write_pipeline.specs.Standing.{closing_of}
 use Rattle.write_pipeline.specs.declared.answer.Closing.{Closing}
 use Rattle.write_pipeline.specs.declared.answer.Closing.TheVariants.{Kept as KeepsAll, Rejects}
-use Rattle.sync_engine.specs.Answers.{Answers, Begins, are_left, ends, listens}
-use Rattle.sync_engine.specs.Asking.{AsksIf, resets_by}
-use Rattle.sync_engine.specs.Hearing.{AreListenersOf, Blanks, HeardTurn, IsHeard, commits_if_left, watch_member_name}
-use Rattle.sync_engine.specs.Hearing as hearing
-use Rattle.sync_engine.specs.LimboListens.{limbo_of}
-use Rattle.sync_engine.specs.Lines.{Line, Told, add, document, error, listening, rejected, remove, result, send, snapshot, unlistened, wrote}
-use Rattle.sync_engine.specs.Order.{AreHeard, now}
-use Rattle.sync_engine.specs.Past.{Entry, Past, Turn, asked, is_refused_in, listener, raised_in, steps_by, steps_of, told, unless_refused}
-use Rattle.sync_engine.specs.Settling.{Settles, stance_of}
-use Rattle.sync_engine.specs.Standing.{HasTargetRow}
-use Rattle.sync_engine.specs.Turn.{IsTurn, SettlesAfter, answered_next, batches_behind, is_heard, snapshot_line, with_limbo, with_lines}
-use Rattle.sync_engine.specs.Turn.{unless_refused as lines_unless}
-use Rattle.sync_engine.specs.Turns.{after, commits, refused}
-use Rattle.sync_engine.specs.Watching.{calls_of, current_keys, is_wanted, is_watched, listened, listened_by, listened_in}
-use Rattle.sync_engine.specs.Writing as writing
-use Rattle.sync_engine.specs.Writing.{WrittenTurn, bad_turn, closed_turn, closes, first_batch, is_open, is_stream_open, opened_turn, rejects, request_of, to_send}
-use Rattle.sync_engine.specs.declared.refusal.Refusal.{Refusal}
-use Rattle.sync_engine.specs.declared.refusal.Refusal.TheVariants.{IdsSpent, ListenerTaken, NoListener, StreamState}
-use Rattle.sync_engine.proofs.Passing.{unwanted_current}
-use Rattle.sync_engine.proofs.Quiet.{slice_get_more}
-use Rattle.sync_engine.proofs.Requested.{IsAdd, are_adds, are_listens}
-use Rattle.sync_engine.proofs.Wanted.{cons_cases, wanted_has}
+use Rattle.client_turns.specs.Answers.{Answers, Begins, are_left, ends, listens}
+use Rattle.client_turns.specs.Asking.{AsksIf, resets_by}
+use Rattle.client_turns.specs.Hearing.{AreListenersOf, Blanks, HeardTurn, IsHeard, commits_if_left}
+use Rattle.client_turns.specs.Hearing as hearing
+use Rattle.client_turns.specs.LimboListens.{limbo_of}
+use Rattle.client_turns.specs.Lines.{Line, Told, add, document, error, listening, rejected, remove, result, send, snapshot, unlistened, wrote}
+use Rattle.client_turns.specs.Order.{AreHeard, now}
+use Rattle.client_turns.specs.Past.{Entry, Past, Turn, asked, is_refused_in, listener, raised_in, steps_by, steps_of, told, unless_refused}
+use Rattle.client_turns.specs.Settling.{Settles, stance_of, HasTargetRow}
+use Rattle.client_turns.specs.Turn.{IsTurn, SettlesAfter, answered_next, batches_behind, is_heard, snapshot_line, with_limbo, with_lines, unless_refused as lines_unless}
+use Rattle.client_turns.specs.Turns.{after, commits, refused}
+use Rattle.client_turns.specs.Watching.{calls_of, current_keys, is_wanted, is_watched, listened, listened_by, listened_in}
+use Rattle.client_turns.specs.Writing as writing
+use Rattle.client_turns.specs.Writing.{WrittenTurn, bad_turn, closed_turn, closes, first_batch, is_open, is_stream_open, opened_turn, rejects, request_of, to_send}
+use Rattle.client_turns.specs.declared.refusal.Refusal.{Refusal}
+use Rattle.client_turns.specs.declared.refusal.Refusal.TheVariants.{IdsSpent, ListenerTaken, NoListener, StreamState}
+use Rattle.client_turns.proofs.Current.{unwanted_current}
+use Rattle.client_turns.proofs.Lists.{slice_get_more}
+use Rattle.client_turns.proofs.Requested.{IsAdd, are_adds, are_listens}
+use Rattle.client_turns.proofs.Wanted.{cons_cases, wanted_has}
 use Rattle.client_agreement.specs.Standing.{AreSpelled}
 
 -- ---- lines of a kind

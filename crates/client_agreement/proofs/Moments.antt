@@ -23,7 +23,8 @@ use Rattle.listen_protocol.specs.Calls.{Calls, asked, unasked, came, applied, sk
 use Rattle.listen_protocol.specs.ToldKeys.{told_keys}
 use Rattle.listen_protocol.specs.Transcript.{counts}
 use Rattle.local_store.specs.Files.{FindsState}
-use Rattle.local_store.specs.State.{Replays, State, committed, most_commits, start}
+use Rattle.local_store.specs.State.{Replays}
+use Rattle.durable_state.specs.State.{State, committed, most_commits, start}
 use Rattle.mutations.specs.declared.batch.Batch.{Batch}
 use Rattle.mutations.specs.declared.results.WriteResponse.{WriteResponse}
 use Rattle.mutations.specs.declared.results.WriteResult.{WriteResult}
@@ -37,17 +38,17 @@ use Rattle.record_codec.specs.declared.commit.Commit.TheVariants.{Enqueue, Ackno
 use Rattle.record_parts.specs.Spelling.{AreSpelled as AreAllSpelled}
 use Rattle.remote_documents.specs.Table.{EntryMap}
 use Rattle.remote_documents.proofs.Maps.{order}
-use Rattle.sync_engine.specs.declared.refusal.Refusal.{Refusal}
-use Rattle.sync_engine.specs.Answers.{Answers, Begins, are_left, ends, listens}
-use Rattle.sync_engine.specs.Hearing.{Blanks, HeardTurn, commits_if_left, dropped as dropped_keys, ended, fails as fails_heard, held, mismatch, none_held, nothing, old_point, point, point_spent}
-use Rattle.sync_engine.specs.Lines.{Line}
-use Rattle.sync_engine.specs.Order.{AreHeard, now}
-use Rattle.sync_engine.specs.Past.{Past, Turn, listener, steps_of}
-use Rattle.sync_engine.specs.Turn.{IsTurn, SettlesAfter, is_heard}
-use Rattle.sync_engine.specs.Turns.{after, commits}
-use Rattle.sync_engine.specs.Watching.{calls_by, calls_of, is_point, is_watched, passed, step_by, step_of}
-use Rattle.sync_engine.specs.Writing.{WrittenTurn, acknowledges, bad_turn, closed_turn, closes, fails, first_batch, is_open, is_stream_open, opened_turn, rejects, shakes}
-use Rattle.sync_engine.proofs.Requested.{spelled_requested}
+use Rattle.client_turns.specs.declared.refusal.Refusal.{Refusal}
+use Rattle.client_turns.specs.Answers.{Answers, Begins, are_left, ends, listens}
+use Rattle.client_turns.specs.Hearing.{Blanks, HeardTurn, commits_if_left, dropped as dropped_keys, ended, fails as fails_heard, held, mismatch, none_held, nothing, old_point, point, point_spent}
+use Rattle.client_turns.specs.Lines.{Line}
+use Rattle.client_turns.specs.Order.{AreHeard, now}
+use Rattle.client_turns.specs.Past.{Past, Turn, listener, steps_of}
+use Rattle.client_turns.specs.Turn.{IsTurn, SettlesAfter, is_heard}
+use Rattle.client_turns.specs.Turns.{after, commits}
+use Rattle.client_turns.specs.Watching.{calls_by, calls_of, is_point, is_watched, passed, step_by, step_of}
+use Rattle.client_turns.specs.Writing.{WrittenTurn, acknowledges, bad_turn, closed_turn, closes, fails, first_batch, is_open, is_stream_open, opened_turn, rejects, shakes}
+use Rattle.client_turns.proofs.Requested.{spelled_requested}
 use Rattle.value_model.specs.Time.{IsMoment}
 use Rattle.value_model.specs.Versions.{version_of}
 use Rattle.value_model.specs.declared.document.Entry.{Entry}

@@ -7,9 +7,9 @@ use Rattle.std.proofs.lemmas.Bool.{false≢true, eqb-true}
 use Rattle.agreement.proofs.Counting.{same_id-true}
 use Rattle.limbo_resolver.specs.Limbo.{Key, Limbo, filled, has_place, is_odd, kept, key_in, queue}
 use Rattle.listen_protocol.specs.Calls.{Calls}
-use Rattle.sync_engine.specs.LimboListens.{going_on, is_running, limbo_of}
-use Rattle.sync_engine.specs.Past.{Past}
-use Rattle.sync_engine.specs.Watching.{WatchStep, calls_of, step_of}
+use Rattle.client_turns.specs.LimboListens.{going_on, is_running, limbo_of}
+use Rattle.client_turns.specs.Past.{Past}
+use Rattle.client_turns.specs.Watching.{WatchStep, calls_of, step_of}
 use Rattle.client_agreement.proofs.GoingOn.{going_keeps}
 use Rattle.client_agreement.specs.Durable.{is_listener}
 

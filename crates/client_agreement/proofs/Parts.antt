@@ -4,7 +4,7 @@ use Rattle.std.proofs.lemmas.Bool.{false≢true}
 use Rattle.document_keys.specs.Names.{Root}
 use Rattle.client_events.specs.declared.event.Event.{Event}
 use Rattle.client_events.specs.declared.event.Event.TheVariants as event
-use Rattle.local_store.specs.State.{State, most_commits}
+use Rattle.durable_state.specs.State.{State, most_commits}
 use Rattle.mutations.specs.declared.batch.Batch.{Batch}
 use Rattle.mutations.specs.declared.results.WriteResponse.{WriteResponse}
 use Rattle.queries.specs.declared.target.Target.{Target}
@@ -20,18 +20,17 @@ use Rattle.write_pipeline.specs.Order.{Steps, latest_token}
 use Rattle.write_pipeline.specs.Standing.{closing_of}
 use Rattle.write_pipeline.specs.declared.answer.Closing.{Closing}
 use Rattle.write_pipeline.specs.declared.answer.Closing.TheVariants.{Kept as KeepsAll, Rejects}
-use Rattle.sync_engine.specs.Answers.{Answers, Begins, are_left, ends, listens}
-use Rattle.sync_engine.specs.Asking.{AsksIf, resets_by}
-use Rattle.sync_engine.specs.Hearing.{Blanks, HeardTurn, dropped, ended, held, mismatch, none_held, nothing, old_point, point, point_spent}
-use Rattle.sync_engine.specs.Hearing.{fails as fails_heard}
-use Rattle.sync_engine.specs.Lines.{Line, Told, add, error, listening, rejected, remove, result, wrote}
-use Rattle.sync_engine.specs.Past.{Past, Turn, listener, steps_by, steps_of}
-use Rattle.sync_engine.specs.Turn.{IsTurn, SettlesAfter, answered_next, batches_behind, is_heard, snapshot_line, with_limbo, with_lines}
-use Rattle.sync_engine.specs.Turns.{after, commits, refused}
-use Rattle.sync_engine.specs.Watching.{is_watched}
-use Rattle.sync_engine.specs.Writing.{WrittenTurn, acknowledges, bad_turn, closed_turn, closes, fails, first_batch, is_open, is_stream_open, opened_turn, rejects, request_of, shakes, to_send}
-use Rattle.sync_engine.specs.declared.refusal.Refusal.{Refusal}
-use Rattle.sync_engine.specs.declared.refusal.Refusal.TheVariants.{IdsSpent}
+use Rattle.client_turns.specs.Answers.{Answers, Begins, are_left, ends, listens}
+use Rattle.client_turns.specs.Asking.{AsksIf, resets_by}
+use Rattle.client_turns.specs.Hearing.{Blanks, HeardTurn, dropped, ended, held, mismatch, none_held, nothing, old_point, point, point_spent, fails as fails_heard}
+use Rattle.client_turns.specs.Lines.{Line, Told, add, error, listening, rejected, remove, result, wrote}
+use Rattle.client_turns.specs.Past.{Past, Turn, listener, steps_by, steps_of}
+use Rattle.client_turns.specs.Turn.{IsTurn, SettlesAfter, answered_next, batches_behind, is_heard, snapshot_line, with_limbo}
+use Rattle.client_turns.specs.Turns.{after, commits, refused}
+use Rattle.client_turns.specs.Watching.{is_watched}
+use Rattle.client_turns.specs.Writing.{WrittenTurn, acknowledges, bad_turn, closed_turn, closes, fails, first_batch, is_open, is_stream_open, opened_turn, rejects, request_of, shakes, to_send}
+use Rattle.client_turns.specs.declared.refusal.Refusal.{Refusal}
+use Rattle.client_turns.specs.declared.refusal.Refusal.TheVariants.{IdsSpent}
 
 -- ---- lines that are no requests on the stream of listeners
 
@@ -159,7 +158,7 @@ pub record Parts (root : Root) (s : State) (past : Past) (e : Event) (t : Turn) 
   pub plain_behind : AreNoRequests behind
   pub lines : t.lines ≡ settled.lines ++ (asked ++ behind)
 
-batches_plain : (r : Option Refusal) (token : List ℕ) (bs : List Batch) → AreNoRequests (Rattle.sync_engine.specs.Turn.unless_refused r (each (request_of token) bs))
+batches_plain : (r : Option Refusal) (token : List ℕ) (bs : List Batch) → AreNoRequests (Rattle.client_turns.specs.Turn.unless_refused r (each (request_of token) bs))
 batches_plain None token bs = sent_plain token bs
 batches_plain (Some refusal) token bs = tt
 

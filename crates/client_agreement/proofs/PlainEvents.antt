@@ -9,7 +9,7 @@ use Rattle.agreement.specs.Client.{Acks, Aims, Breaks, Client, after as after_tu
 use Rattle.agreement.specs.Entries as agreed
 use Rattle.agreement.specs.MessageTurns.{has}
 use Rattle.agreement.specs.Transcript.{Cut, is_asked}
-use Rattle.local_store.specs.State.{State, committed}
+use Rattle.durable_state.specs.State.{State, committed}
 use Rattle.mutations.specs.declared.batch.Batch.{Batch}
 use Rattle.mutations.specs.declared.results.WriteResult.{WriteResult}
 use Rattle.queries.specs.declared.target.Target.{Target}
@@ -17,9 +17,9 @@ use Rattle.record_codec.specs.declared.commit.Commit.TheVariants.{Acknowledge, A
 use Rattle.target_cache.specs.Cache.{IsRow, blank, id_at}
 use Rattle.target_cache.specs.declared.row.Row.{Row}
 use Rattle.value_model.specs.declared.timestamp.Timestamp.{Timestamp}
-use Rattle.sync_engine.specs.Past.{Past}
-use Rattle.sync_engine.specs.Standing.{HasTargetRow}
-use Rattle.sync_engine.specs.Watching.{WatchStep, closes, current_keys, hears, opens, passes, rings}
+use Rattle.client_turns.specs.Past.{Past}
+use Rattle.client_turns.specs.Settling.{HasTargetRow}
+use Rattle.client_turns.specs.Watching.{WatchStep, closes, current_keys, hears, opens, passes, rings}
 use Rattle.client_agreement.proofs.GoingOut.{TakenBy}
 use Rattle.client_agreement.proofs.EventKinds.{IsBreak, IsIdle}
 use Rattle.client_agreement.proofs.Reaching.{Reaches, reach_one}

@@ -17,13 +17,12 @@ use Rattle.agreement.specs.MessageTurns.{has}
 use Rattle.agreement.specs.Streams.{message_of}
 use Rattle.agreement.specs.Transcript.{Change, Event, Heard, Request, Unasked, counts, is_current, point_time, request, told, token}
 use Rattle.durable_state.specs.Rows.{held_at, told as told_rows}
-use Rattle.durable_state.specs.State.{IsNotBelow}
+use Rattle.durable_state.specs.State.{IsNotBelow, State, committed}
 use Rattle.limbo_resolver.specs.Limbo.{is_odd}
 use Rattle.listen_protocol.specs.Buffer.{buffered}
 use Rattle.listen_protocol.specs.Calls.{Calls, came, is_remove}
 use Rattle.listen_protocol.specs.ToldKeys.{told_keys}
 use Rattle.listen_protocol.specs.Transcript as stream
-use Rattle.local_store.specs.State.{State, committed}
 use Rattle.outcome_codec.specs.declared.parts.KeyedEntry.{KeyedEntry}
 use Rattle.outcome_codec.specs.declared.parts.PointRow.{PointRow}
 use Rattle.queries.specs.declared.target.Target.{Target}
@@ -40,10 +39,10 @@ use Rattle.watch_aggregator.specs.Effects.{Gives, IsPoint}
 use Rattle.watch_aggregator.specs.declared.effect.Effect.TheVariants as effect
 use Rattle.watch_points.specs.PointCommit.{IsPointCommit, IsPointRow, LacksDocument}
 use Rattle.listen_protocol.proofs.Ids.{counts_live}
-use Rattle.sync_engine.proofs.Wanted.{cons_cases, first_among, later_among, same_truth}
-use Rattle.sync_engine.specs.Past.{Past}
-use Rattle.sync_engine.specs.Standing.{HasTargetRow}
-use Rattle.sync_engine.specs.Watching.{calls_of, current_keys, hears, is_mismatch, is_point, keys_at_point, passed, told_by, wanted_document}
+use Rattle.client_turns.proofs.Wanted.{cons_cases, first_among, later_among, same_truth}
+use Rattle.client_turns.specs.Past.{Past}
+use Rattle.client_turns.specs.Settling.{HasTargetRow}
+use Rattle.client_turns.specs.Watching.{calls_of, current_keys, hears, is_mismatch, is_point, keys_at_point, passed, told_by, wanted_document}
 use Rattle.client_agreement.proofs.Alike.{Alike}
 use Rattle.client_agreement.proofs.GoingOut.{TakenBy}
 use Rattle.client_agreement.proofs.Odd.{odd_unlistened}

@@ -21,7 +21,7 @@ use Rattle.listen_protocol.specs.Buffer.{buffered, left_by, with_left}
 use Rattle.listen_protocol.specs.Calls.{Calls, came, is_remove}
 use Rattle.listen_protocol.specs.ToldKeys.{told_keys}
 use Rattle.listen_protocol.specs.Transcript as stream
-use Rattle.local_store.specs.State.{State}
+use Rattle.durable_state.specs.State.{State}
 use Rattle.value_model.specs.Time.{IsMoment}
 use Rattle.value_model.specs.Versions.{version_of}
 use Rattle.value_model.specs.declared.message.ExistenceFilter.{ExistenceFilter}
@@ -30,9 +30,9 @@ use Rattle.value_model.specs.declared.message.ListenResponse.TheVariants as sent
 use Rattle.value_model.specs.declared.timestamp.Timestamp.{Timestamp}
 use Rattle.watch_aggregator.specs.Effects.{Gives, filter_effect}
 use Rattle.watch_aggregator.specs.declared.effect.Effect.TheVariants as effect
-use Rattle.sync_engine.specs.Hearing.{IsOld}
-use Rattle.sync_engine.specs.Past.{Past}
-use Rattle.sync_engine.specs.Watching.{calls_of, current_keys, hears, is_mismatch, is_point, keys_at_point, passed, told_by}
+use Rattle.client_turns.specs.Hearing.{IsOld}
+use Rattle.client_turns.specs.Past.{Past}
+use Rattle.client_turns.specs.Watching.{calls_of, current_keys, hears, is_mismatch, is_point, keys_at_point, passed, told_by}
 use Rattle.client_agreement.proofs.Alike.{Alike}
 use Rattle.client_agreement.proofs.GoingOut.{TakenBy}
 use Rattle.client_agreement.proofs.Reaching.{Reaches, reach_one, reach_then}

@@ -7,18 +7,18 @@ use Rattle.std.proofs.lemmas.Bool.{true≢false}
 use Rattle.std.proofs.lemmas.Int.{ints}
 use Rattle.agreement.proofs.Counting.{same_id-refl, same_id-true}
 use Rattle.queries.proofs.Counting.{pairs_head, pairs_tail}
-use Rattle.sync_engine.proofs.Wanted.{first_among, later_among}
+use Rattle.client_turns.proofs.Wanted.{first_among, later_among}
 use Rattle.agreement.specs.Allowed.{AreAllowed, IsAllowed}
 use Rattle.agreement.specs.Backend.{Id, Key, Setting}
 use Rattle.agreement.specs.Client.{Aims, Asks, Client, Turn, after, run}
 use Rattle.agreement.specs.Transcript.{Asked, Event, Request, is_asked}
-use Rattle.local_store.specs.State.{State}
+use Rattle.durable_state.specs.State.{State}
 use Rattle.limbo_resolver.specs.Limbo.{Limbo}
 use Rattle.queries.specs.declared.target.Target.TheVariants.{Document}
 use Rattle.target_cache.specs.Cache.{IsRow, blank}
 use Rattle.target_cache.specs.declared.row.Row.{Row}
-use Rattle.sync_engine.specs.Asking.{IsAddLine, IsListenLine}
-use Rattle.sync_engine.specs.Lines.{Line, add}
+use Rattle.client_turns.specs.Asking.{IsAddLine, IsListenLine}
+use Rattle.client_turns.specs.Lines.{Line, add}
 use Rattle.client_agreement.specs.Durable.{is_listener, row_of, tuple_at, tuple_in}
 use Rattle.client_agreement.specs.Transcript.{asked_by, asked_in, request_of}
 

@@ -16,7 +16,7 @@ use Rattle.durable_state.specs.Rows.{blanked}
 use Rattle.listen_protocol.specs.Buffer.{buffered}
 use Rattle.listen_protocol.specs.Calls.{Calls, came, is_remove, lists}
 use Rattle.listen_protocol.specs.Transcript as stream
-use Rattle.local_store.specs.State.{State, most_commits}
+use Rattle.durable_state.specs.State.{State, most_commits}
 use Rattle.record_codec.specs.declared.commit.Commit.{Commit}
 use Rattle.record_codec.specs.declared.commit.Commit.TheVariants.{Reset}
 use Rattle.target_cache.specs.Cache.{IsRow, id_at}
@@ -28,13 +28,13 @@ use Rattle.value_model.specs.declared.message.ListenResponse.{ListenResponse}
 use Rattle.value_model.specs.declared.message.ListenResponse.TheVariants as sent
 use Rattle.value_model.specs.declared.message.TargetChange.{TargetChange}
 use Rattle.watch_aggregator.specs.Effects.{IsEnded}
-use Rattle.sync_engine.specs.Hearing.{Blanks, HaveRows, IsAnyHeld, held, none_held}
-use Rattle.sync_engine.specs.Asking.{is_told_dropped}
-use Rattle.sync_engine.specs.Past.{Past, Turn}
-use Rattle.sync_engine.specs.Turns.{after, commits, refused}
-use Rattle.sync_engine.specs.declared.refusal.Refusal.TheVariants.{IdsSpent}
-use Rattle.sync_engine.specs.Watching.{calls_by, calls_of, current_keys, hears, is_dropped_by, told_by}
-use Rattle.sync_engine.proofs.Wanted.{any_at, first_among, later_among}
+use Rattle.client_turns.specs.Hearing.{Blanks, HaveRows, IsAnyHeld, held, none_held}
+use Rattle.client_turns.specs.Asking.{is_told_dropped}
+use Rattle.client_turns.specs.Past.{Past, Turn}
+use Rattle.client_turns.specs.Turns.{after, commits, refused}
+use Rattle.client_turns.specs.declared.refusal.Refusal.TheVariants.{IdsSpent}
+use Rattle.client_turns.specs.Watching.{calls_by, calls_of, current_keys, hears, is_dropped_by, told_by}
+use Rattle.client_turns.proofs.Wanted.{any_at, first_among, later_among}
 use Rattle.client_agreement.proofs.GoingOut.{TakenBy}
 use Rattle.client_agreement.proofs.Reaching.{Reaches, reach_one}
 use Rattle.client_agreement.specs.Durable.{entry_at, row_of, tuple_at, tuple_in, tuple_with}

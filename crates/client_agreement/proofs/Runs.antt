@@ -16,12 +16,12 @@ use Rattle.agreement.specs.NextRun.{next_run, started}
 use Rattle.agreement.specs.Sound.{AreCovered, IsSound, Sound}
 use Rattle.agreement.specs.Transcript.{Event}
 use Rattle.document_keys.specs.Names.{Root}
-use Rattle.local_store.specs.State.{State}
+use Rattle.durable_state.specs.State.{State}
 use Rattle.queries.specs.declared.target.Target.TheVariants.{Document}
 use Rattle.std.proofs.lemmas.Option.{none-some}
 use Rattle.std.proofs.Math.Seq.{drop-append_seam}
-use Rattle.sync_engine.specs.Order.{AreHeard, now}
-use Rattle.sync_engine.specs.Past.{Entry, Past}
+use Rattle.client_turns.specs.Order.{AreHeard, now}
+use Rattle.client_turns.specs.Past.{Entry, Past}
 use Rattle.target_cache.specs.declared.row.Row.{Row}
 use Rattle.client_agreement.proofs.Moments.{moments_heard}
 use Rattle.client_agreement.proofs.Reaching.{HasRowsOf, Reaches, allowed_append, run_append}

@@ -18,7 +18,7 @@ use Rattle.document_keys.specs.KeySet.{is_key}
 use Rattle.document_keys.specs.Names.{Root}
 use Rattle.durable_state.proofs.Laid.{among_in, in_among}
 use Rattle.durable_state.specs.Documents.{documents_of, is_among, is_named, touched_keys_of}
-use Rattle.local_store.specs.State.{State}
+use Rattle.durable_state.specs.State.{State}
 use Rattle.mutation_queue.proofs.Tables.{same_itself}
 use Rattle.queries.proofs.Counting.{pairs_tail}
 use Rattle.queries.specs.Answer.{IsAnswer}
@@ -31,21 +31,20 @@ use Rattle.value_model.specs.declared.timestamp.Timestamp.{Timestamp}
 use Rattle.views.specs.Limbo.{IsInLimbo}
 use Rattle.views.specs.Picks.{Picks, none, takes, leaves}
 use Rattle.views.specs.Refresh as showing
-use Rattle.views.specs.Refresh.{Refreshes}
 use Rattle.views.specs.Row.{Prints}
 use Rattle.views.specs.Viewed.{Viewed}
 use Rattle.views.specs.declared.raised.Raised.{Raised}
 use Rattle.views.specs.declared.standing.Standing.{Standing}
-use Rattle.sync_engine.specs.Lines.{Line, Told, add, document, error, listening, rejected, remove, result, send, snapshot, unlistened, wrote}
-use Rattle.sync_engine.specs.Order.{AreHeard, now}
-use Rattle.sync_engine.specs.Past.{Entry, Past, Turn, asked, is_refused_in, listener, raised_in, told, unless_refused}
-use Rattle.sync_engine.specs.Settling.{IsBelow, Shows, ShowsAt, Stance, current_with, stance_of, standing_or, told_to}
-use Rattle.sync_engine.specs.Turn.{answered_next, is_heard, snapshot_line}
-use Rattle.sync_engine.specs.Turns.{after}
-use Rattle.sync_engine.specs.Watching.{begun_by, current_keys, listened, listened_by}
-use Rattle.sync_engine.proofs.Ones.{head_below, told_first, told_later}
-use Rattle.sync_engine.proofs.Reading.{current_behind}
-use Rattle.sync_engine.proofs.Wanted.{any_at, cons_cases, first_among, later_among}
+use Rattle.client_turns.specs.Lines.{Line, Told, add, document, error, listening, rejected, remove, result, send, snapshot, unlistened, wrote}
+use Rattle.client_turns.specs.Order.{AreHeard, now}
+use Rattle.client_turns.specs.Past.{Entry, Past, Turn, asked, is_refused_in, listener, raised_in, told, unless_refused}
+use Rattle.client_turns.specs.Settling.{IsBelow, Shows, ShowsAt, Stance, current_with, stance_of, standing_or, told_to}
+use Rattle.client_turns.specs.Turn.{answered_next, is_heard, snapshot_line}
+use Rattle.client_turns.specs.Turns.{after}
+use Rattle.client_turns.specs.Watching.{begun_by, current_keys, listened, listened_by}
+use Rattle.client_turns.proofs.Ones.{head_below, told_first, told_later}
+use Rattle.client_turns.proofs.Reading.{current_behind}
+use Rattle.client_turns.proofs.Wanted.{any_at, cons_cases, first_among, later_among}
 use Rattle.client_agreement.specs.Durable.{client_of}
 use Rattle.client_agreement.specs.Laws.{SnapshotAgrees}
 use Rattle.client_agreement.specs.Standing.{AreSpelled, HasMoments, StandsAs}

@@ -12,7 +12,7 @@ use Rattle.client_events.specs.Spelled.{IsSpelledEvent, IsSpelledMessage}
 use Rattle.client_events.specs.declared.event.Event.{Event}
 use Rattle.client_events.specs.declared.event.Event.TheVariants as event
 use Rattle.document_keys.specs.KeySet.{IsAscending}
-use Rattle.durable_state.specs.State.{IsNotBelow}
+use Rattle.durable_state.specs.State.{IsNotBelow, State, committed, most_commits}
 use Rattle.listen_protocol.specs.ToldKeys.{told_keys}
 use Rattle.document_keys.specs.Names.{Root}
 use Rattle.limbo_resolver.specs.Limbo.{is_odd}
@@ -20,7 +20,6 @@ use Rattle.listen_protocol.proofs.ToldLaw.{told_law}
 use Rattle.listen_protocol.specs.Buffer.{buffered, left_by}
 use Rattle.listen_protocol.specs.Calls.{Calls, came}
 use Rattle.listen_protocol.specs.Transcript as stream
-use Rattle.local_store.specs.State.{State, committed, most_commits}
 use Rattle.outcome_codec.specs.declared.parts.KeyedEntry.{KeyedEntry}
 use Rattle.outcome_codec.specs.declared.parts.PointRow.{PointRow}
 use Rattle.queries.specs.declared.target.Target.{Target}
@@ -37,18 +36,17 @@ use Rattle.value_model.specs.declared.timestamp.Timestamp.{Timestamp}
 use Rattle.watch_aggregator.specs.Effects.{Gives}
 use Rattle.watch_aggregator.specs.declared.effect.Effect.TheVariants as effect
 use Rattle.watch_points.specs.PointCommit.{IsPointCommit}
-use Rattle.sync_engine.specs.Answers.{Answers}
-use Rattle.sync_engine.specs.Asking.{is_told_dropped, resets_by}
-use Rattle.sync_engine.specs.Hearing.{AreBlankedFor, AreListenersOf, Blanks, HaveRows, IsHeard, IsOld, commits_if_left, dropped, ended, held, mismatch, none_held, nothing, old_point, point, point_spent}
-use Rattle.sync_engine.specs.Hearing.{fails as fails_heard}
-use Rattle.sync_engine.specs.Lines.{Line, error}
-use Rattle.sync_engine.specs.Order.{AreHeard, now}
-use Rattle.sync_engine.specs.Past.{Past, Turn}
-use Rattle.sync_engine.specs.Standing.{HasTargetRow}
-use Rattle.sync_engine.specs.Turn.{is_heard}
-use Rattle.sync_engine.specs.Turns.{after, commits, refused}
-use Rattle.sync_engine.specs.Watching.{WatchStep, calls_of, hears, is_dropped_by, is_mismatch, is_watched, passes, step_by}
-use Rattle.sync_engine.specs.declared.refusal.Refusal.TheVariants.{IdsSpent}
+use Rattle.client_turns.specs.Answers.{Answers}
+use Rattle.client_turns.specs.Asking.{is_told_dropped, resets_by}
+use Rattle.client_turns.specs.Hearing.{AreBlankedFor, AreListenersOf, Blanks, HaveRows, IsHeard, IsOld, commits_if_left, dropped, ended, held, mismatch, none_held, nothing, old_point, point, point_spent, fails as fails_heard}
+use Rattle.client_turns.specs.Lines.{Line, error}
+use Rattle.client_turns.specs.Order.{AreHeard, now}
+use Rattle.client_turns.specs.Past.{Past, Turn}
+use Rattle.client_turns.specs.Settling.{HasTargetRow}
+use Rattle.client_turns.specs.Turn.{is_heard}
+use Rattle.client_turns.specs.Turns.{after, commits, refused}
+use Rattle.client_turns.specs.Watching.{WatchStep, calls_of, hears, is_dropped_by, is_mismatch, is_watched, passes, step_by}
+use Rattle.client_turns.specs.declared.refusal.Refusal.TheVariants.{IdsSpent}
 use Rattle.client_agreement.proofs.Alike.{Alike}
 use Rattle.client_agreement.proofs.AlikePast.{alike_heard, alike_transcript, token_heard}
 use Rattle.client_agreement.proofs.Ascending.{ascends}

@@ -7,11 +7,11 @@ use Rattle.agreement.specs.Backend.{Id, Setting, Tuple}
 use Rattle.agreement.specs.Follows.{Known, tuple_of, tuples}
 use Rattle.agreement.specs.Streams.{message_of}
 use Rattle.agreement.specs.Transcript.{Asked, Cut, Event, Heard, Unasked, asked_ids, point_time}
-use Rattle.sync_engine.specs.Asking.{resets_by}
-use Rattle.sync_engine.specs.Lines.{Line, add, document, error, listening, rejected, remove, result, send, snapshot, unlistened, wrote}
-use Rattle.sync_engine.specs.Past.{Past}
-use Rattle.sync_engine.specs.Turn.{is_heard}
-use Rattle.sync_engine.specs.Watching.{WatchStep, closes, hears, opens, passes, rings, step_by, step_of}
+use Rattle.client_turns.specs.Asking.{resets_by}
+use Rattle.client_turns.specs.Lines.{Line, add, document, error, listening, rejected, remove, result, send, snapshot, unlistened, wrote}
+use Rattle.client_turns.specs.Past.{Past}
+use Rattle.client_turns.specs.Turn.{is_heard}
+use Rattle.client_turns.specs.Watching.{WatchStep, closes, hears, opens, passes, rings, step_by, step_of}
 use Rattle.client_agreement.specs.Laws.{TokensStayKnown}
 use Rattle.client_agreement.specs.Transcript.{asked_in, came_alone, came_by, is_removed_in, request_of, transcript}
 

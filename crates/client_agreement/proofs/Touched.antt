@@ -15,7 +15,7 @@ use Rattle.durable_state.proofs.Laid.{among_in, in_among}
 use Rattle.durable_state.proofs.Lent.{touches}
 use Rattle.durable_state.proofs.Local.{documents_local, unnamed_document}
 use Rattle.durable_state.specs.Documents.{documents_of, is_named, is_uncovered, sealed_entry_of, stored, touched_keys_of}
-use Rattle.local_store.specs.State.{State, start}
+use Rattle.durable_state.specs.State.{State, start}
 use Rattle.overlays.specs.LocalDocument.{base_of}
 use Rattle.queries.specs.declared.target.Target.{Target}
 use Rattle.remote_documents.proofs.Maps.{order}

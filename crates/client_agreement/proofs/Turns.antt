@@ -8,22 +8,22 @@ use Rattle.client_events.specs.declared.event.Event.TheVariants as event
 use Rattle.document_keys.specs.Names.{Root}
 use Rattle.listen_protocol.specs.Calls.{came}
 use Rattle.listen_protocol.specs.Transcript.{is_asked_in}
-use Rattle.local_store.specs.State.{State}
+use Rattle.durable_state.specs.State.{State}
 use Rattle.record_codec.specs.declared.commit.Commit.{Commit}
 use Rattle.value_model.specs.declared.document.RpcStatus.{RpcStatus}
 use Rattle.value_model.specs.declared.message.ListenResponse.{ListenResponse}
-use Rattle.sync_engine.proofs.Ones.{answers_one}
-use Rattle.sync_engine.specs.Asking.{resets_by}
-use Rattle.sync_engine.specs.Hearing.{AreListenersOf}
-use Rattle.sync_engine.specs.Lines.{error}
-use Rattle.sync_engine.specs.Order.{AreHeard, now}
-use Rattle.sync_engine.specs.Past.{Entry, Past, Turn}
-use Rattle.sync_engine.specs.Standing.{HasTargetRow}
-use Rattle.sync_engine.specs.Turn.{is_heard}
-use Rattle.sync_engine.specs.declared.refusal.Refusal.{Refusal}
-use Rattle.sync_engine.specs.Answers.{Answers}
-use Rattle.sync_engine.specs.Turns.{after}
-use Rattle.sync_engine.specs.Watching.{calls_by, calls_of, hears, is_point, is_wanted, is_watched, open_by, step_by, step_of}
+use Rattle.client_turns.proofs.Ones.{answers_one}
+use Rattle.client_turns.specs.Asking.{resets_by}
+use Rattle.client_turns.specs.Hearing.{AreListenersOf}
+use Rattle.client_turns.specs.Lines.{error}
+use Rattle.client_turns.specs.Order.{AreHeard, now}
+use Rattle.client_turns.specs.Past.{Entry, Past, Turn}
+use Rattle.client_turns.specs.Settling.{HasTargetRow}
+use Rattle.client_turns.specs.Turn.{is_heard}
+use Rattle.client_turns.specs.declared.refusal.Refusal.{Refusal}
+use Rattle.client_turns.specs.Answers.{Answers}
+use Rattle.client_turns.specs.Turns.{after}
+use Rattle.client_turns.specs.Watching.{calls_by, calls_of, hears, is_point, is_wanted, is_watched, open_by, step_by, step_of}
 use Rattle.client_agreement.proofs.AlikePast.{alike_heard, alike_transcript}
 use Rattle.client_agreement.proofs.Taking.{Takes, event_done}
 use Rattle.client_agreement.proofs.GoingOut.{SameAsked, goes_out, passed_asked, reset_by, reset_removed}

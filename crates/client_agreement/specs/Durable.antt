@@ -1,7 +1,6 @@
 -- What a client keeps on the disk, as the theorem of agreement has it: times are numbers there, and sets of
 -- keys are tests.
-use Rattle.std.specs.Prelude.{ℕ, ◌+◌, ◌%◌, pos, Bool, false, ◌==◌, List, [], ◌∷◌, Option, Some, None, option_map}
-use Rattle.std.specs.Prelude.{option_and_then, if◌then◌else◌}
+use Rattle.std.specs.Prelude.{ℕ, ◌+◌, ◌%◌, pos, Bool, false, ◌==◌, List, [], ◌∷◌, Option, Some, None, option_map, option_and_then, if◌then◌else◌}
 use Rattle.std.specs.Option.{option_map_or}
 use Rattle.std.specs.Ordering.{int_eq}
 use Rattle.agreement.specs.Backend.{Id, Key, Setting, Tuple, tick, tick_of}
@@ -10,8 +9,8 @@ use Rattle.agreement.specs.Entries as agreed
 use Rattle.agreement.specs.History.{Write, documents_of}
 use Rattle.agreement.specs.MessageTurns.{has}
 use Rattle.document_keys.specs.Names.{Root}
-use Rattle.local_store.specs.Documents.{sealed_entry_of}
-use Rattle.local_store.specs.State.{State}
+use Rattle.durable_state.specs.Documents.{sealed_entry_of}
+use Rattle.durable_state.specs.State.{State}
 use Rattle.queries.specs.declared.target.Target.{Target}
 use Rattle.queries.specs.declared.target.Target.TheVariants.{Document}
 use Rattle.target_cache.specs.declared.row.Held.{Held}

@@ -7,10 +7,10 @@ use Rattle.agreement.specs.History.{Write}
 use Rattle.agreement.specs.Transcript.{Event}
 use Rattle.document_keys.specs.Names.{Root}
 use Rattle.durable_state.specs.Documents.{is_named}
-use Rattle.local_store.specs.State.{State, start}
-use Rattle.sync_engine.specs.Lines.{Told, snapshot}
-use Rattle.sync_engine.specs.Past.{Entry, Past, listener}
-use Rattle.sync_engine.specs.Turns.{after}
+use Rattle.durable_state.specs.State.{State, start}
+use Rattle.client_turns.specs.Lines.{Told, snapshot}
+use Rattle.client_turns.specs.Past.{Entry, Past, listener}
+use Rattle.client_turns.specs.Turns.{after}
 use Rattle.value_model.specs.declared.timestamp.Timestamp.{Timestamp}
 use Rattle.views.specs.Row.{keys_of}
 use Rattle.views.specs.Viewed.{Viewed}

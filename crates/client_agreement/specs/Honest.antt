@@ -7,11 +7,11 @@ use Rattle.agreement.specs.Follows.{AreUnique, Follows}
 use Rattle.agreement.specs.Transcript.{Event}
 use Rattle.client_events.specs.declared.event.Event as event
 use Rattle.durable_state.specs.Cached.{first_writes}
-use Rattle.local_store.specs.State.{State}
+use Rattle.durable_state.specs.State.{State}
 use Rattle.mutations.specs.declared.results.WriteResult.{WriteResult}
 use Rattle.record_codec.specs.declared.commit.Commit.{Commit}
 use Rattle.record_codec.specs.declared.commit.Commit.TheVariants.{Acknowledge}
-use Rattle.sync_engine.specs.Past.{Past, Turn}
+use Rattle.client_turns.specs.Past.{Past, Turn}
 use Rattle.value_model.specs.declared.timestamp.Timestamp.{Timestamp}
 use Rattle.client_agreement.specs.Transcript.{transcript, transcript_with}
 

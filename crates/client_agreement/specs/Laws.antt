@@ -3,30 +3,28 @@ use Rattle.std.specs.Prelude.{◌≡◌, ℕ, false, List, ◌∷◌, ◌++◌, 
 use Rattle.std.specs.List.{Contains}
 use Rattle.agreement.specs.Agrees.{Agrees}
 use Rattle.agreement.specs.Allowed.{AreAllowed}
-use Rattle.agreement.specs.Backend.{Key, Setting}
+use Rattle.agreement.specs.Backend.{Key, Setting, Tuple}
 use Rattle.agreement.specs.Client.{Client, run}
 use Rattle.agreement.specs.Client as agreed
 use Rattle.agreement.specs.Follows.{Known}
 use Rattle.agreement.specs.History.{Write}
 use Rattle.agreement.specs.NextRun.{next_run}
-use Rattle.agreement.specs.Backend.{Tuple}
 use Rattle.agreement.specs.Sound.{Live, Sound}
 use Rattle.agreement.specs.Transcript.{Event}
 use Rattle.client_events.specs.Spelled.{IsSpelledEvent}
 use Rattle.client_events.specs.declared.event.Event as event
 use Rattle.document_keys.specs.Names.{Root}
-use Rattle.durable_state.specs.Documents.{is_named}
+use Rattle.durable_state.specs.Documents.{is_named, documents_of}
 use Rattle.host_api.specs.Host.{Files}
 use Rattle.local_store.specs.Files.{FindsState}
-use Rattle.local_store.specs.Documents.{documents_of}
-use Rattle.local_store.specs.State.{State, start}
+use Rattle.durable_state.specs.State.{State, start}
 use Rattle.queries.specs.Answer.{IsAnswer}
 use Rattle.queries.specs.declared.target.Target.{Target}
-use Rattle.sync_engine.specs.Answers.{Answers}
-use Rattle.sync_engine.specs.Lines.{Told, snapshot}
-use Rattle.sync_engine.specs.Order.{AreHeard, now}
-use Rattle.sync_engine.specs.Past.{Entry, Past, Turn, listener}
-use Rattle.sync_engine.specs.Turns.{after}
+use Rattle.client_turns.specs.Answers.{Answers}
+use Rattle.client_turns.specs.Lines.{Told, snapshot}
+use Rattle.client_turns.specs.Order.{AreHeard, now}
+use Rattle.client_turns.specs.Past.{Entry, Past, Turn, listener}
+use Rattle.client_turns.specs.Turns.{after}
 use Rattle.value_model.specs.declared.timestamp.Timestamp.{Timestamp}
 use Rattle.views.specs.Row.{Prints}
 use Rattle.views.specs.Viewed.{Viewed}

@@ -3,11 +3,11 @@ use Rattle.std.specs.Prelude.{◌∷◌}
 use Rattle.document_keys.specs.Names.{Root}
 use Rattle.limbo_resolver.specs.Laws.{IsSound, Rises}
 use Rattle.limbo_resolver.specs.Limbo.{Limbo, started}
-use Rattle.local_store.specs.State.{State}
-use Rattle.sync_engine.specs.LimboListens.{going_on, limbo_of}
-use Rattle.sync_engine.specs.Order.{AreHeard}
-use Rattle.sync_engine.specs.Past.{Entry, Past}
-use Rattle.sync_engine.specs.Watching.{calls_of, step_of}
+use Rattle.durable_state.specs.State.{State}
+use Rattle.client_turns.specs.LimboListens.{going_on, limbo_of}
+use Rattle.client_turns.specs.Order.{AreHeard}
+use Rattle.client_turns.specs.Past.{Entry, Past}
+use Rattle.client_turns.specs.Watching.{calls_of, step_of}
 
 -- the listens that go on at an event, before those of other documents end and new ones start
 abbrev pub limbo_at : Entry → Past → Limbo

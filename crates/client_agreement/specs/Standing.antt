@@ -7,10 +7,10 @@ use Rattle.agreement.specs.MessageTurns.{has}
 use Rattle.document_keys.specs.KeySet.{IsAscending}
 use Rattle.client_events.specs.Spelled.{IsSpelledEvent}
 use Rattle.listen_protocol.specs.Buffer.{buffered}
-use Rattle.local_store.specs.Documents.{sealed_entry_of}
-use Rattle.local_store.specs.State.{State}
-use Rattle.sync_engine.specs.Past.{Past}
-use Rattle.sync_engine.specs.Watching.{calls_of, current_keys}
+use Rattle.durable_state.specs.Documents.{sealed_entry_of}
+use Rattle.durable_state.specs.State.{State}
+use Rattle.client_turns.specs.Past.{Past}
+use Rattle.client_turns.specs.Watching.{calls_of, current_keys}
 use Rattle.target_cache.specs.Cache.{IsRow}
 use Rattle.target_cache.specs.declared.row.Row.{Row}
 use Rattle.value_model.specs.Time.{IsMoment}

@@ -7,11 +7,11 @@ use Rattle.agreement.specs.Backend.{Id}
 use Rattle.agreement.specs.Streams.{message_of}
 use Rattle.agreement.specs.Transcript.{Event, Asked, Cut, Heard, Request, Unasked}
 use Rattle.client_events.specs.declared.event.Event as event
-use Rattle.sync_engine.specs.Asking.{resets_by}
-use Rattle.sync_engine.specs.Lines.{Line, add, remove}
-use Rattle.sync_engine.specs.Past.{Past, Turn}
-use Rattle.sync_engine.specs.Turn.{is_heard}
-use Rattle.sync_engine.specs.Watching.{WatchStep, closes, hears, opens, step_by, step_of}
+use Rattle.client_turns.specs.Asking.{resets_by}
+use Rattle.client_turns.specs.Lines.{Line, add, remove}
+use Rattle.client_turns.specs.Past.{Past, Turn}
+use Rattle.client_turns.specs.Turn.{is_heard}
+use Rattle.client_turns.specs.Watching.{WatchStep, closes, hears, opens, step_by, step_of}
 use Rattle.target_cache.specs.declared.row.Row.{Row}
 use Rattle.client_agreement.specs.Durable.{tuple_in}
 

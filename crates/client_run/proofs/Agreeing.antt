@@ -23,12 +23,12 @@ use Rattle.local_store.proofs.Replayed.{find_once}
 use Rattle.local_store.specs.Files.{FindsState}
 use Rattle.local_store.specs.State.{State, committed, start}
 use Rattle.record_codec.specs.declared.commit.Commit.{Commit}
-use Rattle.sync_engine.specs.Answers.{Answers}
-use Rattle.sync_engine.specs.Lines.{Told, snapshot}
-use Rattle.sync_engine.specs.Order as order
-use Rattle.sync_engine.specs.Past.{Past, Turn}
-use Rattle.sync_engine.specs.Turn.{is_heard}
-use Rattle.sync_engine.specs.Turns.{after}
+use Rattle.client_turns.specs.Answers.{Answers}
+use Rattle.client_turns.specs.Lines.{Told, snapshot}
+use Rattle.client_turns.specs.Order as order
+use Rattle.client_turns.specs.Past.{Past, Turn}
+use Rattle.client_turns.specs.Turn.{is_heard}
+use Rattle.client_turns.specs.Turns.{after}
 use Rattle.value_model.specs.declared.timestamp.Timestamp.{Timestamp}
 use Rattle.client_run.proofs.Handling.{refusal_back}
 use Rattle.client_run.proofs.Ordering.{history_comes}

@@ -10,9 +10,8 @@ use Rattle.client_run.specs.Causes.{Causes, NoFaults}
 use Rattle.client_run.specs.Crash.{Keeps, Survives, FindsHandled, FindsAtEnd, Crashes}
 use Rattle.client_run.specs.Output.{Call, IsRun, called, TookNothing}
 use Rattle.client_run.specs.Run.{Ran}
-use Rattle.local_store.specs.Files.{FindsState}
+use Rattle.local_store.specs.Files.{FindsState, IsNoStore}
 use Rattle.local_store.specs.State.{State, LeadsTo}
-use Rattle.local_store.specs.Files.{IsNoStore}
 use Rattle.client_run.specs.History.{History}
 use Rattle.client_run.specs.declared.status.Status.{Status}
 use Rattle.client_run.specs.declared.status.Status.TheVariants.{Done, Usage, SourceFault, DiskFault, SinkFault, NoMemory, NotAStore, Budget}

@@ -11,12 +11,12 @@ use Rattle.local_store.specs.Files.{FindsState, Moves}
 use Rattle.local_store.specs.State.{State}
 use Rattle.local_store.specs.Store.{IsSpent as IsStoreSpent, IsStored}
 use Rattle.client_events.specs.declared.event.Event.{Event}
-use Rattle.sync_engine.specs.Turns.{after}
-use Rattle.sync_engine.specs.Past.{Turn, Past}
+use Rattle.client_turns.specs.Turns.{after}
+use Rattle.client_turns.specs.Past.{Turn, Past}
 use Rattle.sync_engine.specs.Standing.{IsStanding, Kept, StandsFor}
 use Rattle.sync_engine.specs.Telling.{HandsOut, Makes, MovesBy}
-use Rattle.sync_engine.specs.Turn.{SettlesAfter, heard_then, is_heard}
-use Rattle.sync_engine.specs.declared.refusal.Refusal.{Refusal}
+use Rattle.client_turns.specs.Turn.{SettlesAfter, heard_then, is_heard}
+use Rattle.client_turns.specs.declared.refusal.Refusal.{Refusal}
 use Rattle.sync_engine.specs.declared.out.Outcome.{Outcome}
 use Rattle.client_run.specs.Printed.{printed}
 use Rattle.record_codec.specs.declared.commit.Commit.{Commit}

@@ -4,8 +4,8 @@ use Rattle.document_keys.specs.Names.{Root}
 use Rattle.line_reader.specs.declared.reading.Reading.{Reading}
 use Rattle.line_reader.specs.declared.reading.Reading.TheVariants.{Line as an_event, Refused}
 use Rattle.local_store.specs.State.{State}
-use Rattle.sync_engine.specs.Past.{Past}
-use Rattle.sync_engine.proofs.Ones.{a_turn_is_one}
+use Rattle.client_turns.specs.Past.{Past}
+use Rattle.client_turns.proofs.Ones.{a_turn_is_one}
 use Rattle.client_run.specs.History.{Handled, History, heard, now, readings_of}
 use Rattle.client_run.specs.Laws.{AHistoryIsOne}
 use Rattle.client_run.specs.Turn.{LineTurn, IsLineTurn, of_event}

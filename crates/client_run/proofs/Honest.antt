@@ -28,19 +28,19 @@ use Rattle.queries.specs.declared.target.Target.{Target}
 use Rattle.target_cache.specs.Cache.{TellsId, id_at}
 use Rattle.views.specs.Viewed.{Viewed}
 use Rattle.views.specs.declared.raised.Raised.{Raised}
-use Rattle.sync_engine.specs.Answers.{Answers, Begins, are_left, ends, enqueued, last_target, listens}
-use Rattle.sync_engine.specs.Turns.{after, answered, commits, refused}
+use Rattle.client_turns.specs.Answers.{Answers, Begins, are_left, ends, enqueued, last_target, listens}
+use Rattle.client_turns.specs.Turns.{after, answered, commits, refused}
 use Rattle.limbo_resolver.specs.Limbo.{Limbo}
 use Rattle.queries.specs.declared.target.Target.TheVariants.{Document as DocumentTarget}
-use Rattle.sync_engine.specs.Asking.{AsksIf, IsAddLine, IsListenLine, resets_by}
-use Rattle.sync_engine.specs.LimboListens.{limbo_of}
-use Rattle.sync_engine.specs.Hearing as hearing
-use Rattle.sync_engine.specs.Hearing.{Blanks, HeardTurn, commits_if_left, watch_member_name}
-use Rattle.sync_engine.specs.Lines.{Line, Told, wrote, listening, unlistened, document, result, rejected, error, remove, send}
-use Rattle.sync_engine.specs.Past.{Entry, Turn, Past, asked, is_refused_in, listener, raised_in, steps_by, steps_of, told}
-use Rattle.sync_engine.specs.Past as past_of
-use Rattle.sync_engine.specs.Watching.{is_watched}
-use Rattle.sync_engine.specs.Writing.{WrittenTurn, acknowledges, bad_turn, closed_turn, closes, fails, first_batch, is_open, is_stream_open, member_name, opened_turn, rejects, request_of, requests, settles, shakes, to_send}
+use Rattle.client_turns.specs.Asking.{AsksIf, IsAddLine, IsListenLine, resets_by}
+use Rattle.client_turns.specs.LimboListens.{limbo_of}
+use Rattle.client_turns.specs.Hearing as hearing
+use Rattle.client_turns.specs.Hearing.{Blanks, HeardTurn, commits_if_left, watch_member_name}
+use Rattle.client_turns.specs.Lines.{Line, Told, wrote, listening, unlistened, document, result, rejected, error, remove, send}
+use Rattle.client_turns.specs.Past.{Entry, Turn, Past, asked, is_refused_in, listener, raised_in, steps_by, steps_of, told}
+use Rattle.client_turns.specs.Past as past_of
+use Rattle.client_turns.specs.Watching.{is_watched}
+use Rattle.client_turns.specs.Writing.{WrittenTurn, acknowledges, bad_turn, closed_turn, closes, fails, first_batch, is_open, is_stream_open, member_name, opened_turn, rejects, request_of, requests, settles, shakes, to_send}
 use Rattle.mutations.specs.declared.batch.Batch.{Batch}
 use Rattle.mutations.specs.declared.results.WriteRequest.TheVariants.{Batch as a_batch, Handshake as the_first}
 use Rattle.mutations.specs.declared.results.WriteResponse.{WriteResponse}
@@ -56,11 +56,11 @@ use Rattle.write_pipeline.specs.declared.answer.Closing.{Closing}
 use Rattle.write_pipeline.specs.declared.answer.Closing.TheVariants.{Kept as KeepsAll, Rejects}
 use Rattle.std.proofs.lemmas.List.{append_assoc}
 use Rattle.std.proofs.lemmas.Grind.{flat_map-append}
-use Rattle.sync_engine.specs.Settling.{Settles, ShowsAt, Stance, stance_of, told_to}
-use Rattle.sync_engine.specs.Turn.{IsTurn, SettlesAfter, answered_next, batches_behind, is_heard, snapshot_line, unless_refused, with_limbo, with_lines}
-use Rattle.sync_engine.specs.declared.refusal.Refusal.{Refusal}
-use Rattle.sync_engine.specs.declared.refusal.Refusal.TheVariants.{ListenerTaken, NoListener, StreamState, BadMessage, IdsSpent}
-use Rattle.sync_engine.proofs.Handing.{all_told}
+use Rattle.client_turns.specs.Settling.{Settles, ShowsAt, Stance, stance_of, told_to}
+use Rattle.client_turns.specs.Turn.{IsTurn, SettlesAfter, answered_next, batches_behind, is_heard, snapshot_line, unless_refused, with_limbo, with_lines}
+use Rattle.client_turns.specs.declared.refusal.Refusal.{Refusal}
+use Rattle.client_turns.specs.declared.refusal.Refusal.TheVariants.{ListenerTaken, NoListener, StreamState, BadMessage, IdsSpent}
+use Rattle.client_turns.proofs.Ones.{all_told}
 use Rattle.client_run.specs.Laws.{ATurnReportsWithin, HasListenerIds, IsCounted}
 use Rattle.client_run.specs.Printed.{printed, refusal_text, resume_of, rule_number, text_of, tree_of, unheard_tree, unread_tree}
 use Rattle.client_run.specs.Turn.{LineTurn, IsLineTurn, and_heard, entry_of, of_event, refusal_in, unheard}

@@ -7,14 +7,14 @@ use Rattle.line_reader.specs.declared.reading.Reading.{Reading}
 use Rattle.line_reader.specs.declared.reading.Reading.TheVariants.{Line as an_event, Refused}
 use Rattle.local_store.specs.State.{State}
 use Rattle.record_codec.specs.declared.commit.Commit.{Commit}
-use Rattle.sync_engine.specs.Order.{AreHeard}
-use Rattle.sync_engine.specs.Order as order
-use Rattle.sync_engine.specs.Past.{Past, Turn}
-use Rattle.sync_engine.specs.Turn.{IsTurn, is_heard}
-use Rattle.sync_engine.specs.Turns.{after}
-use Rattle.sync_engine.specs.declared.refusal.Refusal.{Refusal}
-use Rattle.sync_engine.proofs.Ordered.{writes_go_in_order}
-use Rattle.sync_engine.proofs.Requests.{refused_unmade}
+use Rattle.client_turns.specs.Order.{AreHeard}
+use Rattle.client_turns.specs.Order as order
+use Rattle.client_turns.specs.Past.{Past, Turn}
+use Rattle.client_turns.specs.Turn.{IsTurn, is_heard}
+use Rattle.client_turns.specs.Turns.{after}
+use Rattle.client_turns.specs.declared.refusal.Refusal.{Refusal}
+use Rattle.client_turns.proofs.Ordered.{writes_go_in_order}
+use Rattle.client_turns.proofs.Requests.{refused_unmade}
 use Rattle.client_run.specs.History.{AreTurns, History, heard, now}
 use Rattle.client_run.specs.Laws.{RunsWriteInOrder}
 use Rattle.client_run.specs.Turn.{IsLineTurn, LineTurn, and_heard, entry_of, of_event, refusal_in, unheard}

@@ -16,8 +16,8 @@ use Rattle.line_reader.specs.declared.reading.Reading.{Reading}
 use Rattle.local_store.specs.Files.{FindsState}
 use Rattle.local_store.specs.State.{State}
 use Rattle.local_store.specs.Store.{IsSpent as IsStoreSpent, IsStored, Store}
-use Rattle.sync_engine.specs.Turns.{after}
-use Rattle.sync_engine.specs.Past.{Past}
+use Rattle.client_turns.specs.Turns.{after}
+use Rattle.client_turns.specs.Past.{Past}
 use Rattle.sync_engine.specs.Standing.{Kept, StandsFor}
 use Rattle.client_run.specs.Causes.{Causes, IsServed}
 use Rattle.client_run.specs.Crash.{Keeps, IsAsBefore, Synced, FindsHandled, FindsNext, FindsAtEnd, Survives, Crashes}

@@ -12,7 +12,7 @@ use Rattle.local_store.specs.Files.{FindsState}
 use Rattle.local_store.specs.State.{State, committed}
 use Rattle.line_printer.specs.Reported.{lines_on, whole_lines, ReportsWithin, ReportedWithin}
 use Rattle.line_printer.proofs.Breaks.{open_on, lines_append, open_append}
-use Rattle.sync_engine.specs.Turns.{after}
+use Rattle.client_turns.specs.Turns.{after}
 use Rattle.client_run.specs.Crash.{FindsNext, Survives}
 use Rattle.client_run.specs.History.{Handled, History, now, heard, output_of, made, commits_of, after_all}
 use Rattle.client_run.specs.Laws.{HasListenerIds}

@@ -14,11 +14,11 @@ use Rattle.target_cache.specs.Cache.{IsRow}
 use Rattle.target_cache.specs.Kept.{TellsRow}
 use Rattle.target_cache.specs.declared.row.Row.{Row}
 use Rattle.write_pipeline.specs.Order.{latest_token}
-use Rattle.sync_engine.specs.Writing.{first_batch}
+use Rattle.client_turns.specs.Writing.{first_batch}
 use Rattle.local_store.specs.Documents.{document_of, standing_of}
 use Rattle.local_store.specs.Store.{Store}
 use Rattle.sync_engine.specs.declared.out.Out.TheVariants.{Document}
-use Rattle.sync_engine.specs.Lines.{Line}
+use Rattle.client_turns.specs.Lines.{Line}
 use Rattle.sync_engine.specs.Standing.{ComesAs, Kept}
 use Rattle.sync_engine.specs.Telling.{IsSent, IsShown}
 use Rattle.sync_engine.specs.declared.out.Out.{Out}

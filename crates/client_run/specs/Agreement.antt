@@ -21,10 +21,10 @@ use Rattle.line_reader.specs.Reading.{AreRead}
 use Rattle.line_reader.specs.declared.reading.Reading.TheVariants.{Line as an_event}
 use Rattle.local_store.specs.Files.{FindsState}
 use Rattle.local_store.specs.State.{State}
-use Rattle.sync_engine.specs.Answers.{Answers}
-use Rattle.sync_engine.specs.Lines.{Told, snapshot}
-use Rattle.sync_engine.specs.Past.{Past, Turn}
-use Rattle.sync_engine.specs.Turns.{after}
+use Rattle.client_turns.specs.Answers.{Answers}
+use Rattle.client_turns.specs.Lines.{Told, snapshot}
+use Rattle.client_turns.specs.Past.{Past, Turn}
+use Rattle.client_turns.specs.Turns.{after}
 use Rattle.value_model.specs.declared.timestamp.Timestamp.{Timestamp}
 use Rattle.client_run.specs.Crash.{state_after}
 use Rattle.client_run.specs.History.{Handled, History, heard, readings_of}

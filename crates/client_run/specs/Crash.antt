@@ -8,7 +8,7 @@ use Rattle.line_printer.specs.Reported.{ReportedWithin}
 use Rattle.line_reader.specs.Reading.{AreRead}
 use Rattle.line_reader.specs.Spelled.{IsSpelledReading}
 use Rattle.line_reader.specs.declared.reading.Reading.{Reading}
-use Rattle.sync_engine.specs.Turns.{after}
+use Rattle.client_turns.specs.Turns.{after}
 use Rattle.client_run.specs.History.{History, after_all, commits_of, heard, readings_of}
 use Rattle.client_run.specs.Output.{Call, IsRun, TookNothing}
 use Rattle.client_run.specs.Turn.{CommitsNext}

@@ -4,8 +4,8 @@ use Rattle.document_keys.specs.Names.{Root}
 use Rattle.record_codec.specs.declared.commit.Commit.{Commit}
 use Rattle.local_store.specs.State.{State, committed}
 use Rattle.line_reader.specs.declared.reading.Reading.{Reading}
-use Rattle.sync_engine.specs.Turns.{after}
-use Rattle.sync_engine.specs.Past.{Past}
+use Rattle.client_turns.specs.Turns.{after}
+use Rattle.client_turns.specs.Past.{Past}
 use Rattle.client_run.specs.Printed.{printed}
 use Rattle.client_run.specs.Turn.{LineTurn, IsLineTurn, and_heard}
 

@@ -5,12 +5,12 @@ use Rattle.line_printer.specs.Reported.{ReportedWithin}
 use Rattle.line_reader.specs.Spelled.{IsSpelledReading}
 use Rattle.line_reader.specs.declared.reading.Reading.{Reading}
 use Rattle.local_store.specs.State.{State, most_commits}
-use Rattle.sync_engine.specs.Turns.{after}
-use Rattle.sync_engine.specs.Past.{Past, listener}
-use Rattle.sync_engine.specs.Writing.{first_batch}
+use Rattle.client_turns.specs.Turns.{after}
+use Rattle.client_turns.specs.Past.{Past, listener}
+use Rattle.client_turns.specs.Writing.{first_batch}
 use Rattle.target_cache.specs.Cache.{id_at}
 use Rattle.views.specs.Viewed.{Viewed}
-use Rattle.sync_engine.specs.Order.{IsInOrder}
+use Rattle.client_turns.specs.Order.{IsInOrder}
 use Rattle.client_run.specs.History.{AreTurns, History, heard, readings_of}
 use Rattle.client_run.specs.Printed.{printed}
 use Rattle.client_run.specs.Turn.{IsLineTurn, LineTurn}

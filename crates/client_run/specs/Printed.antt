@@ -11,9 +11,9 @@ use Rattle.queries.specs.declared.listen_request.ListenRequest.TheVariants.{Add,
 use Rattle.queries.specs.declared.listen_request.Resume.{Resume}
 use Rattle.queries.specs.declared.raw.QueryRule.{QueryRule}
 use Rattle.queries.specs.declared.raw.QueryRule.TheVariants as rule
-use Rattle.sync_engine.specs.declared.refusal.Refusal.{Refusal}
-use Rattle.sync_engine.specs.declared.refusal.Refusal.TheVariants.{ListenerTaken, NoListener, StreamState, BadMessage, IdsSpent}
-use Rattle.sync_engine.specs.Lines.{Line, wrote, listening, unlistened, document, result, rejected, error, snapshot, add, remove, send}
+use Rattle.client_turns.specs.declared.refusal.Refusal.{Refusal}
+use Rattle.client_turns.specs.declared.refusal.Refusal.TheVariants.{ListenerTaken, NoListener, StreamState, BadMessage, IdsSpent}
+use Rattle.client_turns.specs.Lines.{Line, wrote, listening, unlistened, document, result, rejected, error, snapshot, add, remove, send}
 use Rattle.target_cache.specs.declared.row.Held.{Held}
 use Rattle.client_run.specs.Turn.{Cause, unread, unheard, LineTurn}
 

@@ -6,9 +6,9 @@ use Rattle.record_codec.specs.declared.commit.Commit.{Commit}
 use Rattle.line_reader.specs.declared.reading.Reading.{Reading}
 use Rattle.local_store.specs.Files.{Moves}
 use Rattle.local_store.specs.State.{State}
-use Rattle.sync_engine.specs.Turns.{after}
-use Rattle.sync_engine.specs.Lines.{Line}
-use Rattle.sync_engine.specs.Past.{Turn, Past}
+use Rattle.client_turns.specs.Turns.{after}
+use Rattle.client_turns.specs.Lines.{Line}
+use Rattle.client_turns.specs.Past.{Turn, Past}
 use Rattle.sync_engine.specs.Standing.{Kept, StandsFor}
 use Rattle.sync_engine.specs.Telling.{IsOutcome, IsShown}
 use Rattle.sync_engine.specs.declared.out.Out.{Out}

@@ -8,11 +8,11 @@ use Rattle.client_events.specs.declared.event.Event.{Event}
 use Rattle.line_reader.specs.declared.reading.Reading.{Reading}
 use Rattle.line_reader.specs.declared.reading.Reading.TheVariants.{Line as an_event, Refused}
 use Rattle.line_reader.specs.declared.refusal.Refusal.{Refusal as Unread}
-use Rattle.sync_engine.specs.declared.refusal.Refusal.{Refusal}
-use Rattle.sync_engine.specs.Answers.{Answers}
-use Rattle.sync_engine.specs.Lines.{Line}
-use Rattle.sync_engine.specs.Past.{Turn, Entry, Past}
-use Rattle.sync_engine.specs.Turn.{IsTurn, heard_then}
+use Rattle.client_turns.specs.declared.refusal.Refusal.{Refusal}
+use Rattle.client_turns.specs.Answers.{Answers}
+use Rattle.client_turns.specs.Lines.{Line}
+use Rattle.client_turns.specs.Past.{Turn, Entry, Past}
+use Rattle.client_turns.specs.Turn.{IsTurn, heard_then}
 
 -- why a line is refused: it is no event, or the client refuses its event
 pub data Cause : Type 0 where

@@ -4,9 +4,9 @@ ghost use Rattle.std.specs.Prelude.{◌≡◌, ◌<◌, ◌^◌, IsTrue, IfErr, 
 ghost use Rattle.line_reader.specs.Spelled.{IsSpelledReading};
 ghost use Rattle.local_store.specs.State.{State};
 ghost use Rattle.local_store.specs.Store.{IsStored};
-ghost use Rattle.sync_engine.specs.Past.{Past};
+ghost use Rattle.client_turns.specs.Past.{Past};
 ghost use Rattle.sync_engine.specs.Standing.{IsLive, IsStanding, StandsFor};
-ghost use Rattle.sync_engine.specs.Writing.{first_batch};
+ghost use Rattle.client_turns.specs.Writing.{first_batch};
 ghost use Rattle.client_run.specs.Laws.{IsCounted};
 ghost use Rattle.client_run.specs.Turned.{IsHandled, Stopped, Turned, TurnCounts, coming};
 

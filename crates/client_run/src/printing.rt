@@ -4,8 +4,8 @@ ghost use Rattle.std.specs.Prelude.{◌≡◌, List, ◌++◌, IfOk};
 ghost use Rattle.std.specs.String.{string_bytes};
 ghost use Rattle.line_printer.specs.Lines.{document_tree, line_of};
 ghost use Rattle.local_store.specs.Documents.{document_of, standing_of};
-ghost use Rattle.sync_engine.specs.Asking.{IsAddLine, IsListenLine};
-ghost use Rattle.sync_engine.specs.Lines.{Line};
+ghost use Rattle.client_turns.specs.Asking.{IsAddLine, IsListenLine};
+ghost use Rattle.client_turns.specs.Lines.{Line};
 ghost use Rattle.sync_engine.specs.Standing.{IsStanding};
 ghost use Rattle.sync_engine.specs.Telling.{IsRaised, IsSent, IsShown};
 ghost use Rattle.client_run.specs.Printed.{printed, rule_number as rule_number_of, text_of, tree_of, unheard_tree, unread_tree};
@@ -13,6 +13,7 @@ ghost use Rattle.client_run.specs.Taken.{AreShown, IsHeard, Tells};
 ghost use Rattle.client_run.specs.Turn.{LineTurn};
 
 use crate::taken::Taken;
+use client_turns::Refusal;
 use document_keys::{Database, DocumentKey, NoMemory};
 use line_printer::{
     print_add_target, print_bad_line, print_bad_message, print_bad_name, print_bad_query,
@@ -25,7 +26,7 @@ use line_reader::Refusal as Unread;
 use local_store::{LocalStore, documents_are_local};
 use queries::{QueryRule, Target};
 use std::alloc::Global;
-use sync_engine::{Client, Out, Outcome, Refusal};
+use sync_engine::{Client, Out, Outcome};
 use value_model::Documents;
 
 /// The number of a rule of queries.

@@ -5,9 +5,8 @@ ghost use Rattle.client_run.specs.Causes.{Causes, Completes, IsForeign, LeavesFo
 ghost use Rattle.client_run.specs.Crash.{Keeps};
 ghost use Rattle.client_run.specs.Output.{called};
 ghost use Rattle.client_run.specs.Run.{Ran, Kept};
-ghost use Rattle.local_store.specs.Files.{FindsState};
+ghost use Rattle.local_store.specs.Files.{FindsState, IsNoStore};
 ghost use Rattle.local_store.specs.State.{State};
-ghost use Rattle.local_store.specs.Files.{IsNoStore};
 ghost use Rattle.local_store.specs.Store.{IsStored};
 ghost use Rattle.sync_engine.specs.Standing.{IsLive, IsStanding, StandsFor};
 

@@ -6,7 +6,7 @@ ghost use Rattle.host_api.specs.Host.{KeepsOut};
 ghost use Rattle.line_reader.specs.Spelled.{IsSpelledReading};
 ghost use Rattle.local_store.specs.State.{State};
 ghost use Rattle.local_store.specs.Store.{IsStored};
-ghost use Rattle.sync_engine.specs.Past.{Past};
+ghost use Rattle.client_turns.specs.Past.{Past};
 ghost use Rattle.sync_engine.specs.Standing.{IsLive, IsStanding, StandsFor};
 ghost use Rattle.client_run.specs.Taken.{IsTaken, MovesLine};
 

@@ -1,5 +1,5 @@
 -- the keys of some writes, each where it comes first
-use Rattle.std.proofs.Common.{◌≡◌, ◌≢◌, ◌∙◌, ◌||◌, ◌<◌, ◌≤◌, ◌+◌, ℕ, zero, suc, inl, inr, Bool, true, false, cond, List, [], ◌∷◌, ◌++◌, map, take, length, get_or, fold, option_map, Option, Some, None, append-nil, refl, sym, ap, subst, arith}
+use Rattle.std.proofs.Common.{◌≡◌, ◌≢◌, ◌∙◌, ◌||◌, ◌<◌, ◌+◌, ℕ, zero, suc, inl, inr, Bool, true, false, cond, List, [], ◌∷◌, ◌++◌, take, length, get_or, fold, option_map, Option, Some, None, append-nil, refl, sym, ap, subst, arith}
 use Rattle.std.specs.FinMap as finite
 use Rattle.std.specs.List.{cons_option, filter, filter_map}
 use Rattle.std.proofs.lemmas.Bool.Decides.{leb_tells}

@@ -1,5 +1,5 @@
 -- the last change of each key
-use Rattle.std.proofs.Common.{◌≡◌, ◌∙◌, ◌<◌, ◌≤◌, ◌+◌, ℕ, Bool, true, false, cond, nat_eq, List, [], ◌∷◌, ◌++◌, take, length, get_or, fold, option_map, Option, Some, None, refl, sym, ap, subst, arith}
+use Rattle.std.proofs.Common.{◌≡◌, ◌∙◌, ◌<◌, ◌+◌, ℕ, Bool, true, false, cond, List, [], ◌∷◌, ◌++◌, take, length, get_or, fold, option_map, Option, Some, None, refl, sym, ap, subst, arith}
 use Rattle.std.specs.FinMap as finite
 use Rattle.std.specs.Map.{lookup}
 use Rattle.std.proofs.lemmas.Grind.{fold-append}
@@ -10,7 +10,7 @@ use Rattle.value_model.specs.declared.document.Entry.{Entry}
 use Rattle.value_model.specs.declared.document.Seal.{Seal}
 use Rattle.outcome_codec.specs.declared.parts.KeyedEntry.{KeyedEntry}
 use Rattle.remote_documents.specs.Table.{EntryMap}
-use Rattle.durable_state.specs.Cached.{Changed, cached, with_all, with_changed}
+use Rattle.durable_state.specs.Cached.{cached, with_all, with_changed}
 use Rattle.durable_state.specs.News.{AreLast, put_at, with_put}
 use Rattle.durable_state.specs.Ready.{put_change, put_changes}
 use Rattle.durable_state.proofs.Changed.{entry_by, get_changed}

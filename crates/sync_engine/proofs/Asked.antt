@@ -27,33 +27,34 @@ use Rattle.watch_aggregator.specs.declared.aggregator.Aggregator.{Aggregator}
 use Rattle.watch_points.specs.SpelledCalls.{AreSpelledCalls}
 use Rattle.write_pipeline.specs.Order.{Steps, outstanding}
 use Rattle.write_pipeline.specs.Standing.{StandsFor as PipelineStandsFor}
-use Rattle.sync_engine.specs.Asking.{AreJust, Asks, AsksIf, IsAddLine, IsAdded, IsListenAdded, IsListenLine, IsRemoved, resets_by}
-use Rattle.sync_engine.specs.LimboListens.{going_on, is_running, is_sought, limbo_of}
-use Rattle.sync_engine.specs.Lines.{Line, add, document, remove, snapshot}
-use Rattle.sync_engine.specs.Past.{Past, Turn, asked as asked_of, is_refused_in, listener, raised_in, sent_in, steps_by, steps_of, told, unless_refused}
-use Rattle.sync_engine.specs.Requesting.{AsksFor, IsDueIn, IsListenToAdd, IsSought, IsToAdd, IsToRemove, KeepsButCalls, Picked, Requests, SettlesLimbo, unasked_all, with_listens}
-use Rattle.sync_engine.specs.Settling.{Stance, current_with, stance_of}
-use Rattle.sync_engine.specs.Standing.{HasTargetRow, IsDue, IsQuiet, Kept, StandsAfter, StandsFor, StandsOn, StandsWith, Watches, limbo_in, standing_in}
+use Rattle.client_turns.specs.Asking.{Asks, AsksIf, IsAddLine, IsAdded, IsListenAdded, IsListenLine, IsRemoved, resets_by}
+use Rattle.client_turns.specs.LimboListens.{going_on, is_running, is_sought, limbo_of}
+use Rattle.client_turns.specs.Lines.{Line, add, document, remove, snapshot}
+use Rattle.client_turns.specs.Past.{Past, Turn, asked as asked_of, is_refused_in, listener, raised_in, sent_in, steps_by, steps_of, told, unless_refused}
+use Rattle.sync_engine.specs.Requesting.{AsksFor, IsDueIn, IsListenToAdd, IsSought, IsToAdd, IsToRemove, KeepsButCalls, Picked, Requests, SettlesLimbo, with_listens}
+use Rattle.client_turns.specs.Watching.{unasked_all, begun_by, begun_in, calls_of, is_wanted, is_watched, listened_by, listened_in, open_by, requested_by, requested_in, step_by}
+use Rattle.client_turns.specs.Settling.{Stance, current_with, stance_of, HasTargetRow}
+use Rattle.sync_engine.specs.Standing.{IsDue, IsQuiet, Kept, StandsAfter, StandsFor, StandsOn, StandsWith, Watches, limbo_in, standing_in}
 use Rattle.sync_engine.specs.Stream.{resets_of}
 use Rattle.sync_engine.specs.Telling.{HandsSettled, IsShown, ResetsAsDue}
-use Rattle.sync_engine.specs.Turn.{IsSettled, LimboBehind, answered_next, is_heard, with_limbo, with_lines}
-use Rattle.sync_engine.specs.Turns.{after}
-use Rattle.sync_engine.specs.Watching.{begun_by, begun_in, calls_of, is_wanted, is_watched, listened_by, listened_in, open_by, requested_by, requested_in, step_by}
+use Rattle.client_turns.specs.Turn.{IsSettled, LimboBehind, answered_next, is_heard, with_limbo, with_lines}
+use Rattle.client_turns.specs.Turns.{after}
 use Rattle.sync_engine.specs.declared.current.CurrentTargets.{CurrentTargets}
 use Rattle.sync_engine.specs.declared.out.Out.{Out}
 use Rattle.sync_engine.specs.declared.out.Out.TheVariants as out
 use Rattle.sync_engine.specs.declared.out.Outcome.TheVariants.{Done, Refused}
-use Rattle.sync_engine.specs.declared.refusal.Refusal.{Refusal}
+use Rattle.client_turns.specs.declared.refusal.Refusal.{Refusal}
 use Rattle.sync_engine.specs.declared.watch_stream.Due.{Due}
 use Rattle.sync_engine.specs.declared.watch_stream.Due.TheVariants.{Nothing, One, Resets, All as due_all}
 use Rattle.sync_engine.specs.declared.write_stream.WriteStream.{WriteStream}
 use Rattle.sync_engine.proofs.Handing.{refused_behind}
 use Rattle.sync_engine.proofs.InLimbo.{shown_in_limbo}
-use Rattle.sync_engine.proofs.Reading.{calls_behind, current_behind, sought_behind, stance_behind, targets_behind}
-use Rattle.sync_engine.proofs.Requested.{IsAdd, adds_unsent, all_adds, asked_added, asked_removed, fold_adds, fold_removes, removes_requested, removes_unsent, spelled_requested, zip_append}
-use Rattle.sync_engine.proofs.Requests.{AddsNone, HandsAsked, IsNoAdd, raised_adds, raised_before, raised_removes, refused_adds, refused_removes, settled_plain, settled_silent}
-use Rattle.sync_engine.proofs.Steps.{sent_behind}
-use Rattle.sync_engine.proofs.Wanted.{cons_cases, first_among, later_among, same_truth, wanted_in}
+use Rattle.client_turns.proofs.Reading.{calls_behind, current_behind, sought_behind, stance_behind, targets_behind}
+use Rattle.client_turns.proofs.Requested.{IsAdd, adds_unsent, all_adds, asked_added, asked_removed, fold_adds, fold_removes, removes_requested, removes_unsent, spelled_requested, zip_append}
+use Rattle.client_turns.proofs.Requests.{AddsNone, IsNoAdd, raised_adds, raised_before, raised_removes, refused_adds, refused_removes, settled_plain, settled_silent}
+use Rattle.sync_engine.proofs.Requests.{HandsAsked}
+use Rattle.client_turns.proofs.Steps.{sent_behind}
+use Rattle.client_turns.proofs.Wanted.{cons_cases, first_among, later_among, same_truth, wanted_in}
 
 -- ---- small facts
 

@@ -17,7 +17,7 @@ use Rattle.listeners.specs.Table.{Table, target_of}
 use Rattle.target_cache.specs.Cache.{IsRow}
 use Rattle.target_cache.specs.Kept.{TellsRow}
 use Rattle.target_cache.specs.declared.row.Row.{Row}
-use Rattle.sync_engine.specs.Hearing.{HaveRows, IsAnyHeld}
+use Rattle.client_turns.specs.Hearing.{HaveRows, IsAnyHeld}
 use Rattle.sync_engine.specs.Standing.{standing_in}
 use Rattle.sync_engine.specs.Telling.{AreListenersIn}
 use Rattle.sync_engine.specs.declared.watch_stream.WatchStream.{WatchStream}

@@ -1,14 +1,12 @@
 -- what is handed out for what comes on the stream of writes
-use Rattle.std.proofs.Common.{◌≡◌, ⊎_elim, inl, inr, ℕ, ℤ, ◌+◌, ◌≤◌, ◌<◌, Bool, true, false, List, [], ◌∷◌, ◌++◌, length, Option, Some, None, if◌then◌else◌, IfSome, Vec, Global, refl, sym, ap, subst, ◌∙◌, arith}
+use Rattle.std.proofs.Common.{◌≡◌, ⊎_elim, inl, inr, ℕ, ℤ, ◌+◌, ◌≤◌, ◌<◌, Bool, true, false, List, [], ◌∷◌, length, Option, Some, None, if◌then◌else◌, IfSome, Vec, Global, refl, sym, ap, subst, ◌∙◌, arith}
 use Rattle.std.proofs.lemmas.Bool.{lt-ltb, le-ltb}
 use Rattle.std.proofs.lemmas.Option.{none-some}
 use Rattle.std.specs.List.{AllZip, Contains, slice_get}
-use Rattle.document_keys.specs.Names.{Root}
 use Rattle.client_events.specs.declared.event.Event.{Event}
 use Rattle.client_events.specs.declared.event.Event.TheVariants as event
 use Rattle.durable_state.specs.Cached.{first_writes}
 use Rattle.host_api.specs.Host.{View}
-use Rattle.listen_protocol.specs.Calls.{Calls}
 use Rattle.limbo_resolver.specs.Limbo.{Key}
 use Rattle.listeners.specs.Table.{Table, viewed}
 use Rattle.local_store.specs.Files.{Moves}
@@ -35,32 +33,31 @@ use Rattle.write_pipeline.specs.declared.answer.Answer.TheVariants.{Handshake, A
 use Rattle.write_pipeline.specs.declared.answer.Closing.{Closing}
 use Rattle.write_pipeline.specs.declared.answer.Closing.TheVariants.{Kept as KeepsAll, Rejects}
 use Rattle.write_pipeline.specs.declared.answer.WriteMember.{WriteMember}
-use Rattle.sync_engine.specs.Answers.{Answers}
+use Rattle.client_turns.specs.Answers.{Answers}
 use Rattle.sync_engine.specs.Concerned.{AreConcerned}
-use Rattle.sync_engine.specs.Lines.{Line, rejected, result, send}
-use Rattle.sync_engine.specs.Past.{Past, Turn, listener, raised_in, steps_by, steps_of}
-use Rattle.sync_engine.specs.Settling.{Stance}
+use Rattle.client_turns.specs.Lines.{rejected, result, send}
+use Rattle.client_turns.specs.Past.{Past, Turn, steps_by, steps_of}
+use Rattle.client_turns.specs.Settling.{Stance}
 use Rattle.sync_engine.specs.Standing.{Kept, IsQuiet, GoesOn, StandsFor, StandsOn, limbo_in, stance_in}
 use Rattle.sync_engine.specs.Telling.{HandsSettled, IsQuietOrAmong, IsShown, KeepsRest, MovesBy, Raises}
-use Rattle.sync_engine.specs.Turn.{answered_next, is_heard}
-use Rattle.sync_engine.specs.Turns.{after, answered, commits, refused}
-use Rattle.sync_engine.specs.Watching.{begun, listened, passes, requested_in, step_by}
-use Rattle.sync_engine.specs.Writing.{IsWritten, WrittenTurn, acknowledges, bad_turn, closed_turn, closes, fails, first_batch, is_open, member_name, opened_turn, rejects, settles, shakes}
+use Rattle.client_turns.specs.Turn.{answered_next, is_heard}
+use Rattle.client_turns.specs.Turns.{after, answered, commits, refused}
+use Rattle.client_turns.specs.Writing.{IsWritten, WrittenTurn, acknowledges, bad_turn, closed_turn, closes, fails, first_batch, is_open, member_name, opened_turn, rejects, settles, shakes}
 use Rattle.sync_engine.specs.declared.out.Out.{Out}
 use Rattle.sync_engine.specs.declared.out.Out.TheVariants.{Rejected, Result, SendHandshake}
 use Rattle.sync_engine.specs.declared.out.Outcome.TheVariants.{Done, Refused}
-use Rattle.sync_engine.specs.declared.refusal.Refusal.{Refusal}
-use Rattle.sync_engine.specs.declared.refusal.Refusal.TheVariants.{BadMessage, IdsSpent, StreamState}
+use Rattle.client_turns.specs.declared.refusal.Refusal.{Refusal}
+use Rattle.client_turns.specs.declared.refusal.Refusal.TheVariants.{BadMessage, IdsSpent, StreamState}
 use Rattle.sync_engine.specs.declared.watch_stream.Due.TheVariants.{Nothing}
 use Rattle.sync_engine.specs.declared.write_stream.WriteStream.{WriteStream}
 use Rattle.sync_engine.proofs.Committed.{moves_by}
 use Rattle.sync_engine.proofs.Following.{AreQuiet, IsPlain, are_quiet, follows_plain, quiet_kept}
 use Rattle.sync_engine.proofs.Handing.{Handed, as_done, as_refused, handed, keeps_all, no_reset, raises_none}
-use Rattle.sync_engine.specs.Asking.{resets_by}
+use Rattle.client_turns.specs.Asking.{resets_by}
 use Rattle.sync_engine.specs.Stream.{resets_of}
 use Rattle.sync_engine.specs.declared.watch_stream.WatchStream.{WatchStream}
 use Rattle.sync_engine.proofs.Quiet.{quiet_acknowledged, quiet_rejected}
-use Rattle.sync_engine.proofs.Steps.{few_by}
+use Rattle.client_turns.proofs.Steps.{few_by}
 use Rattle.sync_engine.proofs.Turning.{among_or_not}
 
 -- ---- nothing but the stream of writes changes

@@ -10,10 +10,10 @@ use Rattle.local_store.specs.State.{State}
 use Rattle.local_store.specs.Store.{Store, IsOver, IsSpent, IsStored}
 use Rattle.client_events.specs.declared.event.Event.{Event}
 use Rattle.record_codec.specs.declared.commit.Commit.{Commit}
-use Rattle.sync_engine.specs.Answers.{Answers}
-use Rattle.sync_engine.specs.Past.{Past, Turn}
+use Rattle.client_turns.specs.Answers.{Answers}
+use Rattle.client_turns.specs.Past.{Past, Turn}
 use Rattle.sync_engine.specs.Telling.{Makes, MovesBy}
-use Rattle.sync_engine.specs.Turns.{after}
+use Rattle.client_turns.specs.Turns.{after}
 
 over_finds : {s : State} {v : View} (place : Option Place) → (place ≡ None → ⊥) → ForSome place (IsOver s v) → (c : Files) → v.may_leave c → FindsState c s
 over_finds None whole is c left = absurd (whole refl)

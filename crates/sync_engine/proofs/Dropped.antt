@@ -1,7 +1,7 @@
 -- targets that the backend ended, with their listeners
 use Rattle.std.proofs.Common.{◌≡◌, ◌≢◌, ◌↔◌, ⊎_elim, inr, ℕ, zero, suc, ◌-◌, ◌<◌, ◌≤◌, ℤ, nat_eq, Bool, true, false, ◌&&◌, ◌||◌, ◌==◌, not, IsTrue, List, [], ◌∷◌, map as each, length, Option, Some, None, option_map, is_some, IfSome, if◌then◌else◌, Vec, Global, refl, sym, ap, subst, ◌∙◌, arith}
 use Rattle.std.proofs.lemmas.Bool.{and_parts, eqb-true, true≢false}
-use Rattle.std.proofs.lemmas.Bool.Decides.{Decides-eqb, Decides-int_eq}
+use Rattle.std.proofs.lemmas.Bool.Decides.{Decides-int_eq}
 use Rattle.std.proofs.lemmas.Option.{none-some}
 use Rattle.std.specs.List.{AllZip, Contains, filter, fold, list_any}
 use Rattle.std.specs.Ordering.{int_eq}
@@ -22,42 +22,43 @@ use Rattle.value_model.specs.declared.message.ListenResponse.{ListenResponse}
 use Rattle.value_model.specs.declared.message.ListenResponse.TheVariants as sent
 use Rattle.value_model.specs.declared.message.TargetChange.{TargetChange}
 use Rattle.views.specs.Viewed.{Viewed}
-use Rattle.watch_aggregator.specs.Effects.{Gives, GivesEnd, IsEnded, filter_effect}
+use Rattle.watch_aggregator.specs.Effects.{Gives}
 use Rattle.watch_aggregator.specs.Standing.{StandsFor as AggregatorStandsFor}
 use Rattle.watch_aggregator.specs.declared.effect.Effect.TheVariants as effect
 use Rattle.write_pipeline.specs.Order.{Steps, outstanding}
-use Rattle.sync_engine.specs.Answers.{Answers}
-use Rattle.sync_engine.specs.Blanking.{blanked_state}
-use Rattle.sync_engine.specs.Hearing as hearing
-use Rattle.sync_engine.specs.Hearing.{AreDropped, AreListenersOf, Blanks, HaveRows, HeardTurn, IsAnyHeld}
-use Rattle.sync_engine.specs.Lines.{Line, error}
-use Rattle.sync_engine.specs.Past.{Past, Turn, is_refused_in, listener, raised_in, sent_in, steps_of, told as told_of, unless_refused}
-use Rattle.sync_engine.specs.Settling.{current_with}
-use Rattle.sync_engine.specs.LimboListens.{heard_limbo, is_running, is_sought, limbo_of}
-use Rattle.sync_engine.specs.Standing.{HasTargetRow, IsDue, IsQuiet, Kept, StandsFor, StandsOn, Watches, limbo_in, stance_in, standing_in}
+use Rattle.client_turns.specs.Answers.{Answers}
+use Rattle.client_turns.specs.Blanking.{blanked_state}
+use Rattle.client_turns.specs.Hearing as hearing
+use Rattle.client_turns.specs.Hearing.{AreDropped, AreListenersOf, Blanks, HaveRows, HeardTurn, IsAnyHeld}
+use Rattle.client_turns.specs.Lines.{Line, error}
+use Rattle.client_turns.specs.Past.{Past, Turn, is_refused_in, listener, raised_in, sent_in, steps_of, told as told_of, unless_refused}
+use Rattle.client_turns.specs.Settling.{current_with, HasTargetRow}
+use Rattle.client_turns.specs.LimboListens.{heard_limbo, is_running, is_sought, limbo_of, without_all}
+use Rattle.sync_engine.specs.Standing.{IsDue, IsQuiet, Kept, StandsFor, StandsOn, Watches, limbo_in, stance_in, standing_in}
 use Rattle.sync_engine.specs.Stream.{EndsAll, Hears, resets_of}
-use Rattle.sync_engine.specs.Telling.{AreListenersIn, HandsSettled, IsShown, MovesBy, RemovesAll, without_all}
-use Rattle.sync_engine.specs.Turn.{answered_next}
-use Rattle.sync_engine.specs.Turns.{after, refused}
-use Rattle.sync_engine.specs.Watching.{calls_by, calls_of, current_keys, hears, if_so, is_point, is_dropped_by, is_wanted, is_watched, keys_at_point, listened, listened_in, passed, requested_by, told_after}
+use Rattle.sync_engine.specs.Telling.{AreListenersIn, HandsSettled, IsShown, MovesBy, RemovesAll}
+use Rattle.client_turns.specs.Turn.{answered_next}
+use Rattle.client_turns.specs.Turns.{after, refused}
+use Rattle.client_turns.specs.Watching.{calls_by, calls_of, current_keys, hears, if_so, is_point, is_dropped_by, is_wanted, is_watched, keys_at_point, listened, listened_in, passed, requested_by, told_after}
 use Rattle.sync_engine.specs.declared.out.Out.{Out}
 use Rattle.sync_engine.specs.declared.out.Out.TheVariants.{Error}
 use Rattle.sync_engine.specs.declared.out.Outcome.TheVariants.{Done}
-use Rattle.sync_engine.specs.declared.refusal.Refusal.TheVariants.{IdsSpent}
+use Rattle.client_turns.specs.declared.refusal.Refusal.TheVariants.{IdsSpent}
 use Rattle.sync_engine.specs.declared.watch_stream.Due.{Due}
 use Rattle.sync_engine.specs.declared.watch_stream.Due.TheVariants.{Nothing}
 use Rattle.sync_engine.specs.declared.watch_stream.WatchStream.{WatchStream}
-use Rattle.sync_engine.proofs.Among.{among_any, any_among}
+use Rattle.client_turns.proofs.Among.{among_any, any_among}
 use Rattle.sync_engine.proofs.Blanked.{if_or, nat_eq_turned}
 use Rattle.sync_engine.proofs.Committed.{moves_by}
 use Rattle.sync_engine.proofs.Emptied.{after_blank, batches_blank, blank_blanks, blank_drops, blank_resets, blank_turn, quiet_blank, rows_state, spent_blanks}
 use Rattle.sync_engine.proofs.Following.{AreQuiet, Follows}
 use Rattle.sync_engine.proofs.Handing.{as_done, handed, keeps_all, no_reset, raises_none}
 use Rattle.sync_engine.proofs.Mismatched.{kept_online}
-use Rattle.sync_engine.proofs.Passing.{if_so_none, unwanted_current}
-use Rattle.sync_engine.proofs.Refused.{running_left, without_ids, without_sound}
+use Rattle.client_turns.proofs.Current.{if_so_none, unwanted_current}
+use Rattle.client_turns.proofs.Refused.{running_left, without_ids, without_sound}
 use Rattle.sync_engine.proofs.Turning.{stays_on}
-use Rattle.sync_engine.proofs.Wanted.{any_at, first_among, later_among, same_truth, wanted_has, wanted_same}
+use Rattle.client_turns.proofs.Wanted.{any_at, first_among, later_among, same_truth, wanted_has, wanted_same}
+use Rattle.client_turns.proofs.Given.{EndsTargets, ended_change}
 
 -- ---- the lines
 
@@ -115,30 +116,6 @@ some_length (key ∷ keys) some = omega (arith)
 pub some_key : (keys : List Key) → 0 < length keys → keys ≡ [] → ⊥
 some_key [] some is = absurd (omega (arith, some))
 some_key (key ∷ keys) some is = cc
-
--- ---- what the message says
-
-nothing_ended : (h : Calls) (f : _) (ids : List ℤ) (status : RpcStatus) → effect.Ended ids status ≡ filter_effect h f → ⊥
-nothing_ended h f ids status is = by (Rattle.listen_protocol.specs.Transcript.counts f.target_id h && not (length (Rattle.listen_protocol.specs.ToldKeys.told_keys f.target_id h) == f.count)) is
-  where
-    by : (b : Bool) → effect.Ended ids status ≡ (if b then effect.Mismatch f.target_id (length (Rattle.listen_protocol.specs.ToldKeys.told_keys f.target_id h)) f.count else effect.Nothing) → ⊥
-    by true same = cc
-    by false same = cc
-
-pub record EndsTargets (h : Calls) (change : TargetChange) (ids : List ℤ) : Type 0 where
-  pub removes : is_remove change.kind ≡ true
-  pub each : (t : ℤ) → Contains ids t ↔ IsEnded h change.target_ids t
-  pub some : (t : ℤ) × Contains ids t
-
-pub ended_change : (h : Calls) (response : ListenResponse) (ids : List ℤ) (status : RpcStatus) → Gives h response (effect.Ended ids status) → (change : TargetChange) × (response ≡ sent.Target change) × EndsTargets h change ids
-ended_change h (sent.Target change) ids status gives = ⊎_elim (λ x. (change, refl, parts x.0 x.1)) (λ x. absurd x.1) gives
-  where
-    parts : is_remove change.kind ≡ true → GivesEnd h change (effect.Ended ids status) → EndsTargets h change ids
-    parts removes (cause, ascending, all, some) = record { removes = removes; each = all; some = some }
-ended_change h (sent.Change change) ids status gives = cc
-ended_change h (sent.Delete change) ids status gives = cc
-ended_change h (sent.Remove change) ids status gives = cc
-ended_change h (sent.Filter f) ids status gives = absurd (nothing_ended h f ids status gives)
 
 -- ---- whether a target is asked then
 

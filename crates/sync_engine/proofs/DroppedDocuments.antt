@@ -1,7 +1,6 @@
 -- the turn by which documents in limbo go whose listens the backend ended
-use Rattle.std.proofs.Common.{◌≡◌, ◌≢◌, ◌↔◌, ◌⊎◌, ⊎_elim, inl, inr, ℕ, suc, ◌<◌, ◌≤◌, ℤ, pos, nat_eq, nat_lt, Bool, true, false, ◌&&◌, ◌||◌, not, List, [], ◌∷◌, ◌++◌, map as each, length, Option, Some, None, option_map, is_some, IfSome, if◌then◌else◌, Vec, Global, refl, sym, ap, subst, ◌∙◌, arith}
+use Rattle.std.proofs.Common.{◌≡◌, ◌≢◌, ◌⊎◌, ⊎_elim, inl, inr, ℕ, ◌<◌, ◌≤◌, ℤ, pos, nat_eq, Bool, true, false, ◌&&◌, ◌||◌, List, [], ◌∷◌, ◌++◌, map as each, Option, Some, None, option_map, IfSome, if◌then◌else◌, Vec, Global, refl, sym, ap, subst, ◌∙◌}
 use Rattle.std.proofs.lemmas.Bool.{and_parts, lt-ltb, le-ltb, true≢false}
-use Rattle.std.proofs.lemmas.Bool.Decides.{Decides-int_eq}
 use Rattle.std.proofs.lemmas.Option.{none-some}
 use Rattle.std.proofs.lemmas.List.Elements.{Contains-append_cases, Contains-append_left, Contains-append_right}
 use Rattle.std.specs.FinMap as map
@@ -13,16 +12,15 @@ use Rattle.client_events.specs.declared.event.Event.TheVariants as event
 use Rattle.durable_state.proofs.Laid.{among_in, in_among, not_so}
 use Rattle.durable_state.proofs.Local.{documents_local}
 use Rattle.durable_state.specs.Cached.{Changed, dropped, with_all}
-use Rattle.durable_state.specs.Documents.{documents_of, is_among, is_named, sealed_entry_of, standing_by, stored}
-use Rattle.durable_state.specs.Rows.{HasRow}
-use Rattle.limbo_resolver.specs.Limbo.{Key, Limbo, ids_of, key_in}
+use Rattle.durable_state.specs.Documents.{documents_of, is_among, is_named, standing_by, stored}
+use Rattle.limbo_resolver.specs.Limbo.{Key, Limbo}
 use Rattle.limbo_listens.proofs.Laws.{ids_of_running}
-use Rattle.listen_protocol.specs.Calls.{Calls, came, lists}
+use Rattle.listen_protocol.specs.Calls.{lists}
 use Rattle.listen_protocol.specs.ToldKeys.{told_keys}
 use Rattle.listen_protocol.specs.Transcript.{counts}
 use Rattle.listeners.specs.Concerns.{Concerns}
 use Rattle.listeners.specs.Table.{target_of, viewed}
-use Rattle.local_store.specs.Documents.{document_of, entry_of, touched_keys_of}
+use Rattle.local_store.specs.Documents.{document_of, entry_of}
 use Rattle.local_store.specs.Files.{Moves}
 use Rattle.local_store.specs.State.{State, committed, most_commits}
 use Rattle.overlays.specs.LocalDocument.{base_of, local_document}
@@ -38,41 +36,39 @@ use Rattle.value_model.specs.declared.document.Seal.{Seal}
 use Rattle.value_model.specs.declared.message.ListenResponse.{ListenResponse}
 use Rattle.value_model.specs.declared.message.ListenResponse.TheVariants as sent
 use Rattle.value_model.specs.declared.message.TargetChange.{TargetChange}
-use Rattle.views.specs.Viewed.{Viewed}
 use Rattle.views.specs.declared.standing.Standing.{Standing}
 use Rattle.watch_aggregator.specs.Effects.{Gives}
 use Rattle.watch_aggregator.specs.declared.effect.Effect.TheVariants as effect
-use Rattle.sync_engine.specs.Answers.{Answers}
-use Rattle.sync_engine.specs.Dropping.{AreBlankedIn, AreMovedBy, AreToldListens, Drops, HoldsOne, IsCurrentWithOne, RowHoldsOne, ShareOne, WasToldOne}
-use Rattle.sync_engine.specs.Hearing as hearing
-use Rattle.sync_engine.specs.Hearing.{AreBlankedFor, AreDropped, AreListenersOf, HeardTurn, Holds, commits_if_left}
-use Rattle.sync_engine.specs.LimboListens.{heard_limbo, is_running, limbo_of}
-use Rattle.sync_engine.specs.Lines.{Line, error}
-use Rattle.sync_engine.specs.Past.{Past, Turn}
-use Rattle.sync_engine.specs.Asking.{resets_by}
-use Rattle.sync_engine.specs.Settling.{current_with}
-use Rattle.sync_engine.specs.Standing.{HasTargetRow, IsQuiet, Kept, StandsFor, limbo_in, stance_in, standing_in}
+use Rattle.client_turns.specs.Answers.{Answers}
+use Rattle.sync_engine.specs.Dropping.{AreBlankedIn, AreMovedBy, AreToldListens, Drops, HoldsOne, ShareOne}
+use Rattle.client_turns.specs.Hearing as hearing
+use Rattle.client_turns.specs.Hearing.{AreBlankedFor, AreDropped, HeardTurn, Holds, commits_if_left}
+use Rattle.client_turns.specs.LimboListens.{heard_limbo, is_running, limbo_of, without_all}
+use Rattle.client_turns.specs.Lines.{Line, error}
+use Rattle.client_turns.specs.Past.{Past, Turn}
+use Rattle.client_turns.specs.Asking.{resets_by}
+use Rattle.client_turns.specs.Settling.{current_with, HasTargetRow}
+use Rattle.sync_engine.specs.Standing.{IsQuiet, Kept, StandsFor, limbo_in, stance_in, standing_in}
 use Rattle.sync_engine.specs.Stream.{Hears, resets_of}
-use Rattle.sync_engine.specs.Telling.{AreListenersIn, HandsSettled, IsQuietOrAmong, IsShown, KeepsRest, MovesBy, Raises, RemovesAll, ResetsAsDue, without_all}
-use Rattle.sync_engine.specs.Turn.{answered_next}
-use Rattle.sync_engine.specs.Turns.{after, commits, refused}
-use Rattle.sync_engine.specs.Watching.{calls_of, current_keys, listened}
-use Rattle.sync_engine.specs.declared.online.OnlineState.TheVariants.{Online}
+use Rattle.sync_engine.specs.Telling.{AreListenersIn, HandsSettled, IsQuietOrAmong, IsShown, KeepsRest, MovesBy, Raises, RemovesAll, ResetsAsDue}
+use Rattle.client_turns.specs.Turn.{answered_next}
+use Rattle.client_turns.specs.Turns.{commits, refused}
+use Rattle.client_turns.specs.Watching.{calls_of, current_keys}
 use Rattle.sync_engine.specs.declared.out.Out.{Out}
 use Rattle.sync_engine.specs.declared.out.Out.TheVariants.{Error}
 use Rattle.sync_engine.specs.declared.out.Outcome.TheVariants.{Done}
-use Rattle.sync_engine.specs.declared.refusal.Refusal.TheVariants.{IdsSpent}
+use Rattle.client_turns.specs.declared.refusal.Refusal.TheVariants.{IdsSpent}
 use Rattle.sync_engine.specs.declared.watch_stream.Due.TheVariants.{Nothing}
 use Rattle.sync_engine.specs.declared.watch_stream.WatchStream.{WatchStream}
-use Rattle.sync_engine.proofs.Among.{any_among}
 use Rattle.sync_engine.proofs.Committed.{moves_by}
-use Rattle.sync_engine.proofs.Dropped.{EndsTargets, ended_change, errors_raise, errors_shown, follows, listed_among, listeners_of_past, others_apart}
+use Rattle.client_turns.proofs.Given.{EndsTargets, ended_change}
+use Rattle.sync_engine.proofs.Dropped.{errors_raise, errors_shown, follows, listed_among, listeners_of_past, others_apart}
 use Rattle.sync_engine.proofs.Emptied.{held_blanked, quiet_over, row_blanked}
 use Rattle.sync_engine.proofs.Following.{Follows}
 use Rattle.sync_engine.proofs.Handing.{as_done, handed}
 use Rattle.sync_engine.proofs.Quiet.{TouchesSame, get_all, touched_same}
 use Rattle.sync_engine.proofs.Turning.{among_or_not}
-use Rattle.sync_engine.proofs.Wanted.{any_at, first_among, later_among}
+use Rattle.client_turns.proofs.Wanted.{any_at, first_among, later_among}
 
 -- ---- by what the client keeps, and by what was heard
 
@@ -211,7 +207,7 @@ module _ (old mid new : Kept) (past : Past) (change : TargetChange) (ids : List 
           was : viewed old.listeners q ≡ Some view
           was = sym (removed.views q ∙ ap (λ b. if b then None else viewed old.listeners q) is) ∙ there
 
-          held_falls : (o : Option ℤ) → Rattle.sync_engine.specs.Settling.IsHeldFor (committed old.store.state (Drop keys rows)).rows o → Rattle.sync_engine.specs.Settling.IsHeldFor old.store.state.rows o
+          held_falls : (o : Option ℤ) → Rattle.client_turns.specs.Settling.IsHeldFor (committed old.store.state (Drop keys rows)).rows o → Rattle.client_turns.specs.Settling.IsHeldFor old.store.state.rows o
           held_falls None it = it
           held_falls (Some t) it = held_blanked rows old.store.state.rows t it
 

@@ -20,18 +20,18 @@ use Rattle.target_cache.specs.declared.row.Row.{Row}
 use Rattle.value_model.specs.Documents.{DocumentMap}
 use Rattle.views.specs.Viewed.{Viewed}
 use Rattle.limbo_resolver.specs.Limbo.{Key}
-use Rattle.sync_engine.specs.Blanking.{IsBlanking, blanked_state}
-use Rattle.sync_engine.specs.Hearing as hearing
-use Rattle.sync_engine.specs.Hearing.{Blanks, HaveRows, IsAnyHeld}
-use Rattle.sync_engine.specs.Lines.{Line}
-use Rattle.sync_engine.specs.Past.{Past, Turn}
-use Rattle.sync_engine.specs.Settling.{IsHeldFor, IsHeldRow, MayStart, Stance, standing_or}
-use Rattle.sync_engine.specs.Standing.{HasTargetRow, IsQuiet, Kept, StandsFor, limbo_in, stance_in, standing_in}
-use Rattle.sync_engine.specs.Turns.{after, commits, refused}
-use Rattle.sync_engine.specs.Asking.{is_told_dropped}
-use Rattle.sync_engine.specs.Watching.{is_dropped_by, is_offline}
-use Rattle.sync_engine.specs.declared.online.OnlineState.TheVariants.{Online}
-use Rattle.sync_engine.specs.declared.refusal.Refusal.TheVariants.{IdsSpent}
+use Rattle.client_turns.specs.Blanking.{IsBlanking, blanked_state}
+use Rattle.client_turns.specs.Hearing as hearing
+use Rattle.client_turns.specs.Hearing.{Blanks, HaveRows, IsAnyHeld}
+use Rattle.client_turns.specs.Lines.{Line}
+use Rattle.client_turns.specs.Past.{Past, Turn}
+use Rattle.client_turns.specs.Settling.{IsHeldFor, IsHeldRow, MayStart, Stance, standing_or, HasTargetRow}
+use Rattle.sync_engine.specs.Standing.{IsQuiet, Kept, StandsFor, limbo_in, stance_in, standing_in}
+use Rattle.client_turns.specs.Turns.{after, commits, refused}
+use Rattle.client_turns.specs.Asking.{is_told_dropped}
+use Rattle.client_turns.specs.Watching.{is_dropped_by, is_offline}
+use Rattle.client_turns.specs.declared.online.OnlineState.TheVariants.{Online}
+use Rattle.client_turns.specs.declared.refusal.Refusal.TheVariants.{IdsSpent}
 use Rattle.sync_engine.proofs.Following.{are_quiet}
 use Rattle.sync_engine.proofs.Quiet.{TouchesSame, quiet_falls}
 use Rattle.sync_engine.proofs.Showing.{row_starts}

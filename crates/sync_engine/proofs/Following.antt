@@ -1,5 +1,5 @@
 -- a client that stands for what it has heard, but that its listeners may still have to raise something
-use Rattle.std.proofs.Common.{◌≡◌, ℕ, ◌≤◌, ℤ, List, [], length, Option, Some, None, IfSome, refl, sym, ap, subst, ◌∙◌}
+use Rattle.std.proofs.Common.{◌≡◌, ℕ, ◌≤◌, ℤ, List, [], length, Option, Some, None, IfSome, sym, ap, subst, ◌∙◌}
 use Rattle.std.specs.List.{list_any}
 use Rattle.client_events.specs.declared.event.Event.{Event}
 use Rattle.listen_protocol.specs.Calls.{Calls}
@@ -9,17 +9,16 @@ use Rattle.limbo_resolver.specs.Laws.{IsSound}
 use Rattle.limbo_resolver.specs.Limbo.{Key, Limbo}
 use Rattle.listeners.specs.Table.{Table, target_of, viewed}
 use Rattle.local_store.specs.State.{State}
-use Rattle.local_store.specs.Store.{Store}
 use Rattle.views.specs.Viewed.{Viewed}
-use Rattle.write_pipeline.specs.Order.{Steps, outstanding}
+use Rattle.write_pipeline.specs.Order.{outstanding}
 use Rattle.sync_engine.specs.declared.watch_stream.WatchStream.{WatchStream}
-use Rattle.sync_engine.specs.Past.{Past, Turn, listener, raised_in, steps_of}
-use Rattle.sync_engine.specs.Settling.{Stance, stance_by, stance_of}
-use Rattle.sync_engine.specs.LimboListens.{going_on, limbo_of}
-use Rattle.sync_engine.specs.Standing.{HasTargetRow, IsQuiet, Kept, StandsFor, StandsOn, StandsWith, Watches, limbo_in, stance_in, standing_in}
-use Rattle.sync_engine.specs.Turn.{answered_next}
-use Rattle.sync_engine.specs.Turns.{after}
-use Rattle.sync_engine.specs.Watching.{WatchStep, begun, calls_of, is_target, is_wanted, listened, passes, requested_in, step_by}
+use Rattle.client_turns.specs.Past.{Past, Turn, listener, raised_in, steps_of}
+use Rattle.client_turns.specs.Settling.{Stance, stance_by, stance_of, HasTargetRow}
+use Rattle.client_turns.specs.LimboListens.{going_on, limbo_of}
+use Rattle.sync_engine.specs.Standing.{IsQuiet, Kept, StandsFor, StandsOn, StandsWith, Watches, limbo_in, stance_in, standing_in}
+use Rattle.client_turns.specs.Turn.{answered_next}
+use Rattle.client_turns.specs.Turns.{after}
+use Rattle.client_turns.specs.Watching.{WatchStep, begun, calls_of, is_target, is_wanted, listened, passes, requested_in, step_by}
 use Rattle.sync_engine.proofs.Passing.{watches_passes}
 use Rattle.target_cache.specs.declared.row.Row.{Row}
 

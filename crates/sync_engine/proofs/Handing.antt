@@ -1,9 +1,9 @@
 -- what is handed out for an event
-use Rattle.std.proofs.Common.{◌≡◌, ℕ, ◌≤◌, ◌<◌, ℤ, Bool, true, false, not, ◌||◌, nat_eq, List, [], ◌∷◌, ◌++◌, map as each, length, Option, Some, None, option_map, is_some, IfSome, if◌then◌else◌, Vec, Global, refl, sym, ap, subst, ◌∙◌, arith, append-nil}
-use Rattle.std.specs.List.{All, AllPairs, AllZip, Contains}
+use Rattle.std.proofs.Common.{◌≡◌, ℕ, ◌≤◌, ℤ, Bool, true, false, not, ◌||◌, nat_eq, List, [], ◌∷◌, ◌++◌, map as each, length, Option, Some, None, option_map, is_some, IfSome, if◌then◌else◌, Vec, Global, refl, sym, ap, subst, ◌∙◌, arith, append-nil}
+use Rattle.std.specs.List.{All, AllZip, Contains}
 use Rattle.std.proofs.lemmas.Bool.{eqb-true, eqb-false, true≢false}
 use Rattle.std.proofs.lemmas.Option.{none-some}
-use Rattle.std.proofs.lemmas.List.Elements.{All-nil, All-cons, All-head, All-tail, All-weaker}
+use Rattle.std.proofs.lemmas.List.Elements.{All-head, All-tail}
 use Rattle.document_keys.specs.Names.{Root}
 use Rattle.client_events.specs.declared.event.Event.{Event}
 use Rattle.listeners.proofs.Ids.{one_id, other_ids}
@@ -13,35 +13,34 @@ use Rattle.local_store.specs.State.{State}
 use Rattle.record_codec.specs.declared.commit.Commit.{Commit}
 use Rattle.views.specs.declared.raised.Raised.{Raised}
 use Rattle.local_store.specs.Store.{Store}
-use Rattle.queries.proofs.Counting.{pairs_tail}
 use Rattle.views.specs.Viewed.{Viewed}
-use Rattle.sync_engine.specs.Answers.{Answers}
-use Rattle.sync_engine.specs.Turns.{after, refused}
-use Rattle.sync_engine.specs.Lines.{Line, Told, wrote, listening, unlistened, document, result, rejected, error, snapshot, add, remove, send}
+use Rattle.client_turns.specs.Answers.{Answers}
+use Rattle.client_turns.specs.Turns.{after, refused}
+use Rattle.client_turns.specs.Lines.{Line, Told, wrote, listening, unlistened, document, result, rejected, error, snapshot, add, remove, send}
 use Rattle.write_pipeline.specs.Order.{Steps, outstanding}
-use Rattle.sync_engine.specs.Past.{Turn, Past, asked, is_refused_in, listener, raised_in, sent_in, steps_by, steps_of, told, unless_refused}
-use Rattle.sync_engine.specs.Settling.{IsBelow, Settles, ShowsAt, Stance, stance_of, told_to}
-use Rattle.sync_engine.specs.LimboListens.{going_on, limbo_of}
-use Rattle.sync_engine.specs.Standing.{HasTargetRow, IsQuiet, Kept, StandsAfter, StandsFor, StandsOn, StandsWith, Watches, limbo_in, stance_in}
+use Rattle.client_turns.specs.Past.{Turn, Past, asked, is_refused_in, listener, raised_in, sent_in, steps_by, steps_of, told, unless_refused, Entry}
+use Rattle.client_turns.specs.Settling.{Settles, ShowsAt, Stance, stance_of, told_to, HasTargetRow}
+use Rattle.client_turns.specs.LimboListens.{going_on, limbo_of}
+use Rattle.sync_engine.specs.Standing.{IsQuiet, Kept, StandsAfter, StandsFor, StandsOn, StandsWith, Watches, limbo_in, stance_in}
 use Rattle.sync_engine.specs.Telling.{HandsOut, HandsSettled, IsOutcome, IsRaised, IsShown, KeepsRest, Raises, ResetsAsDue}
-use Rattle.sync_engine.specs.Asking.{resets_by}
+use Rattle.client_turns.specs.Asking.{resets_by}
 use Rattle.sync_engine.specs.Stream.{resets_of}
-use Rattle.sync_engine.specs.Turn.{IsSettled, SettlesAfter, answered_next, is_heard, snapshot_line, with_snapshots}
-use Rattle.sync_engine.specs.Watching.{begun_by, begun_in, calls_of, listened, listened_by, listened_in, requested_by, step_by}
+use Rattle.client_turns.specs.Turn.{IsSettled, SettlesAfter, answered_next, is_heard, snapshot_line, with_snapshots}
+use Rattle.client_turns.specs.Watching.{begun_by, begun_in, calls_of, listened, listened_by, listened_in, requested_by, step_by}
 use Rattle.sync_engine.specs.declared.out.Out.{Out}
 use Rattle.sync_engine.specs.declared.out.Out.TheVariants.{Document, Listening, Unlistened, Wrote, Result, Rejected, Error, Raised as RaisedBy, AddLimboTarget, AddTarget, RemoveTarget, SendHandshake, SendBatch}
 use Rattle.sync_engine.specs.declared.out.Outcome.{Outcome}
 use Rattle.sync_engine.specs.declared.out.Outcome.TheVariants.{Done, Refused}
-use Rattle.sync_engine.specs.declared.refusal.Refusal.{Refusal}
-use Rattle.sync_engine.proofs.Ones.{head_below, told_first, told_later}
+use Rattle.client_turns.specs.declared.refusal.Refusal.{Refusal}
 use Rattle.sync_engine.proofs.Quiet.{settles_none}
 use Rattle.sync_engine.proofs.Following.{AreQuiet, Follows, stance_same}
-use Rattle.sync_engine.proofs.Reading.{fold_told, stance_behind, targets_behind, watches_behind}
-use Rattle.sync_engine.proofs.Steps.{sent_behind, sent_told}
-use Rattle.sync_engine.specs.Past.{Entry}
+use Rattle.client_turns.proofs.Reading.{fold_told, stance_behind, targets_behind}
+use Rattle.sync_engine.proofs.Passing.{watches_behind}
+use Rattle.client_turns.proofs.Steps.{sent_behind, sent_told}
 use Rattle.sync_engine.specs.declared.watch_stream.Due.TheVariants.{Nothing}
 use Rattle.sync_engine.specs.declared.watch_stream.WatchStream.{WatchStream}
 use Rattle.sync_engine.specs.declared.write_stream.WriteStream.{WriteStream}
+use Rattle.client_turns.proofs.Ones.{all_told}
 
 -- ---- the snapshots among the lines
 
@@ -85,19 +84,6 @@ refused_told id s (t ∷ ts) = refused_told id s ts
 pub raised_told : (id : ℕ) (s : State) (ts : List Told) → raised_in id (each (snapshot_line s) ts) ≡ told_to id ts
 raised_told id s [] = refl
 raised_told id s (t ∷ ts) = ap (λ o. if nat_eq t.id id then Some t.raised else o) (raised_told id s ts)
-
--- each snapshot is the one of its id
-pub all_told : (ts : List Told) → AllPairs IsBelow ts → All (λ (t : Told). told_to t.id ts ≡ Some t.raised) ts
-all_told [] pairs = All-nil (λ (t : Told). told_to t.id [] ≡ Some t.raised)
-all_told (t ∷ ts) pairs =
-    All-cons (λ (x : Told). told_to x.id (t ∷ ts) ≡ Some x.raised) t ts (told_first t ts)
-    (All-weaker (λ (x : Told). (t.id < x.id) × (told_to x.id ts ≡ Some x.raised)) (λ (x : Told). told_to x.id (t ∷ ts) ≡ Some x.raised)
-    (λ x both. told_later x.id t ts (λ same. let less = both.0 in absurd (omega (arith, same, less))) ∙ both.1) ts
-    (all_both (λ (x : Told). t.id < x.id) (λ (x : Told). told_to x.id ts ≡ Some x.raised) ts (head_below t ts pairs) (all_told ts (pairs_tail IsBelow t ts pairs))))
-  where
-    all_both : (P Q : Told → Type 0) (us : List Told) → All P us → All Q us → All (λ (x : Told). P x × Q x) us
-    all_both P Q [] first second = All-nil (λ (x : Told). P x × Q x)
-    all_both P Q (u ∷ us) first second = All-cons (λ (x : Told). P x × Q x) u us (All-head P u us first, All-head Q u us second) (all_both P Q us (All-tail P u us first) (All-tail Q u us second))
 
 pub zip_append : {X Y : Type 0} (R : X → Y → Type 0) (xs : List X) (ys : List Y) (us : List X) (vs : List Y) → AllZip R xs ys → AllZip R us vs → AllZip R (xs ++ us) (ys ++ vs)
 zip_append R [] [] us vs first second = second

@@ -1,58 +1,53 @@
 -- messages on the stream of listeners that change nothing durable
-use Rattle.std.proofs.Common.{◌≡◌, ◌≢◌, ◌↔◌, ◌⊎◌, ⊎_elim, inl, inr, ℕ, ℤ, pos, ◌+◌, ◌-◌, ◌≤◌, Bool, true, false, ◌&&◌, ◌||◌, ◌==◌, not, List, [], ◌∷◌, length, suc, zero, Option, Some, None, option_map, is_some, IfSome, IsTrue, IsSome, if◌then◌else◌, Vec, Global, refl, sym, ap, subst, ◌∙◌, arith}
+use Rattle.std.proofs.Common.{◌≡◌, ◌≢◌, ◌↔◌, ◌⊎◌, ⊎_elim, inl, inr, ℕ, ℤ, pos, ◌-◌, Bool, true, false, ◌&&◌, ◌||◌, ◌==◌, not, List, [], ◌∷◌, length, suc, zero, Option, Some, None, option_map, is_some, IsTrue, IsSome, if◌then◌else◌, Vec, Global, refl, sym, ap, subst, ◌∙◌, arith}
 use Rattle.std.proofs.lemmas.Bool.{and_parts, ne_eqb, true≢false}
 use Rattle.std.proofs.lemmas.Bool.Decides.{Decides-int_eq}
 use Rattle.std.proofs.lemmas.Option.{none-some}
 use Rattle.std.proofs.Math.Nat.{suc-ne-zero}
-use Rattle.record_codec.specs.declared.commit.Commit.{Commit}
 use Rattle.std.specs.List.{AllZip, filter, slice_get}
 use Rattle.std.specs.Ordering.{int_eq}
 use Rattle.client_events.specs.Spelled.{IsSpelledMessage}
 use Rattle.client_events.specs.declared.event.Event.TheVariants as event
 use Rattle.limbo_resolver.specs.Limbo.{Limbo}
-use Rattle.listen_protocol.specs.Calls.{Calls, Key, came, changes, is_remove, is_of, lists, skipped}
+use Rattle.listen_protocol.specs.Calls.{Calls, came, changes, is_remove, is_of, lists, skipped}
 use Rattle.listen_protocol.specs.ToldKeys.{told_keys}
 use Rattle.listen_protocol.specs.Transcript.{counts, is_asked_in, is_live, is_wanted as is_wanted_in, open_count}
-use Rattle.listeners.specs.Table.{viewed}
 use Rattle.local_store.specs.State.{State}
-use Rattle.target_cache.specs.Cache.{IsRow, id_at}
+use Rattle.target_cache.specs.Cache.{id_at}
 use Rattle.target_cache.specs.declared.row.Row.{Row}
-use Rattle.value_model.specs.declared.message.ChangeKind.{ChangeKind}
-use Rattle.value_model.specs.declared.message.ChangeKind.TheVariants as kind
 use Rattle.value_model.specs.declared.message.ListenResponse.{ListenResponse}
 use Rattle.value_model.specs.declared.message.ListenResponse.TheVariants as message
 use Rattle.value_model.specs.declared.message.StreamName.TheVariants as stream
-use Rattle.value_model.specs.declared.message.TargetChange.{TargetChange}
 use Rattle.value_model.specs.declared.timestamp.Timestamp.{Timestamp}
-use Rattle.views.specs.Viewed.{Viewed}
-use Rattle.watch_aggregator.specs.Effects.{Gives, GivesTarget, IsEnded, IsPoint, Refuses}
+use Rattle.watch_aggregator.specs.Effects.{Gives, GivesTarget, IsEnded, Refuses}
 use Rattle.watch_aggregator.specs.Standing.{StandsFor as AggregatorStandsFor}
 use Rattle.watch_aggregator.specs.declared.effect.Effect.TheVariants as effect
 use Rattle.watch_aggregator.specs.declared.effect.WatchFault.TheVariants as fault
 use Rattle.watch_aggregator.specs.declared.effect.WatchMember.{WatchMember}
-use Rattle.sync_engine.specs.Answers.{Answers}
-use Rattle.sync_engine.specs.Hearing.{HeardTurn, IsHeard, IsOld, fails, nothing, old_point, watch_member_name}
-use Rattle.sync_engine.specs.Past.{Past, Turn}
-use Rattle.sync_engine.specs.Settling.{IsHeldFor, IsHeldRow, MayStart, Stance, current_with, stance_by}
-use Rattle.sync_engine.specs.LimboListens.{heard_limbo, limbo_of}
-use Rattle.sync_engine.specs.Standing.{IsDue, IsQuiet, Kept, StandsFor, Watches, limbo_in, stance_in, standing_in}
+use Rattle.client_turns.specs.Answers.{Answers}
+use Rattle.client_turns.specs.Hearing.{HeardTurn, IsHeard, IsOld, fails, nothing, old_point, watch_member_name}
+use Rattle.client_turns.specs.Past.{Past, Turn}
+use Rattle.client_turns.specs.Settling.{IsHeldFor, MayStart, current_with, stance_by}
+use Rattle.client_turns.specs.LimboListens.{heard_limbo, limbo_of}
+use Rattle.sync_engine.specs.Standing.{IsDue, Kept, StandsFor, Watches, limbo_in, stance_in, standing_in}
 use Rattle.sync_engine.specs.Stream.{Hears, Skips, resets_of}
 use Rattle.sync_engine.specs.Telling.{HandsSettled, IsShown, Loses, with_watch}
-use Rattle.sync_engine.specs.Turn.{answered_next}
-use Rattle.sync_engine.specs.Turns.{answered, refused}
-use Rattle.sync_engine.specs.Watching.{calls_of, current_keys, if_so, is_mismatch, is_offline, is_point, is_wanted, is_watched, online_of, told_after}
-use Rattle.sync_engine.specs.declared.online.OnlineState.TheVariants.{Online}
+use Rattle.client_turns.specs.Turn.{answered_next}
+use Rattle.client_turns.specs.Turns.{answered, refused}
+use Rattle.client_turns.specs.Watching.{calls_of, current_keys, if_so, is_mismatch, is_offline, is_point, is_wanted, online_of, told_after}
+use Rattle.client_turns.specs.declared.online.OnlineState.TheVariants.{Online}
 use Rattle.sync_engine.specs.declared.out.Out.{Out}
 use Rattle.sync_engine.specs.declared.out.Outcome.TheVariants.{Done, Refused}
-use Rattle.sync_engine.specs.declared.refusal.Refusal.TheVariants.{BadMessage, StreamState}
+use Rattle.client_turns.specs.declared.refusal.Refusal.TheVariants.{BadMessage, StreamState}
 use Rattle.sync_engine.specs.declared.watch_stream.Due.TheVariants.{Nothing}
 use Rattle.sync_engine.specs.declared.watch_stream.WatchStream.{WatchStream}
-use Rattle.sync_engine.proofs.Following.{AreQuiet, Follows, are_quiet}
+use Rattle.sync_engine.proofs.Following.{AreQuiet, are_quiet}
 use Rattle.sync_engine.proofs.Handing.{as_done, as_refused, handed, keeps_all, no_reset, raises_none}
-use Rattle.sync_engine.proofs.Passing.{current_held, offline_current}
+use Rattle.client_turns.proofs.Current.{current_held, offline_current}
 use Rattle.sync_engine.proofs.Quiet.{quiet_falls}
 use Rattle.sync_engine.proofs.Passing.{due_still}
 use Rattle.sync_engine.proofs.Streamed.{IsOfWatch, follows_watch, hands_lost, lost_due}
+use Rattle.client_turns.proofs.Lists.{filter_all}
 
 -- ---- whether a row is held
 
@@ -206,11 +201,6 @@ point_unended h (message.Remove remove) at gives t is = absurd (true≢false (sy
 
 -- ---- the listens of documents in limbo behind a message
 
--- nothing is taken out where all is to stay
-pub filter_all : {X : Type 0} (p : X → Bool) (xs : List X) → ((x : X) → p x ≡ true) → filter p xs ≡ xs
-filter_all p [] all = refl
-filter_all p (x ∷ xs) all = ap (λ b. if b then x ∷ filter p xs else filter p xs) (all x) ∙ ap (λ l. x ∷ l) (filter_all p xs all)
-
 -- they go on where the message ends no live incarnation
 pub heard_still : (h : Calls) (response : ListenResponse) (limbo : Limbo) → ((t : ℤ) → changes is_remove response t ≡ true → is_live t h ≡ false) → limbo ≡ heard_limbo h response limbo
 heard_still h (message.Target change) limbo unended = by (is_remove change.kind) refl
@@ -255,7 +245,7 @@ no_commit false = refl
 module _ (s : State) (past : Past) (response : ListenResponse) (old new : WatchStream) (it : Watches old past (limbo_of past)) (opening : old.is_open ≡ true) (spelled : IsSpelledMessage response)
     (same_open : new.is_open ≡ old.is_open) (online : new.online ≡ Online) (current : new.current ≡ old.current) (due : new.due ≡ old.due) (asked : (t : ℤ) → is_asked_in t (came response ∷ calls_of past) ≡ is_asked_in t (calls_of past)) where
   told_still : (x : ℤ) → ((is_point response && false) ≡ false) → is_mismatch (calls_of past) response x ≡ false → told_after x response None (calls_of past) (current_keys x past) ≡ current_keys x past
-  told_still x not_point agrees = (λ i. if not_point i then Rattle.sync_engine.specs.Watching.keys_at_point x (came response ∷ calls_of past) else if agrees i || false then None else current_keys x past)
+  told_still x not_point agrees = (λ i. if not_point i then Rattle.client_turns.specs.Watching.keys_at_point x (came response ∷ calls_of past) else if agrees i || false then None else current_keys x past)
 
   pub watches_heard : ((t : ℤ) → is_mismatch (calls_of past) response t ≡ false) → (calls : Calls) → calls_of (answered_next s past (event.Watch response) (answered [])) ≡ calls → AggregatorStandsFor new.aggregator calls → ((t : ℤ) → is_asked_in t calls ≡ is_asked_in t (came response ∷ calls_of past)) → Rattle.watch_points.specs.SpelledCalls.AreSpelledCalls calls
       → Watches new (answered_next s past (event.Watch response) (answered [])) (limbo_of past)
@@ -294,7 +284,7 @@ module _ {old : Kept} {s : State} {past : Past} (vec : Vec Out Global) (response
       hands_same (nothing gives refl) (no_mismatch (calls_of past) response gives) (heard_still (calls_of past) response (limbo_of past) (nothing_unended (calls_of past) response gives)) hears.online hears.current hears.due
       (watches_heard s past response old.watch lost stands.watch opening spelled hears.opening hears.online hears.current hears.due
       (λ t. asked_unended t response (calls_of past) (nothing_unended (calls_of past) response gives t))
-      (no_mismatch (calls_of past) response gives) (came response ∷ calls_of past) (ap (λ b. Rattle.sync_engine.specs.Watching.passed b None (came response ∷ calls_of past)) (nothing_is (calls_of past) response gives))
+      (no_mismatch (calls_of past) response gives) (came response ∷ calls_of past) (ap (λ b. Rattle.client_turns.specs.Watching.passed b None (came response ∷ calls_of past)) (nothing_is (calls_of past) response gives))
       (hears.calls (calls_of past) stands.watch.calls) (λ t. refl) (spelled, stands.watch.spelled))
 
   pub hands_old : (mid : WatchStream) (at : Timestamp) → Hears response old.watch mid → Skips mid lost → Gives (calls_of past) response (effect.Point at) → IsOld s.last_read at → HandsSettled s past (event.Watch response) (Done vec) (with_watch old lost)
@@ -302,7 +292,7 @@ module _ {old : Kept} {s : State} {past : Past} (vec : Vec Out Global) (response
       hands_same (old_point at gives is_old refl) agrees (heard_still (calls_of past) response (limbo_of past) (point_unended (calls_of past) response at gives)) (skips.rest.online ∙ hears.online) (skips.rest.current ∙ hears.current) (skips.rest.due ∙ hears.due)
       (watches_heard s past response old.watch lost stands.watch opening spelled (skips.rest.opening ∙ hears.opening) (skips.rest.online ∙ hears.online) (skips.rest.current ∙ hears.current) (skips.rest.due ∙ hears.due)
       (λ t. asked_unended t response (calls_of past) (point_unended (calls_of past) response at gives t))
-      agrees (skipped ∷ came response ∷ calls_of past) (ap (λ b. Rattle.sync_engine.specs.Watching.passed b None (came response ∷ calls_of past)) (point_is (calls_of past) response at gives))
+      agrees (skipped ∷ came response ∷ calls_of past) (ap (λ b. Rattle.client_turns.specs.Watching.passed b None (came response ∷ calls_of past)) (point_is (calls_of past) response at gives))
       (skips.calls (came response ∷ calls_of past) (hears.calls (calls_of past) stands.watch.calls)) (λ t. refl) (spelled, stands.watch.spelled))
     where
       agrees : (t : ℤ) → is_mismatch (calls_of past) response t ≡ false

@@ -17,12 +17,12 @@ use Rattle.target_cache.specs.Kept.{AreIds}
 use Rattle.target_cache.specs.declared.row.Held.{Held}
 use Rattle.target_cache.specs.declared.row.Row.{Row}
 use Rattle.sync_engine.specs.Dropping.{AreBlankedIn, HoldsOne, RowHoldsOne, ShareOne}
-use Rattle.sync_engine.specs.Hearing.{AreDropped}
+use Rattle.client_turns.specs.Hearing.{AreDropped}
 use Rattle.sync_engine.specs.Requesting.{Picked}
 use Rattle.sync_engine.specs.Standing.{Kept}
 use Rattle.sync_engine.proofs.Blanked.{more_cases, more_here, more_left}
 use Rattle.sync_engine.proofs.Picking.{item_at, taken_more}
-use Rattle.sync_engine.proofs.Showing.{row_one}
+use Rattle.client_turns.proofs.HeardOnes.{row_one}
 
 -- ---- keys among others
 

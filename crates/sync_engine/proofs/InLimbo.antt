@@ -1,7 +1,6 @@
 -- the documents in limbo behind an event
 use Rattle.std.proofs.Common.{◌≡◌, ◌↔◌, ℕ, List, [], Option, Some, None, IfSome, refl, subst, arith}
 use Rattle.std.specs.List.{Contains}
-use Rattle.document_keys.proofs.Exact.{same_keys}
 use Rattle.document_keys.specs.Names.{Root}
 use Rattle.limbo_listens.specs.Listens.{AreInLimbo as AreKeptInLimbo, Listens, limbo_at}
 use Rattle.limbo_resolver.specs.Limbo.{Key}
@@ -10,7 +9,7 @@ use Rattle.local_store.specs.State.{State}
 use Rattle.queries.proofs.Answers.{answers_once}
 use Rattle.views.proofs.Picking.{picked_if, picked_of}
 use Rattle.views.specs.Viewed.{Viewed}
-use Rattle.sync_engine.specs.Settling.{AreInLimbo, ShowsInLimbo, ShowsInLimboAt, Stance}
+use Rattle.client_turns.specs.Settling.{AreInLimbo, ShowsInLimbo, ShowsInLimboAt, Stance}
 use Rattle.sync_engine.specs.Standing.{HasLimbo, IsQuiet}
 
 -- the keys of a quiet listener that are kept are those of the documents in limbo that it shows
@@ -42,7 +41,3 @@ shown_in_limbo root s stance listening listens keys quiet none are = record {
     λ it. (are.each key).1 (it.0, (at_listener root s (stance it.0) (limbo_at listens it.0) (listening it.0) (quiet it.0) (none it.0) key).1 it.1),
   );
 }
-
--- they are one list
-pub limbo_once : (root : Root) (s : State) (stance : ℕ → Stance) (listening : ℕ → Option Viewed) (keys others : List Key) → AreInLimbo root s stance listening keys → AreInLimbo root s stance listening others → keys ≡ others
-limbo_once root s stance listening keys others one two = same_keys keys others one.ascending two.ascending (λ key. (λ there. (two.each key).1 ((one.each key).0 there), λ there. (one.each key).1 ((two.each key).0 there)))

@@ -1,14 +1,13 @@
 -- a filter by which a target is reset
-use Rattle.std.proofs.Common.{◌≡◌, ◌↔◌, ⊎_elim, inl, inr, ℕ, ◌<◌, ◌≤◌, ℤ, Bool, true, false, ◌&&◌, ◌||◌, ◌==◌, not, IsTrue, List, [], ◌∷◌, length, Option, Some, None, option_map, IfSome, if◌then◌else◌, Vec, Global, refl, sym, ap, subst, ◌∙◌}
+use Rattle.std.proofs.Common.{◌≡◌, ◌↔◌, ⊎_elim, inl, inr, ℕ, ◌<◌, ◌≤◌, ℤ, Bool, true, false, ◌&&◌, ◌||◌, not, IsTrue, List, [], ◌∷◌, length, Some, None, option_map, IfSome, if◌then◌else◌, Vec, Global, refl, sym, ap, subst, ◌∙◌}
 use Rattle.std.proofs.lemmas.Bool.Decides.{Decides-int_eq}
 use Rattle.std.specs.List.{AllZip, Contains}
 use Rattle.std.specs.Ordering.{int_eq}
 use Rattle.host_api.specs.Host.{View}
 use Rattle.client_events.specs.Spelled.{IsSpelledMessage}
 use Rattle.client_events.specs.declared.event.Event.TheVariants as event
-use Rattle.listen_protocol.specs.Calls.{Calls, came}
-use Rattle.listen_protocol.specs.ToldKeys.{told_keys}
-use Rattle.listen_protocol.specs.Transcript.{counts, is_asked_in}
+use Rattle.listen_protocol.specs.Calls.{came}
+use Rattle.listen_protocol.specs.Transcript.{is_asked_in}
 use Rattle.limbo_listens.specs.Listens.{Listens, limbo_at}
 use Rattle.listeners.specs.Table.{Table, target_of, viewed}
 use Rattle.local_store.specs.Files.{Moves}
@@ -20,66 +19,36 @@ use Rattle.watch_aggregator.specs.Effects.{Gives, filter_effect}
 use Rattle.watch_aggregator.specs.Standing.{StandsFor as AggregatorStandsFor}
 use Rattle.watch_aggregator.specs.declared.effect.Effect.TheVariants as effect
 use Rattle.write_pipeline.specs.Order.{outstanding}
-use Rattle.sync_engine.specs.Answers.{Answers}
-use Rattle.sync_engine.specs.Blanking.{blanked_state}
-use Rattle.sync_engine.specs.Hearing as hearing
-use Rattle.sync_engine.specs.Hearing.{Blanks, HaveRows, HeardTurn, IsAnyHeld}
-use Rattle.sync_engine.specs.Past.{Past, Turn, steps_of}
-use Rattle.sync_engine.specs.Settling.{current_with}
+use Rattle.client_turns.specs.Answers.{Answers}
+use Rattle.client_turns.specs.Blanking.{blanked_state}
+use Rattle.client_turns.specs.Hearing as hearing
+use Rattle.client_turns.specs.Hearing.{Blanks, HaveRows, HeardTurn, IsAnyHeld}
+use Rattle.client_turns.specs.Past.{Past, Turn, steps_of}
+use Rattle.client_turns.specs.Settling.{current_with, HasTargetRow}
 use Rattle.record_codec.specs.declared.commit.Commit.TheVariants.{Reset}
-use Rattle.sync_engine.specs.Asking.{resets_by}
-use Rattle.sync_engine.specs.LimboListens.{is_sought, limbo_of}
-use Rattle.sync_engine.specs.Standing.{HasTargetRow, IsDue, Kept, StandsFor, Watches, standing_in}
+use Rattle.client_turns.specs.Asking.{resets_by}
+use Rattle.client_turns.specs.LimboListens.{is_sought, limbo_of}
+use Rattle.sync_engine.specs.Standing.{IsDue, Kept, StandsFor, Watches, standing_in}
 use Rattle.sync_engine.specs.Stream.{Hears, Resets, resets_of}
 use Rattle.sync_engine.specs.Telling.{HandsSettled, IsQuietOrAmong, IsShown, KeepsRest, MovesBy, Raises, ResetsAsDue}
-use Rattle.sync_engine.specs.Turn.{answered_next}
-use Rattle.sync_engine.specs.Turns.{after, refused}
-use Rattle.sync_engine.specs.Watching.{calls_of, current_keys, if_so, is_dropped_by, is_mismatch, is_offline, is_wanted, is_watched, listened, online_of}
+use Rattle.client_turns.specs.Turn.{answered_next}
+use Rattle.client_turns.specs.Turns.{after, refused}
+use Rattle.client_turns.specs.Watching.{calls_of, current_keys, if_so, is_dropped_by, is_mismatch, is_offline, is_wanted, is_watched, listened, online_of}
 use Rattle.sync_engine.specs.declared.out.Out.{Out}
 use Rattle.sync_engine.specs.declared.out.Outcome.TheVariants.{Done}
-use Rattle.sync_engine.specs.declared.refusal.Refusal.TheVariants.{IdsSpent}
+use Rattle.client_turns.specs.declared.refusal.Refusal.TheVariants.{IdsSpent}
 use Rattle.sync_engine.specs.declared.watch_stream.Due.{Due}
 use Rattle.sync_engine.specs.declared.watch_stream.Due.TheVariants.{Nothing}
 use Rattle.sync_engine.specs.declared.watch_stream.WatchStream.{WatchStream}
 use Rattle.sync_engine.proofs.Committed.{moves_by}
-use Rattle.sync_engine.proofs.Among.{one_among}
+use Rattle.client_turns.proofs.Among.{one_among}
 use Rattle.sync_engine.proofs.Emptied.{after_blank, batches_blank, blank_blanks, blank_drops, blank_resets, blank_turn, quiet_blank, rows_state, spent_blanks}
 use Rattle.sync_engine.proofs.Following.{Follows}
 use Rattle.sync_engine.proofs.Handing.{as_done, handed}
-use Rattle.sync_engine.proofs.Passing.{current_held, if_so_more, if_so_none}
+use Rattle.client_turns.proofs.Current.{current_held, if_so_more, if_so_none}
 use Rattle.sync_engine.proofs.Turning.{among_or_not, stays_on}
-use Rattle.sync_engine.proofs.Wanted.{first_among}
-
--- ---- what the filter says
-
-mismatch_parts : (h : Calls) (f : ExistenceFilter) (id : ℤ) (told count : ℕ) → effect.Mismatch id told count ≡ filter_effect h f → (f.target_id ≡ id) × ((counts f.target_id h && not (length (told_keys f.target_id h) == f.count)) ≡ true)
-mismatch_parts h f id told count is = by (counts f.target_id h && not (length (told_keys f.target_id h) == f.count)) refl is
-  where
-    by : (b : Bool) → (counts f.target_id h && not (length (told_keys f.target_id h) == f.count)) ≡ b → effect.Mismatch id told count ≡ (if b then effect.Mismatch f.target_id (length (told_keys f.target_id h)) f.count else effect.Nothing)
-        → (f.target_id ≡ id) × ((counts f.target_id h && not (length (told_keys f.target_id h) == f.count)) ≡ true)
-    by true holds same = (cc, holds)
-    by false holds same = cc
-
-pub mismatch_filter : (h : Calls) (response : ListenResponse) (id : ℤ) (told count : ℕ) → Gives h response (effect.Mismatch id told count) → (f : ExistenceFilter) × (response ≡ sent.Filter f) × (effect.Mismatch id told count ≡ filter_effect h f)
-mismatch_filter h (sent.Target change) id told count gives = ⊎_elim (λ x. absurd x.1) (λ x. absurd x.1) gives
-mismatch_filter h (sent.Change change) id told count gives = cc
-mismatch_filter h (sent.Delete change) id told count gives = cc
-mismatch_filter h (sent.Remove change) id told count gives = cc
-mismatch_filter h (sent.Filter f) id told count gives = (f, refl, gives)
-
--- just the target of the filter is reset
-mismatch_is : (h : Calls) (f : ExistenceFilter) (id : ℤ) (told count : ℕ) → effect.Mismatch id told count ≡ filter_effect h f → (x : ℤ) → is_mismatch h (sent.Filter f) x ≡ int_eq id x
-mismatch_is h f id told count is x = by (int_eq f.target_id x) refl
-  where
-    parts : (f.target_id ≡ id) × ((counts f.target_id h && not (length (told_keys f.target_id h) == f.count)) ≡ true)
-    parts = mismatch_parts h f id told count is
-
-    by : (b : Bool) → int_eq f.target_id x ≡ b → (int_eq f.target_id x && (counts x h && not (length (told_keys x h) == f.count))) ≡ int_eq id x
-    by true same =
-        ap (λ b. b && (counts x h && not (length (told_keys x h) == f.count))) same
-        ∙ subst (λ (z : ℤ). (counts z h && not (length (told_keys z h) == f.count)) ≡ true) ((Decides-int_eq f.target_id x).0 same) parts.1
-        ∙ sym (ap (λ z. int_eq z x) (sym parts.0) ∙ same)
-    by false other = ap (λ b. b && (counts x h && not (length (told_keys x h) == f.count))) other ∙ sym (ap (λ z. int_eq z x) (sym parts.0) ∙ other)
+use Rattle.client_turns.proofs.Wanted.{first_among}
+use Rattle.client_turns.proofs.Given.{mismatch_filter, mismatch_is}
 
 -- ---- what a target keeps while the client is online
 

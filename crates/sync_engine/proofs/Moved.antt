@@ -1,16 +1,14 @@
 -- the listeners that a point may concern are gathered in a set
 use Rattle.std.proofs.Common.{◌≡◌, ⊎_elim, ℕ, ℤ, ◌+◌, ◌<◌, ◌<ℤ◌, Bool, true, false, IsTrue, IsSome, List, [], ◌∷◌, ◌++◌, length, take, get_or, Option, Some, None, if◌then◌else◌, refl, sym, ap, subst, ◌∙◌, arith}
-use Rattle.std.specs.BTreeSet.{BTreeSet}
+use Rattle.std.specs.BTreeSet.{BTreeSet, Updates}
 use Rattle.std.specs.Int.Signed.{<ℤ_irrefl}
 use Rattle.std.specs.List.{AllPairs, Contains}
-use Rattle.std.specs.Ordering.{int_eq}
+use Rattle.std.specs.Ordering.{int_eq, nat_cmp}
 use Rattle.std.proofs.Math.Seq.{take-length}
 use Rattle.std.proofs.lemmas.Bool.Decides.{Decides-int_eq}
 use Rattle.std.proofs.lemmas.Bool.{true≢false}
 use Rattle.std.proofs.lemmas.List.{get_or_append_left, get_or_at, length-append, take_more}
 use Rattle.std.proofs.lemmas.List.Elements.{Contains-append_left, Contains-push, Contains-push_cases}
-use Rattle.std.specs.BTreeSet.{Updates}
-use Rattle.std.specs.Ordering.{nat_cmp}
 use Rattle.listeners.proofs.Ids.{has_it, has_others}
 use Rattle.listeners.specs.Ids.{KeepsMembers, has_id}
 use Rattle.listeners.specs.Table.{IsWanted, Table}
@@ -18,9 +16,9 @@ use Rattle.watch_aggregator.specs.declared.point.WatchTarget.{WatchTarget}
 use Rattle.views.specs.declared.standing.Standing.{Standing}
 use Rattle.sync_engine.specs.declared.current.CurrentTarget.{CurrentTarget}
 use Rattle.sync_engine.specs.Moving.{AreCurrentOf, IsCurrentAt}
-use Rattle.sync_engine.specs.Settling.{current_with}
+use Rattle.client_turns.specs.Settling.{current_with}
 use Rattle.sync_engine.specs.Standing.{standing_in}
-use Rattle.sync_engine.proofs.Wanted.{first_among, later_among}
+use Rattle.client_turns.proofs.Wanted.{first_among, later_among}
 
 -- what was in the set still is, and so is each id that belongs to one of these
 pub record HasAll {X : Type 0} (P : X → ℕ → Type 0) (xs : List X) (was now : BTreeSet ℕ) : Type 0 where

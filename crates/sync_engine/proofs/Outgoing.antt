@@ -18,19 +18,20 @@ use Rattle.target_cache.specs.Cache.{IsRow, blank}
 use Rattle.target_cache.specs.declared.row.Row.{Row}
 use Rattle.watch_aggregator.specs.declared.aggregator.Aggregator.{Aggregator}
 use Rattle.watch_aggregator.specs.Standing.{StandsFor as AggregatorStandsFor, Takes}
-use Rattle.sync_engine.specs.Asking.{IsAddLine, IsListenLine}
-use Rattle.sync_engine.specs.LimboListens.{is_running}
-use Rattle.sync_engine.specs.Lines.{Line, add as add_line, remove as remove_line}
-use Rattle.sync_engine.specs.Requesting.{Adds, AddsBy, AddsListens, AllRun, AllWanted, AreDue, AsksFor, CallsAre, HaveTargetRows, IsDueIn, IsListenToAdd, IsSought, IsToAdd, IsToRemove, KeepsButCalls, KeepsDue, Picked, Removes, Requests, SettlesLimbo, unasked_all, with_listens}
-use Rattle.sync_engine.specs.Standing.{HasTargetRow, Kept}
+use Rattle.client_turns.specs.Asking.{IsAddLine, IsListenLine}
+use Rattle.client_turns.specs.LimboListens.{is_running}
+use Rattle.client_turns.specs.Lines.{Line, add as add_line, remove as remove_line}
+use Rattle.sync_engine.specs.Requesting.{Adds, AddsBy, AddsListens, AllRun, AllWanted, AreDue, AsksFor, CallsAre, HaveTargetRows, IsDueIn, IsListenToAdd, IsSought, IsToAdd, IsToRemove, KeepsButCalls, KeepsDue, Picked, Removes, Requests, SettlesLimbo, with_listens}
+use Rattle.client_turns.specs.Watching.{unasked_all, held_keys, requested_by, requested_in, wanted_document}
+use Rattle.client_turns.specs.Settling.{HasTargetRow}
+use Rattle.sync_engine.specs.Standing.{Kept}
 use Rattle.sync_engine.specs.Stream.{resets_of}
-use Rattle.sync_engine.specs.Watching.{held_keys, requested_by, requested_in, wanted_document}
 use Rattle.sync_engine.specs.declared.out.Out.{Out}
 use Rattle.sync_engine.specs.declared.out.Out.TheVariants.{AddLimboTarget, AddTarget, RemoveTarget}
 use Rattle.sync_engine.specs.declared.watch_stream.Due.{Due}
 use Rattle.sync_engine.specs.declared.watch_stream.Due.TheVariants.{Nothing, One, Resets, All as due_all}
 use Rattle.sync_engine.proofs.Picking.{picked_with, taken_more}
-use Rattle.sync_engine.proofs.Requested.{removes_requested, zip_append}
+use Rattle.client_turns.proofs.Requested.{removes_requested, zip_append}
 
 -- ---- which targets
 

@@ -1,69 +1,30 @@
 -- what a client keeps of the stream of listeners at an event that is none of the stream's
-use Rattle.std.proofs.Common.{◌≡◌, ◌⊎◌, ⊎_elim, inl, inr, ℕ, ℤ, Bool, true, false, ◌&&◌, ◌||◌, not, List, [], ◌∷◌, Option, Some, None, option_map, if◌then◌else◌, refl, sym, ap, subst, ◌∙◌}
-use Rattle.std.proofs.lemmas.Bool.{and_parts, true≢false}
+use Rattle.std.proofs.Common.{◌≡◌, ◌⊎◌, ⊎_elim, inl, inr, ℕ, ℤ, Bool, true, false, ◌&&◌, not, List, Option, None, option_map, if◌then◌else◌, refl, sym, ap, subst, ◌∙◌}
+use Rattle.std.proofs.lemmas.Bool.{true≢false}
 use Rattle.std.proofs.lemmas.Bool.Decides.{Decides-int_eq}
-use Rattle.std.proofs.lemmas.Option.{none-some}
 use Rattle.std.specs.Ordering.{int_eq}
 use Rattle.client_events.specs.declared.event.Event.{Event}
 use Rattle.limbo_resolver.specs.Limbo.{Limbo}
-use Rattle.listen_protocol.specs.Calls.{Calls, Key}
+use Rattle.listen_protocol.specs.Calls.{Calls}
 use Rattle.listen_protocol.specs.Transcript.{is_asked_in}
 use Rattle.local_store.specs.State.{State}
-use Rattle.views.specs.declared.standing.Standing.{Standing}
 use Rattle.watch_aggregator.specs.Standing.{StandsFor as AggregatorStandsFor}
 use Rattle.watch_points.specs.SpelledCalls.{AreSpelledCalls}
 use Rattle.sync_engine.specs.declared.watch_stream.Due.{Due}
 use Rattle.sync_engine.specs.declared.watch_stream.Due.TheVariants.{Nothing, One, Resets, All}
 use Rattle.sync_engine.specs.declared.watch_stream.WatchStream.{WatchStream}
-use Rattle.sync_engine.specs.LimboListens.{is_running, is_sought}
-use Rattle.sync_engine.specs.Past.{Past, Turn}
-use Rattle.sync_engine.specs.Settling.{current_with}
+use Rattle.client_turns.specs.LimboListens.{is_sought}
+use Rattle.client_turns.specs.Lines.{Line}
+use Rattle.client_turns.specs.Past.{Past, Turn}
+use Rattle.client_turns.specs.Settling.{current_with}
 use Rattle.sync_engine.specs.Standing.{IsDue, Watches, standing_in}
 use Rattle.sync_engine.specs.Stream.{Ends}
-use Rattle.sync_engine.specs.Turn.{answered_next}
-use Rattle.sync_engine.specs.Watching.{WatchStep, calls_by, calls_of, current_keys, if_so, is_any_wanted, is_offline, is_wanted, is_watched, online_by, online_of, open_by, passes, requested_in, step_by, told_by}
-
--- ---- current targets
-
-pub if_so_none : (b : Bool) → if_so b None ≡ None
-if_so_none true = refl
-if_so_none false = refl
-
-pub if_so_twice : (b : Bool) (keys : Option (List Key)) → if_so b (if_so b keys) ≡ if_so b keys
-if_so_twice true keys = refl
-if_so_twice false keys = refl
-
--- a target is current only while it is wanted and the client isn't offline
-pub current_held : (x : ℤ) (past : Past) → if_so (is_wanted x past && not (is_offline (online_of past))) (current_keys x past) ≡ current_keys x past
-current_held x [] = if_so_none (is_wanted x [] && not (is_offline (online_of [])))
-current_held x (entry ∷ past) = if_so_twice (is_wanted x (entry ∷ past) && not (is_offline (online_of (entry ∷ past)))) (told_by x (step_by entry.event entry.turn.refusal) entry.turn.commit (calls_of past) (current_keys x past))
-
--- what stands under a condition stands under a weaker one
-pub if_so_more : (a b : Bool) (keys : Option (List Key)) → (a ≡ true → b ≡ true) → if_so a keys ≡ keys → if_so b keys ≡ keys
-if_so_more true b keys more is = ap (λ c. if_so c keys) (more refl)
-if_so_more false b keys more is = subst (λ (k : Option (List Key)). if_so b k ≡ k) is (if_so_none b)
-
-pub and_more : (a b c : Bool) → (a ≡ true → b ≡ true) → (a && c) ≡ true → (b && c) ≡ true
-and_more true b c more is = ap (λ x. x && c) (more refl) ∙ is
-and_more false b c more is = absurd (true≢false (sym is))
-
--- an unwanted target isn't current
-pub unwanted_current : (x : ℤ) (past : Past) → is_wanted x past ≡ false → current_keys x past ≡ None
-unwanted_current x past not_wanted = sym (current_held x past) ∙ ap (λ b. if_so (b && not (is_offline (online_of past))) (current_keys x past)) not_wanted
-
--- nor is any while the client is offline
-pub offline_current : (x : ℤ) (past : Past) → is_offline (online_of past) ≡ true → current_keys x past ≡ None
-offline_current x past off = sym (current_held x past) ∙ ap (λ b. if_so (is_wanted x past && not b) (current_keys x past)) off ∙ by (is_wanted x past)
-  where
-    by : (b : Bool) → if_so (b && false) (current_keys x past) ≡ None
-    by true = refl
-    by false = refl
+use Rattle.client_turns.specs.Turn.{answered_next, with_lines}
+use Rattle.client_turns.specs.Watching.{WatchStep, begun_in, calls_by, calls_of, current_keys, if_so, is_any_wanted, is_offline, is_wanted, is_watched, listened_in, online_by, online_of, open_by, passes, requested_in, step_by, told_by}
+use Rattle.client_turns.proofs.Current.{current_held, if_so_more, and_more, unwanted_current, sought_still}
+use Rattle.client_turns.proofs.Reading.{calls_behind, current_behind, sought_behind, wanted_behind}
 
 -- ---- what is sought, and for what a request is due
-
--- a target is sought as before where it is wanted as before
-pub sought_still : (past next : Past) (limbo : Limbo) (x : ℤ) → is_wanted x next ≡ is_wanted x past → is_sought x next limbo ≡ is_sought x past limbo
-sought_still past next limbo x same = ap (λ b. b || is_running x limbo) same
 
 -- and a request is due for it where one was
 pub due_still : (past next : Past) (limbo : Limbo) (x : ℤ) (due : Due) → is_wanted x next ≡ is_wanted x past → IsDue past limbo due x → IsDue next limbo due x
@@ -159,3 +120,28 @@ module _ (s : State) (past : Past) (e : Event) (answer : Turn) (step : step_by e
           go : (w : Bool) → wanted ≡ w → (if not w then None else standing_in old.current.targets.items x) ≡ option_map current_with (current_keys x next)
           go true still = it.current x ∙ ap (option_map current_with) (sym (current_passes x (λ is. ap (λ z. is_wanted z next) (sym at) ∙ now ∙ still)))
           go false gone = sym (ap (option_map current_with) (unwanted_current x next (ap (λ z. is_wanted z next) (sym at) ∙ now ∙ gone)))
+
+-- ---- more lines behind a turn, of which nothing of the stream is read
+
+module _ (past : Past) (s : State) (e : Event) (t : Turn) (more : List Line)
+    (no_target : (id : ℕ) (was : Option ℤ) → listened_in id more was ≡ was) (no_begin : (ids : List ℕ) → begun_in more ids ≡ ids) where
+  abbrev before : Past
+  before = answered_next s past e t
+
+  abbrev behind : Past
+  behind = answered_next s past e (with_lines t more)
+
+  pub watches_behind : {watch : WatchStream} {limbo : Limbo} → ((h : Calls) → requested_in more h ≡ h) → Watches watch before limbo → Watches watch behind limbo
+  watches_behind {watch} {limbo} unrequested it =
+      let same : calls_of behind ≡ calls_of before = calls_behind past s e t more no_target no_begin ∙ unrequested (calls_of before) in
+      record {
+        opening = it.opening;
+        calls = subst (AggregatorStandsFor watch.aggregator) (sym same) it.calls;
+        online = it.online;
+        current = λ x. it.current x ∙ ap (option_map current_with) (sym (current_behind past s e t more no_target no_begin x));
+        spelled = subst AreSpelledCalls (sym same) it.spelled;
+        due = λ opened x. ⊎_elim
+            (λ due. inl (due_still before behind limbo x watch.due (wanted_behind past s e t more no_target no_begin x) due))
+            (λ asks. inr (ap (is_asked_in x) same ∙ asks ∙ sym (sought_behind past s e t more no_target no_begin x limbo)))
+            (it.due opened x);
+      }

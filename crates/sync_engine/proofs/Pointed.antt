@@ -27,7 +27,7 @@ use Rattle.listeners.specs.Concerns.{Concerns}
 use Rattle.limbo_listens.specs.Listens.{Listens, limbo_at}
 use Rattle.limbo_resolver.specs.Laws.{IsSound}
 use Rattle.listeners.specs.Table.{IsWanted, Table, target_of, viewed}
-use Rattle.local_store.specs.Documents.{document_of, entry_of, touched_keys_of}
+use Rattle.local_store.specs.Documents.{document_of, entry_of}
 use Rattle.local_store.specs.Files.{Moves}
 use Rattle.local_store.specs.State.{State, committed, most_commits}
 use Rattle.outcome_codec.specs.declared.parts.KeyedEntry.{KeyedEntry}
@@ -48,9 +48,7 @@ use Rattle.value_model.specs.declared.document.Seal.TheVariants.{Seen}
 use Rattle.value_model.specs.declared.message.ListenResponse.{ListenResponse}
 use Rattle.value_model.specs.declared.message.ListenResponse.TheVariants as message
 use Rattle.value_model.specs.declared.timestamp.Timestamp.{Timestamp}
-use Rattle.views.specs.Refresh.{Raises as RaisesView}
 use Rattle.views.specs.Viewed.{Viewed}
-use Rattle.views.specs.declared.raised.Raised.{Raised}
 use Rattle.views.specs.declared.standing.Standing.{Standing}
 use Rattle.watch_aggregator.specs.Effects.{Gives}
 use Rattle.watch_aggregator.specs.Points.{IsPointOf, target_at}
@@ -61,24 +59,24 @@ use Rattle.watch_aggregator.specs.declared.point.WatchTarget.{WatchTarget}
 use Rattle.watch_points.specs.PointCommit.{ArePartsOf, IsPointCommit}
 use Rattle.watch_points.specs.SpelledCalls.{AreSpelledCalls}
 use Rattle.overlays.specs.LocalDocument.{base_of, local_document}
-use Rattle.sync_engine.specs.Answers.{Answers}
-use Rattle.sync_engine.specs.Hearing.{HeardTurn, IsHeard, commits_if_left, point}
-use Rattle.sync_engine.specs.Hearing as hearing
+use Rattle.client_turns.specs.Answers.{Answers}
+use Rattle.client_turns.specs.Hearing.{HeardTurn, commits_if_left, point}
+use Rattle.client_turns.specs.Hearing as hearing
 use Rattle.sync_engine.specs.Moving.{AreCurrentOf, AreMoved, IsCurrentAt}
-use Rattle.sync_engine.specs.Past.{Past, Turn}
-use Rattle.sync_engine.specs.Settling.{IsHeldFor, IsHeldRow, MayStart, Stance, current_with, stance_by, standing_or}
-use Rattle.sync_engine.specs.LimboListens.{heard_limbo, limbo_of}
-use Rattle.sync_engine.specs.Standing.{HasTargetRow, IsDue, IsQuiet, Kept, StandsFor, Watches, limbo_in, stance_in, standing_in}
+use Rattle.client_turns.specs.Past.{Past, Turn}
+use Rattle.client_turns.specs.Settling.{IsHeldRow, Stance, current_with, stance_by, standing_or, HasTargetRow}
+use Rattle.client_turns.specs.LimboListens.{heard_limbo, limbo_of}
+use Rattle.sync_engine.specs.Standing.{IsDue, IsQuiet, Kept, StandsFor, Watches, limbo_in, stance_in, standing_in}
 use Rattle.sync_engine.specs.Stream.{Applies, Hears, resets_of}
 use Rattle.sync_engine.specs.Telling.{HandsSettled, IsQuietOrAmong, IsShown, KeepsRest, MovesBy, Raises}
-use Rattle.sync_engine.specs.Turn.{answered_next}
-use Rattle.sync_engine.specs.Turns.{after, commits, refused}
-use Rattle.sync_engine.specs.Watching.{calls_of, current_keys, if_so, is_mismatch, is_point, is_wanted, keys_at_point, listened, passed}
+use Rattle.client_turns.specs.Turn.{answered_next}
+use Rattle.client_turns.specs.Turns.{after, commits, refused}
+use Rattle.client_turns.specs.Watching.{calls_of, current_keys, if_so, is_mismatch, is_point, is_wanted, keys_at_point, listened, passed}
 use Rattle.sync_engine.specs.declared.current.CurrentTarget.{CurrentTarget}
-use Rattle.sync_engine.specs.declared.online.OnlineState.TheVariants.{Online}
+use Rattle.client_turns.specs.declared.online.OnlineState.TheVariants.{Online}
 use Rattle.sync_engine.specs.declared.out.Out.{Out}
 use Rattle.sync_engine.specs.declared.out.Outcome.TheVariants.{Done}
-use Rattle.sync_engine.specs.declared.refusal.Refusal.TheVariants.{IdsSpent}
+use Rattle.client_turns.specs.declared.refusal.Refusal.TheVariants.{IdsSpent}
 use Rattle.sync_engine.specs.declared.watch_stream.Due.TheVariants.{Nothing}
 use Rattle.sync_engine.specs.declared.watch_stream.WatchStream.{WatchStream}
 use Rattle.sync_engine.proofs.Committed.{moves_by}
@@ -87,7 +85,7 @@ use Rattle.sync_engine.proofs.Heard.{heard_still}
 use Rattle.sync_engine.proofs.Quiet.{quiet_uncurrent}
 use Rattle.sync_engine.proofs.Handing.{as_done, handed, no_reset}
 use Rattle.sync_engine.proofs.Turning.{among_or_not, stays_on, viewed_linked}
-use Rattle.sync_engine.proofs.Wanted.{first_among, later_among, wanted_in}
+use Rattle.client_turns.proofs.Wanted.{first_among, later_among, wanted_in}
 
 -- ---- the rows behind a point
 

@@ -1,10 +1,9 @@
 -- listeners that are quiet, and stay so
-use Rattle.std.proofs.Common.{◌≡◌, ◌↔◌, ◌⊎◌, ⊎_elim, inl, inr, ℕ, ℤ, Bool, true, false, ◌||◌, List, [], ◌∷◌, ◌++◌, map as each, drop, cond, Option, Some, None, IfSome, if◌then◌else◌, refl, sym, ap, subst, ◌∙◌, arith, suc, zero}
+use Rattle.std.proofs.Common.{◌≡◌, ◌↔◌, ◌⊎◌, ⊎_elim, inl, inr, ℕ, ℤ, Bool, true, false, ◌||◌, List, [], ◌∷◌, ◌++◌, map as each, drop, cond, Option, Some, None, IfSome, if◌then◌else◌, refl, sym, ap, subst, ◌∙◌, arith}
 use Rattle.std.proofs.lemmas.List.Elements.{All-nil, All-cons, All-head, All-tail, All-weaker, All-contains, All-contains_itself}
 use Rattle.std.proofs.lemmas.Bool.{true≢false}
-use Rattle.std.proofs.lemmas.Option.{none-some}
 use Rattle.std.specs.FinMap as map
-use Rattle.std.specs.List.{All, Contains, cons_option, filter_map, slice_get}
+use Rattle.std.specs.List.{All, Contains, cons_option, filter_map}
 use Rattle.std.specs.Option.{IsSome, is_some, option_map, unwrap_or}
 use Rattle.document_keys.specs.Names.{Root}
 use Rattle.mutation_queue.specs.Queue.{keys_of, named_keys, written_key}
@@ -50,10 +49,11 @@ use Rattle.views.specs.declared.raised.Raised.{Raised}
 use Rattle.views.specs.declared.standing.Standing.{Standing}
 use Rattle.views.specs.Viewed.{Viewed}
 use Rattle.views.specs.declared.view.Refresh.{Refresh}
-use Rattle.sync_engine.specs.Settling.{IsHeldFor, IsHeldRow, MayStart, Shows, ShowsAt, Settles, Stance}
-use Rattle.sync_engine.specs.Past.{Past}
+use Rattle.client_turns.specs.Settling.{IsHeldFor, IsHeldRow, MayStart, Shows, ShowsAt, Settles, Stance}
+use Rattle.client_turns.specs.Past.{Past}
 use Rattle.sync_engine.specs.Standing.{HasLimbo, IsQuiet, Kept, StandsFor, limbo_in, stance_in}
 use Rattle.sync_engine.proofs.Following.{are_quiet}
+use Rattle.client_turns.proofs.Lists.{slice_get_front, slice_get_more}
 
 -- a quiet listener raises nothing
 pub quiet_shows : (root : Root) (s : State) (stance : Stance) (limbo : List Key) (view : Viewed) → IsQuiet root s stance limbo view → Shows root s stance view None
@@ -139,18 +139,6 @@ quiet_stays root s t stance limbo view same touched held quiet = record {
 }
 
 -- ---- behind an allocation
-
--- a row that holds something isn't the new one
-slice_get_front : {X : Type 0} (xs : List X) (x y : X) (i : ℕ) → slice_get (xs ++ x ∷ []) i ≡ Some y → (slice_get xs i ≡ Some y) ⊎ (y ≡ x)
-slice_get_front [] x y zero is = inr (cc)
-slice_get_front [] x y (suc i) is = absurd (none-some y is)
-slice_get_front (z ∷ xs) x y zero is = inl is
-slice_get_front (z ∷ xs) x y (suc i) is = slice_get_front xs x y i is
-
-pub slice_get_more : {X : Type 0} (xs : List X) (x y : X) (i : ℕ) → slice_get xs i ≡ Some y → slice_get (xs ++ x ∷ []) i ≡ Some y
-slice_get_more [] x y i is = absurd (none-some y is)
-slice_get_more (z ∷ xs) x y zero is = is
-slice_get_more (z ∷ xs) x y (suc i) is = slice_get_more xs x y i is
 
 held_allocated : (rows : List Row) (target : Target) (wanted : Option ℤ) → IsHeldFor (rows ++ blank target ∷ []) wanted ↔ IsHeldFor rows wanted
 held_allocated rows target None = (λ never. never, λ never. never)

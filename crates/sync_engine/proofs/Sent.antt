@@ -5,43 +5,27 @@ use Rattle.std.proofs.lemmas.List.{append_assoc, length-drop, length-take-le, ta
 use Rattle.std.proofs.lemmas.Option.{none-some}
 use Rattle.std.specs.List.{AllZip, slice_get}
 use Rattle.mutations.specs.declared.batch.Batch.{Batch}
-use Rattle.write_pipeline.specs.Order.{Steps, is_ready, latest_token, may_send, next_place, outstanding, sent}
+use Rattle.write_pipeline.specs.Order.{Steps, is_ready, latest_token, may_send, next_place, outstanding}
 use Rattle.write_pipeline.proofs.Some.{stands_for_some}
 use Rattle.write_pipeline.specs.Standing.{MaySend, StandsFor as PipelineStandsFor, step_of}
 use Rattle.write_pipeline.specs.declared.pipeline.WritePipeline.{WritePipeline}
 use Rattle.write_pipeline.specs.declared.answer.Answer.{Answer}
 use Rattle.write_pipeline.specs.declared.answer.Answer.TheVariants.{Handshake, Acknowledges}
-use Rattle.sync_engine.specs.Past.{sent_in}
 use Rattle.local_store.specs.Store.{Store}
-use Rattle.sync_engine.specs.Sending.{KeepsButPipeline, Sends, from_place, sent_times, then_sent}
+use Rattle.sync_engine.specs.Sending.{KeepsButPipeline, Sends, from_place, then_sent}
+use Rattle.client_turns.specs.Writing.{sent_times, is_open, request_of, to_send}
 use Rattle.sync_engine.specs.Standing.{ComesAs, Kept}
 use Rattle.sync_engine.specs.declared.write_stream.WriteStream.{WriteStream}
 use Rattle.sync_engine.specs.Telling.{IsShown}
-use Rattle.sync_engine.specs.Writing.{is_open, request_of, to_send}
 use Rattle.sync_engine.specs.declared.out.Out.{Out}
 use Rattle.sync_engine.specs.declared.out.Out.TheVariants.{SendBatch}
+use Rattle.client_turns.proofs.Sent.{sent_ready, sent_token, sent_count}
 
 -- what holds of whatever a stream stands for holds of something
 pub comes_some : {P : Steps → Type 0} (writes : WriteStream) → ComesAs writes P → (h : Steps) × P h
 comes_some writes comes = let it = stands_for_some writes.pipeline in (it.0, comes it.0 it.1)
 
 -- ---- what stays where batches are sent
-
-pub sent_ready : (n : ℕ) (h : Steps) → is_ready (sent_times n h) ≡ is_ready h
-sent_ready zero h = refl
-sent_ready (suc n) h = sent_ready n h
-
-pub sent_open : (n : ℕ) (h : Steps) → is_open (sent_times n h) ≡ is_open h
-sent_open zero h = refl
-sent_open (suc n) h = sent_open n h
-
-pub sent_token : (n : ℕ) (h : Steps) → latest_token (sent_times n h) ≡ latest_token h
-sent_token zero h = refl
-sent_token (suc n) h = sent_token n h
-
-pub sent_count : (n : ℕ) (h : Steps) → outstanding (sent_times n h) ≡ outstanding h + n
-sent_count zero h = omega arith
-sent_count (suc n) h = let less = sent_count n h in omega (arith, less)
 
 -- a message that fits leaves it open
 pub answered_open : (answer : Answer) (h : Steps) → is_open h ≡ is_open (step_of answer ∷ h)
@@ -226,14 +210,6 @@ sent_more {old} {now} {new} {before} {outs} {more} {i} {place} {result} rest nex
     is_next h on = ap (λ (bs : List Batch). next_place (sent_times i h) (length bs)) (sym (same_batches it.rest)) ∙ sym (next (sent_times i h) (it.stands h on)) ∙ some
 
 -- ---- the lines of those that are sent
-
-pub requests_sent : (token : List ℕ) (bs : List Batch) (h : Steps) → sent_in (each (request_of token) bs) h ≡ sent_times (length bs) h
-requests_sent token [] h = refl
-requests_sent token (b ∷ bs) h = requests_sent token bs (sent ∷ h) ∙ sent_first (length bs) h
-  where
-    sent_first : (n : ℕ) (g : Steps) → sent_times n (sent ∷ g) ≡ sent ∷ sent_times n g
-    sent_first zero g = refl
-    sent_first (suc n) g = ap (λ l. sent ∷ l) (sent_first n g)
 
 -- those stand in the pending list from this place on
 abbrev StandFrom : List Batch → ℕ → List Batch → Type 0

@@ -14,14 +14,14 @@ use Rattle.local_store.specs.State.{State}
 use Rattle.local_store.specs.Store.{Store}
 use Rattle.views.specs.Viewed.{Viewed}
 use Rattle.views.specs.declared.raised.Raised.{Raised}
-use Rattle.sync_engine.specs.Lines.{Told}
-use Rattle.sync_engine.specs.Past.{told}
-use Rattle.sync_engine.specs.Settling.{IsBelow, ShowsAt, Stance, stance_by, told_to}
+use Rattle.client_turns.specs.Lines.{Told}
+use Rattle.client_turns.specs.Past.{told}
+use Rattle.client_turns.specs.Settling.{IsBelow, ShowsAt, Stance, stance_by, told_to}
 use Rattle.sync_engine.specs.Standing.{Kept, IsQuiet, limbo_in, stance_in, standing_in}
 use Rattle.sync_engine.specs.Telling.{IsQuietOrAmong, KeepsRest, Raises, ShowsOne}
 use Rattle.sync_engine.specs.declared.out.Out.{Out}
 use Rattle.sync_engine.specs.declared.out.Out.TheVariants.{Raised as RaisedBy}
-use Rattle.sync_engine.proofs.Among.{among_any, any_among}
+use Rattle.client_turns.proofs.Among.{among_any, any_among}
 use Rattle.sync_engine.proofs.Quiet.{quiet_shows_at}
 
 -- the listeners of these ids were refreshed; `ts` is what they raised, and no other listener changed

@@ -1,10 +1,9 @@
 -- one listener is refreshed
 use Rattle.std.proofs.Common.{◌≡◌, ◌⊎◌, ⊎_elim, inl, ℕ, ◌≤◌, ℤ, pos, to_z, of_z, w32, length, Bool, true, false, IsTrue, List, [], Option, Some, None, is_some, IfSome, unwrap_or, if◌then◌else◌, refl, sym, ap, subst, ◌∙◌, arith}
-use Rattle.std.specs.List.{slice_get}
 use Rattle.std.specs.Prelude.{nat_lt, not}
 use Rattle.std.proofs.lemmas.Bool.{and_parts, ltb-false, not-true, false≢true}
-use Rattle.local_store.specs.State.{most_commits}
-use Rattle.sync_engine.specs.Answers.{are_left, last_target}
+use Rattle.local_store.specs.State.{most_commits, State}
+use Rattle.client_turns.specs.Answers.{are_left, last_target}
 use Rattle.sync_engine.specs.Targets.{GivesTarget, given_id}
 use Rattle.std.proofs.lemmas.Option.{none-some}
 use Rattle.std.proofs.Math.Facts.{to_z_pos}
@@ -16,7 +15,6 @@ use Rattle.limbo_resolver.specs.Limbo.{Key}
 use Rattle.listeners.proofs.Ids.{apart, id_itself}
 use Rattle.listeners.specs.Refreshing.{RefreshesAt}
 use Rattle.listeners.specs.Table.{viewed}
-use Rattle.local_store.specs.State.{State}
 use Rattle.queries.specs.declared.target.Target.{Target}
 use Rattle.target_cache.specs.Cache.{IsRow, TellsId, id_at}
 use Rattle.target_cache.specs.declared.row.Row.{Row}
@@ -25,21 +23,14 @@ use Rattle.views.specs.Viewed.{Viewed}
 use Rattle.views.specs.declared.raised.Raised.{Raised}
 use Rattle.views.specs.declared.standing.Standing.{Standing}
 use Rattle.views.specs.declared.view.Refresh.{Refresh}
-use Rattle.sync_engine.specs.Past.{told}
-use Rattle.sync_engine.specs.Settling.{IsHeldFor, IsHeldRow, MayStart, ShowsAt, Stance, raised_by, standing_or}
+use Rattle.client_turns.specs.Past.{told}
+use Rattle.client_turns.specs.Settling.{IsHeldFor, IsHeldRow, MayStart, ShowsAt, Stance, raised_by, standing_or}
 use Rattle.sync_engine.specs.Standing.{IsQuiet, Kept, limbo_in, stance_in}
 use Rattle.sync_engine.specs.Telling.{ShowsOne}
 use Rattle.sync_engine.proofs.Quiet.{refreshed_quiet}
+use Rattle.client_turns.proofs.HeardOnes.{row_one}
 
 -- ---- whether it may start
-
-pub row_one : (rows : List Row) (id : ℤ) (a b : Row) → IsRow rows id a → IsRow rows id b → a ≡ b
-row_one rows id a b first second =
-    let ids : pos (id_at first.place) ≡ pos (id_at second.place) = sym first.is ∙ second.is in
-    let counts : id_at first.place ≡ id_at second.place = cc in
-    let places : first.place ≡ second.place = omega (arith, counts) in
-    let rows_same : Some a ≡ Some b = sym first.there ∙ ap (slice_get rows) places ∙ second.there in
-    cc
 
 never_starts : (s : State) (stance : Stance) → stance.offline ≡ false → (IsHeldFor s.rows stance.target → ⊥) → MayStart s stance false
 never_starts s stance online never = (λ so. absurd (false≢true so), λ it. ⊎_elim (λ held. absurd (never held)) (λ is. absurd (false≢true (sym online ∙ is))) it)

@@ -1,13 +1,11 @@
 -- events that change whether the client is offline
 use Rattle.std.proofs.Common.{◌≡◌, ◌↔◌, ◌⊎◌, ⊎_elim, inl, inr, ℕ, ℤ, ◌≤◌, Bool, true, false, ◌&&◌, not, List, [], ◌∷◌, length, Option, Some, None, option_map, is_some, IfSome, IsTrue, IsSome, if◌then◌else◌, Vec, Global, refl, sym, ap, subst, ◌∙◌}
 use Rattle.std.proofs.lemmas.Bool.{true≢false}
-use Rattle.std.proofs.lemmas.Option.{none-some}
 use Rattle.std.specs.List.{AllZip}
 use Rattle.std.specs.Map.{lookup}
 use Rattle.std.specs.Option.{option_and_then}
 use Rattle.client_events.specs.declared.event.Event.{Event}
 use Rattle.client_events.specs.declared.event.Event.TheVariants as event
-use Rattle.listen_protocol.specs.Calls.{Calls}
 use Rattle.listeners.proofs.Ids.{id_itself}
 use Rattle.listeners.proofs.Tabled.{no_target}
 use Rattle.limbo_resolver.specs.Laws.{IsSound}
@@ -18,36 +16,35 @@ use Rattle.value_model.specs.declared.message.StreamName.TheVariants as stream
 use Rattle.views.specs.Viewed.{Viewed}
 use Rattle.views.specs.declared.standing.Standing.{Standing}
 use Rattle.watch_aggregator.specs.Standing.{StandsFor as AggregatorStandsFor}
-use Rattle.write_pipeline.specs.Order.{outstanding}
-use Rattle.sync_engine.specs.Answers.{Answers}
-use Rattle.sync_engine.specs.Lines.{Line}
-use Rattle.sync_engine.specs.Past.{Past, Turn, listener, raised_in, steps_by, steps_of}
-use Rattle.sync_engine.specs.Settling.{Stance, current_with, stance_by, standing_or}
-use Rattle.sync_engine.specs.LimboListens.{going_on, is_sought, limbo_of}
+use Rattle.write_pipeline.specs.Order.{outstanding, Steps}
+use Rattle.client_turns.specs.Answers.{Answers}
+use Rattle.client_turns.specs.Lines.{Line}
+use Rattle.client_turns.specs.Past.{Past, Turn, listener, raised_in, steps_by, steps_of}
+use Rattle.client_turns.specs.Settling.{Stance, current_with, stance_by, standing_or}
+use Rattle.client_turns.specs.LimboListens.{going_on, is_sought, limbo_of}
 use Rattle.sync_engine.specs.Standing.{IsQuiet, Kept, StandsFor, StandsOn, Watches, limbo_in, stance_in, standing_in}
 use Rattle.sync_engine.specs.Stream.{IsClosed, IsOpened, IsRung, KeepsUnlessOffline, is_newly_offline, resets_of, unless_offline}
-use Rattle.sync_engine.specs.Telling.{HandsSettled, IsQuietOr, IsShown, KeepsRest, Loses, Raises, RefusesStream, ResetsAsDue, with_watch}
-use Rattle.sync_engine.specs.Turn.{answered_next, is_heard}
-use Rattle.sync_engine.specs.Turns.{after, answered, refused}
-use Rattle.sync_engine.specs.Watching.{WatchStep, calls_by, calls_of, closes, current_keys, if_so, is_any_wanted, is_offline, is_wanted, is_watched, listened, online_by, online_closed, online_of, online_rung, open_by, opens, rings, step_by, told_by}
-use Rattle.sync_engine.specs.Writing.{bad_turn, closed_turn, is_stream_open, opened_turn}
-use Rattle.sync_engine.specs.declared.online.OnlineState.{OnlineState}
-use Rattle.sync_engine.specs.declared.online.OnlineState.TheVariants.{Unknown, Online, Offline}
+use Rattle.sync_engine.specs.Telling.{HandsSettled, IsQuietOr, IsShown, KeepsRest, Loses, Raises, RefusesStream, with_watch}
+use Rattle.client_turns.specs.Turn.{answered_next, is_heard}
+use Rattle.client_turns.specs.Turns.{after, answered, refused}
+use Rattle.client_turns.specs.Watching.{WatchStep, calls_by, calls_of, closes, current_keys, if_so, is_any_wanted, is_offline, is_wanted, is_watched, listened, online_by, online_closed, online_of, online_rung, open_by, rings, step_by, told_by}
+use Rattle.client_turns.specs.Writing.{bad_turn, closed_turn, opened_turn}
+use Rattle.client_turns.specs.declared.online.OnlineState.{OnlineState}
+use Rattle.client_turns.specs.declared.online.OnlineState.TheVariants.{Unknown, Online, Offline}
 use Rattle.sync_engine.specs.declared.out.Out.{Out}
 use Rattle.sync_engine.specs.declared.out.Outcome.{Outcome}
 use Rattle.sync_engine.specs.declared.out.Outcome.TheVariants.{Done, Refused}
-use Rattle.sync_engine.specs.declared.refusal.Refusal.{Refusal}
-use Rattle.sync_engine.specs.declared.refusal.Refusal.TheVariants.{BadMessage, StreamState}
-use Rattle.sync_engine.specs.declared.watch_stream.Due.TheVariants.{Nothing, All as due_all}
+use Rattle.client_turns.specs.declared.refusal.Refusal.{Refusal}
+use Rattle.client_turns.specs.declared.refusal.Refusal.TheVariants.{BadMessage, StreamState}
+use Rattle.sync_engine.specs.declared.watch_stream.Due.TheVariants.{Nothing}
 use Rattle.sync_engine.specs.declared.watch_stream.WatchStream.{WatchStream}
 use Rattle.sync_engine.proofs.Following.{AreQuiet, Follows, are_quiet}
-use Rattle.sync_engine.proofs.Handing.{Handed, as_done, as_refused, handed, hands_refused, keeps_all, no_reset, raises_none}
-use Rattle.sync_engine.proofs.Passing.{current_held, due_still, offline_current, sought_still}
-use Rattle.sync_engine.proofs.Steps.{few_by}
+use Rattle.sync_engine.proofs.Handing.{Handed, as_done, handed, hands_refused, keeps_all, no_reset, raises_none}
+use Rattle.client_turns.proofs.Current.{current_held, offline_current, sought_still}
+use Rattle.sync_engine.proofs.Passing.{due_still}
 use Rattle.value_model.specs.declared.document.RpcStatus.{RpcStatus}
-use Rattle.write_pipeline.specs.Order.{Steps}
 use Rattle.sync_engine.proofs.Turning.{viewed_linked}
-use Rattle.sync_engine.proofs.Wanted.{any_in, same_truth}
+use Rattle.client_turns.proofs.Wanted.{any_in}
 
 -- ---- where nothing has to be refreshed
 
@@ -180,13 +177,13 @@ module _ (old : Kept) (lost : WatchStream) (s : State) (past : Past) (e : Event)
   next_is = answered_next s past e answer
 
   pub no_lines : (id : ℕ) → listened id (answered_next s past e answer) ≡ listened id past
-  no_lines id = ap (λ (ls : List Line). Rattle.sync_engine.specs.Watching.listened_in id ls (listened id past)) such.silent
+  no_lines id = ap (λ (ls : List Line). Rattle.client_turns.specs.Watching.listened_in id ls (listened id past)) such.silent
 
   pub wanted_still : (x : ℤ) → is_wanted x (answered_next s past e answer) ≡ is_wanted x past
-  wanted_still x = λ i. Rattle.std.specs.List.list_any (λ id. Rattle.sync_engine.specs.Watching.is_target x (no_lines id i)) (Rattle.sync_engine.specs.Watching.begun_in (such.silent i) (Rattle.sync_engine.specs.Watching.begun past))
+  wanted_still x = λ i. Rattle.std.specs.List.list_any (λ id. Rattle.client_turns.specs.Watching.is_target x (no_lines id i)) (Rattle.client_turns.specs.Watching.begun_in (such.silent i) (Rattle.client_turns.specs.Watching.begun past))
 
   steps_still : steps_of (answered_next s past e answer) ≡ steps_of past
-  steps_still = ap (λ (ls : List Line). Rattle.sync_engine.specs.Past.sent_in ls (steps_by e answer.refusal (steps_of past))) such.silent ∙ such.steps
+  steps_still = ap (λ (ls : List Line). Rattle.client_turns.specs.Past.sent_in ls (steps_by e answer.refusal (steps_of past))) such.silent ∙ such.steps
 
   same_after : after s answer.commit ≡ s
   same_after = ap (after s) such.unmade
@@ -196,7 +193,7 @@ module _ (old : Kept) (lost : WatchStream) (s : State) (past : Past) (e : Event)
     state = stands.state ∙ sym same_after;
     listeners = λ id. stands.listeners id ∙ sym (such.plain id);
     targets = λ id. stands.targets id ∙ sym (no_lines id);
-    rows = λ id. subst (λ (x : State). IfSome (listened id (answered_next s past e answer)) (Rattle.sync_engine.specs.Standing.HasTargetRow x.rows)) (sym same_after) (subst (λ (o : Option ℤ). IfSome o (Rattle.sync_engine.specs.Standing.HasTargetRow s.rows)) (sym (no_lines id)) (stands.rows id));
+    rows = λ id. subst (λ (x : State). IfSome (listened id (answered_next s past e answer)) (Rattle.client_turns.specs.Settling.HasTargetRow x.rows)) (sym same_after) (subst (λ (o : Option ℤ). IfSome o (Rattle.client_turns.specs.Settling.HasTargetRow s.rows)) (sym (no_lines id)) (stands.rows id));
     unshown = λ id none. stands.unshown id (sym (such.plain id) ∙ none);
     limbo_is = stands.limbo_is ∙ goes_on;
     sound = subst IsSound goes_on stands.sound;
@@ -217,7 +214,7 @@ module _ (old : Kept) (lost : WatchStream) (s : State) (past : Past) (e : Event)
   }
     where
       no_calls : calls_of (answered_next s past e answer) ≡ []
-      no_calls = ap (λ (ls : List Line). Rattle.sync_engine.specs.Watching.requested_in ls (calls_by (step_by e answer.refusal) answer.commit (calls_of past))) such.silent ∙ ap (λ (w : WatchStep). calls_by w answer.commit (calls_of past)) step
+      no_calls = ap (λ (ls : List Line). Rattle.client_turns.specs.Watching.requested_in ls (calls_by (step_by e answer.refusal) answer.commit (calls_of past))) such.silent ∙ ap (λ (w : WatchStep). calls_by w answer.commit (calls_of past)) step
 
       online_is : lost.online ≡ online_of (answered_next s past e answer)
       online_is =
@@ -239,7 +236,7 @@ module _ (old : Kept) (lost : WatchStream) (s : State) (past : Past) (e : Event)
   }
     where
       same_calls : calls_of (answered_next s past e answer) ≡ calls_of past
-      same_calls = ap (λ (ls : List Line). Rattle.sync_engine.specs.Watching.requested_in ls (calls_by (step_by e answer.refusal) answer.commit (calls_of past))) such.silent ∙ ap (λ (w : WatchStep). calls_by w answer.commit (calls_of past)) step
+      same_calls = ap (λ (ls : List Line). Rattle.client_turns.specs.Watching.requested_in ls (calls_by (step_by e answer.refusal) answer.commit (calls_of past))) such.silent ∙ ap (λ (w : WatchStep). calls_by w answer.commit (calls_of past)) step
 
       online_is : lost.online ≡ online_of (answered_next s past e answer)
       online_is = rung.online ∙ ap online_rung stands.watch.online ∙ sym (ap (λ (w : WatchStep). online_by w (is_any_wanted past) (online_of past)) step)

@@ -8,7 +8,7 @@ use Rattle.queries.specs.declared.target.Target.{Target}
 use Rattle.record_codec.specs.declared.commit.Commit.TheVariants.{Allocate}
 use Rattle.target_cache.specs.Cache.{TellsId, id_at}
 use Rattle.target_cache.specs.declared.row.Row.{Row}
-use Rattle.sync_engine.specs.Answers.{are_left, last_target}
+use Rattle.client_turns.specs.Answers.{are_left, last_target}
 use Rattle.sync_engine.specs.Targets.{GivesTarget, MovesForTarget, given_state}
 
 and_false : (a : Bool) → (a && false) ≡ false

@@ -1,10 +1,7 @@
 -- the turns of writes and of listeners that begin
-use Rattle.std.proofs.Common.{◌≡◌, ◌⊎◌, ⊎_elim, inl, inr, ℕ, ◌+◌, ◌<◌, ◌≤◌, ℤ, pos, Bool, true, false, nat_eq, List, [], ◌∷◌, ◌++◌, length, Option, Some, None, option_map, unwrap_or, not, ◌&&◌, ◌↔◌, IsTrue, IfSome, if◌then◌else◌, Vec, Global, refl, sym, ap, subst, ◌∙◌, arith}
+use Rattle.std.proofs.Common.{◌≡◌, ◌⊎◌, ⊎_elim, inl, inr, ℕ, ◌+◌, ◌<◌, ◌≤◌, ℤ, pos, Bool, true, false, nat_eq, List, [], ◌∷◌, ◌++◌, length, Option, Some, None, option_map, unwrap_or, IfSome, if◌then◌else◌, Vec, Global, refl, sym, ap, subst, ◌∙◌, arith}
 use Rattle.std.specs.List.{AllZip, Contains, slice_get}
-use Rattle.std.specs.Ordering.{int_eq}
-use Rattle.std.specs.Option.{option_and_then}
 use Rattle.std.specs.Map.{lookup}
-use Rattle.std.proofs.lemmas.Bool.Decides.{Decides-int_eq}
 use Rattle.std.proofs.lemmas.Bool.{eqb-true, eqb-false, lt-ltb, le-ltb}
 use Rattle.std.proofs.lemmas.Option.{none-some}
 use Rattle.std.proofs.lemmas.List.Elements.{Contains-append_cases, Contains-append_right, Contains-append_left, Contains-push, Contains-push_cases}
@@ -16,9 +13,8 @@ use Rattle.record_codec.specs.declared.commit.Commit.{Commit}
 use Rattle.limbo_listens.specs.Listens.{Listens, limbo_at}
 use Rattle.limbo_resolver.specs.Limbo.{Key}
 use Rattle.listeners.proofs.Tabled.{no_target}
-use Rattle.listeners.specs.Table.{Changes, ChangesTarget, IsWanted, Listening as Link, Table, fresh, is_id, target_of, viewed}
+use Rattle.listeners.specs.Table.{Changes, ChangesTarget, Listening as Link, Table, fresh, is_id, target_of, viewed}
 use Rattle.local_store.specs.Documents.{document_of, standing_of}
-use Rattle.local_store.specs.Store.{Store}
 use Rattle.listen_protocol.specs.Calls.{Calls}
 use Rattle.local_store.specs.Files.{Moves}
 use Rattle.local_store.specs.State.{State, committed, most_commits}
@@ -27,37 +23,37 @@ use Rattle.mutations.specs.declared.write.Write.{Write}
 use Rattle.queries.specs.declared.target.Target.{Target}
 use Rattle.record_codec.specs.declared.commit.Commit.TheVariants.{Enqueue, Allocate}
 use Rattle.target_cache.specs.Cache.{TellsId, blank, id_at}
-use Rattle.target_cache.specs.declared.row.Row.{Row}
 use Rattle.value_model.specs.declared.timestamp.Timestamp.{Timestamp}
 use Rattle.views.specs.Viewed.{Viewed}
-use Rattle.sync_engine.specs.Answers.{Answers, Begins, are_left, ends, enqueued, listens}
-use Rattle.sync_engine.specs.Turns.{after, answered, commits, refused}
+use Rattle.client_turns.specs.Answers.{Answers, Begins, are_left, ends, enqueued, listens}
+use Rattle.client_turns.specs.Turns.{after, answered, commits, refused}
 use Rattle.sync_engine.specs.Concerned.{AreConcerned}
-use Rattle.sync_engine.specs.Lines.{Line, document, listening, unlistened, wrote}
+use Rattle.client_turns.specs.Lines.{Line, document, listening, wrote}
 use Rattle.write_pipeline.specs.Order.{Steps, outstanding}
-use Rattle.sync_engine.specs.Past.{Turn, Past, asked, is_refused_in, listener, raised_in, sent_in, steps_of, told, unless_refused}
-use Rattle.sync_engine.specs.Settling.{Stance, stance_by, stance_of, standing_or}
-use Rattle.sync_engine.specs.Stream.{Ends, resets_of}
-use Rattle.sync_engine.specs.Turn.{answered_next, is_heard}
-use Rattle.sync_engine.specs.Watching.{is_offline, is_wanted, listened, listened_in, passes, requested_in, step_by}
-use Rattle.sync_engine.specs.LimboListens.{limbo_of}
-use Rattle.sync_engine.specs.Standing.{HasTargetRow, IsQuiet, Kept, StandsFor, StandsOn, Watches, limbo_in, stance_in, standing_in}
+use Rattle.client_turns.specs.Past.{Turn, Past, asked, is_refused_in, listener, raised_in, sent_in, steps_of, told, unless_refused}
+use Rattle.client_turns.specs.Settling.{Stance, stance_by, stance_of, HasTargetRow}
+use Rattle.sync_engine.specs.Stream.{resets_of}
+use Rattle.client_turns.specs.Turn.{answered_next, is_heard}
+use Rattle.client_turns.specs.Watching.{is_wanted, listened, listened_in, passes, requested_in, step_by}
+use Rattle.client_turns.specs.LimboListens.{limbo_of}
+use Rattle.sync_engine.specs.Standing.{IsQuiet, Kept, StandsFor, StandsOn, Watches, limbo_in, stance_in, standing_in}
 use Rattle.sync_engine.specs.declared.watch_stream.Due.TheVariants.{Nothing, One}
 use Rattle.sync_engine.specs.declared.watch_stream.WatchStream.{WatchStream}
 use Rattle.sync_engine.specs.declared.write_stream.WriteStream.{WriteStream}
 use Rattle.sync_engine.specs.Targets.{GivesTarget, MovesForTarget, given_id, given_state}
 use Rattle.sync_engine.specs.Telling.{HandsSettled, IsQuietOrAmong, IsShown, KeepsListeners, KeepsRest, MovesBy, Raises}
 use Rattle.sync_engine.specs.declared.out.Out.{Out}
-use Rattle.sync_engine.specs.declared.out.Out.TheVariants.{Document, Listening, Unlistened, Wrote}
+use Rattle.sync_engine.specs.declared.out.Out.TheVariants.{Document, Listening, Wrote}
 use Rattle.sync_engine.specs.declared.out.Outcome.TheVariants.{Done}
-use Rattle.sync_engine.specs.declared.refusal.Refusal.TheVariants.{IdsSpent, ListenerTaken, NoListener}
+use Rattle.client_turns.specs.declared.refusal.Refusal.TheVariants.{IdsSpent, ListenerTaken}
 use Rattle.sync_engine.proofs.Committed.{moves_by}
-use Rattle.sync_engine.proofs.Following.{AreQuiet, Follows, are_quiet, follows_plain, quiet_as, quiet_kept}
+use Rattle.sync_engine.proofs.Following.{Follows, are_quiet, follows_plain, quiet_as, quiet_kept}
 use Rattle.sync_engine.proofs.Handing.{as_done, handed, keeps_all, no_reset, raises_none, same_id}
-use Rattle.sync_engine.proofs.Passing.{watches_began, watches_ended}
-use Rattle.sync_engine.proofs.Quiet.{quiet_allocated, quiet_enqueued, slice_get_more}
-use Rattle.sync_engine.proofs.Steps.{few_by}
-use Rattle.sync_engine.proofs.Wanted.{has_wanted, same_truth, wanted_has, wanted_in}
+use Rattle.sync_engine.proofs.Passing.{watches_began}
+use Rattle.sync_engine.proofs.Quiet.{quiet_allocated, quiet_enqueued}
+use Rattle.client_turns.proofs.Lists.{slice_get_more}
+use Rattle.client_turns.proofs.Steps.{few_by}
+use Rattle.client_turns.proofs.Wanted.{has_wanted, same_truth, wanted_has}
 
 pub stays_on : {old new : WriteStream} {h : Steps} → old ≡ new → StandsOn old h → StandsOn new h
 stays_on {old} {new} {h} same stands = subst (λ (w : WriteStream). StandsOn w h) same stands

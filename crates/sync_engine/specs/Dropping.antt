@@ -1,5 +1,5 @@
 -- How documents in limbo go whose listens the backend ended, by what a client keeps.
-use Rattle.std.specs.Prelude.{◌≡◌, ◌⊎◌, ◌↔◌, ◌<◌, ◌<ℤ◌, ◌||◌, ℕ, ℤ, pos, true, List, Option, Some, None, if◌then◌else◌}
+use Rattle.std.specs.Prelude.{◌≡◌, ◌⊎◌, ◌↔◌, ◌<◌, ◌<ℤ◌, ◌||◌, ℕ, ℤ, pos, true, List, Some, None, if◌then◌else◌}
 use Rattle.std.specs.List.{AllPairs, Contains}
 use Rattle.durable_state.specs.Rows.{HasRow}
 use Rattle.limbo_resolver.specs.Limbo.{Key, ids_of}

@@ -6,7 +6,7 @@ use Rattle.listeners.specs.Table.{IsWanted, Table, target_of}
 use Rattle.outcome_codec.specs.declared.parts.KeyedEntry.{KeyedEntry}
 use Rattle.watch_aggregator.specs.declared.point.WatchTarget.{WatchTarget}
 use Rattle.sync_engine.specs.declared.current.CurrentTarget.{CurrentTarget}
-use Rattle.sync_engine.specs.Settling.{current_with}
+use Rattle.client_turns.specs.Settling.{current_with}
 use Rattle.sync_engine.specs.Standing.{Kept, standing_in}
 
 -- ascending ids, among them those of the listeners that an entry's key concerns, whose target is current, or is one of those that

@@ -1,21 +1,22 @@
 -- How the requests on the stream of listeners are made.
-use Rattle.std.specs.Prelude.{◌≡◌, ◌↔◌, ◌⊎◌, ◌<ℤ◌, ℤ, true, false, List, [], ◌∷◌, ◌++◌, map as each}
+use Rattle.std.specs.Prelude.{◌≡◌, ◌↔◌, ◌⊎◌, ◌<ℤ◌, ℤ, true, false, List, ◌++◌, map as each}
 use Rattle.std.specs.List.{All, AllPairs, AllZip, Contains}
 use Rattle.limbo_listens.specs.Listens.{Listens, Settles}
-use Rattle.listen_protocol.specs.Calls.{Calls, unasked}
+use Rattle.listen_protocol.specs.Calls.{Calls}
 use Rattle.listen_protocol.specs.Transcript.{is_asked_in}
 use Rattle.listeners.specs.Table.{IsWanted}
 use Rattle.watch_aggregator.specs.Standing.{StandsFor as AggregatorStandsFor}
-use Rattle.sync_engine.specs.Asking.{IsAddLine, IsListenLine}
+use Rattle.client_turns.specs.Asking.{IsAddLine, IsListenLine}
 use Rattle.sync_engine.specs.declared.out.Out.{Out}
 use Rattle.sync_engine.specs.declared.out.Out.TheVariants.{AddLimboTarget, AddTarget, RemoveTarget}
 use Rattle.sync_engine.specs.declared.watch_stream.Due.{Due}
 use Rattle.sync_engine.specs.declared.watch_stream.Due.TheVariants.{Nothing, One, Resets, All as due_all}
-use Rattle.sync_engine.specs.LimboListens.{is_running}
-use Rattle.sync_engine.specs.Lines.{Line, remove}
-use Rattle.sync_engine.specs.Standing.{HasTargetRow, Kept}
+use Rattle.client_turns.specs.LimboListens.{is_running}
+use Rattle.client_turns.specs.Lines.{Line, remove}
+use Rattle.client_turns.specs.Settling.{HasTargetRow}
+use Rattle.sync_engine.specs.Standing.{Kept}
 use Rattle.sync_engine.specs.Stream.{resets_of}
-use Rattle.sync_engine.specs.Watching.{requested_in}
+use Rattle.client_turns.specs.Watching.{requested_in, unasked_all}
 
 -- the client keeps all but what was requested on the stream of listeners
 pub record KeepsButCalls (old new : Kept) : Type 0 where
@@ -61,11 +62,6 @@ pub record IsListenToAdd (client : Kept) (h : Calls) (t : ℤ) : Type 0 where
 pub record Picked (P : ℤ → Type 0) (ids those : List ℤ) : Type 0 where
   pub ascending : AllPairs ◌<ℤ◌ those
   pub each : (t : ℤ) → Contains those t ↔ (Contains ids t × P t)
-
--- remove requests of these ids, one after another
-abbrev pub unasked_all : List ℤ → Calls → Calls
-unasked_all [] h = h
-unasked_all (t ∷ ts) h = unasked_all ts (unasked t ∷ h)
 
 -- the removes went out
 pub record Removes (old new : Kept) (targets : List ℤ) (before after : List Out) : Type 0 where

@@ -3,7 +3,7 @@ use Rattle.std.specs.Prelude.{◌≡◌, ℕ, List, [], ◌∷◌, ◌++◌, len
 use Rattle.write_pipeline.specs.Order.{Steps, outstanding, sent}
 use Rattle.write_pipeline.specs.Standing.{StandsFor as PipelineStandsFor}
 use Rattle.sync_engine.specs.Standing.{ComesAs, Kept}
-use Rattle.sync_engine.specs.Writing.{to_send}
+use Rattle.client_turns.specs.Writing.{sent_times, to_send}
 use Rattle.sync_engine.specs.declared.out.Out.{Out}
 use Rattle.sync_engine.specs.declared.out.Out.TheVariants.{SendBatch}
 
@@ -16,11 +16,6 @@ pub record KeepsButPipeline (old new : Kept) : Type 0 where
   pub watch : new.watch ≡ old.watch
   pub opening : new.writes.is_open ≡ old.writes.is_open
   pub spent : new.spent ≡ old.spent
-
--- so many batches were sent
-abbrev pub sent_times : ℕ → Steps → Steps
-sent_times zero h = h
-sent_times (suc n) h = sent ∷ sent_times n h
 
 -- a batch was sent, or none
 abbrev pub then_sent : Option ℕ → Steps → Steps

@@ -7,15 +7,12 @@ use Rattle.document_keys.specs.Names.{Root}
 use Rattle.limbo_listens.specs.Listens.{Listens, limbo_at, listens_code}
 use Rattle.limbo_resolver.specs.Laws.{IsSound}
 use Rattle.limbo_resolver.specs.Limbo.{Key, Limbo}
-use Rattle.listen_protocol.specs.Calls.{Calls}
 use Rattle.listen_protocol.specs.Transcript.{is_asked_in}
 use Rattle.listeners.specs.Laws.{IsSettled}
 use Rattle.listeners.specs.Table.{Table, table_code, target_of, viewed}
 use Rattle.local_store.specs.Documents.{documents_of, touched_keys_of}
 use Rattle.local_store.specs.State.{State}
 use Rattle.local_store.specs.Store.{IsSpent as IsStoreSpent, Store, store_code}
-use Rattle.target_cache.specs.Cache.{IsRow}
-use Rattle.target_cache.specs.declared.row.Row.{Row}
 use Rattle.queries.specs.Answer.{IsAnswer}
 use Rattle.views.specs.Limbo.{IsInLimbo}
 use Rattle.views.specs.Picks.{Picks}
@@ -32,11 +29,11 @@ use Rattle.sync_engine.specs.declared.current.CurrentTarget.{CurrentTarget}
 use Rattle.sync_engine.specs.declared.watch_stream.Due.{Due}
 use Rattle.sync_engine.specs.declared.watch_stream.Due.TheVariants.{Nothing, One, Resets, All}
 use Rattle.sync_engine.specs.declared.watch_stream.WatchStream.{WatchStream}
-use Rattle.sync_engine.specs.LimboListens.{going_on, is_sought, limbo_of}
-use Rattle.sync_engine.specs.Past.{Entry, Past, listener, steps_of}
-use Rattle.sync_engine.specs.Settling.{MayStart, Stance, current_with, stance_by, stance_of}
-use Rattle.sync_engine.specs.Watching.{calls_of, current_keys, is_watched, listened, online_of, step_of}
-use Rattle.sync_engine.specs.Writing.{is_open}
+use Rattle.client_turns.specs.LimboListens.{going_on, is_sought, limbo_of}
+use Rattle.client_turns.specs.Past.{Entry, Past, listener, steps_of}
+use Rattle.client_turns.specs.Settling.{HasTargetRow, MayStart, Stance, current_with, stance_by, stance_of}
+use Rattle.client_turns.specs.Watching.{calls_of, current_keys, is_watched, listened, online_of, step_of}
+use Rattle.client_turns.specs.Writing.{is_open}
 
 -- what a client keeps: its database, the store, its listeners, which of the documents that they show are in limbo, the stream
 -- of listeners and that of writes, and whether it is spent
@@ -134,10 +131,6 @@ pub record Watches (watch : WatchStream) (past : Past) (limbo : Limbo) : Type 0 
   pub spelled : AreSpelledCalls (calls_of past)
   pub due : is_watched past ≡ true
       → (t : ℤ) → IsDue past limbo watch.due t ⊎ (is_asked_in t (calls_of past) ≡ is_sought t past limbo)
-
--- the id has a row
-abbrev pub HasTargetRow : List Row → ℤ → Type 0
-HasTargetRow rows t = (row : Row) × IsRow rows t row
 
 -- the keys in limbo of the listener of an id, by what the client keeps
 abbrev pub limbo_in : Kept → ℕ → List Key

@@ -1,5 +1,5 @@
 -- What happens to the stream of listeners as a client keeps it.
-use Rattle.std.specs.Prelude.{◌≡◌, ℤ, Bool, true, false, ◌&&◌, not, List, [], ◌∷◌, Option, Some, None, if◌then◌else◌}
+use Rattle.std.specs.Prelude.{◌≡◌, ℤ, Bool, true, false, ◌&&◌, not, List, [], ◌∷◌, Option, None, if◌then◌else◌}
 use Rattle.std.specs.Ordering.{int_eq}
 use Rattle.views.specs.declared.standing.Standing.{Standing}
 use Rattle.listen_protocol.specs.Calls.{Calls, applied, came, lists, skipped}
@@ -8,13 +8,13 @@ use Rattle.watch_aggregator.specs.Points.{IsPointOf}
 use Rattle.watch_aggregator.specs.Standing.{StandsFor as AggregatorStandsFor}
 use Rattle.watch_aggregator.specs.declared.point.WatchPoint.{WatchPoint}
 use Rattle.sync_engine.specs.declared.current.CurrentTargets.{CurrentTargets}
-use Rattle.sync_engine.specs.declared.online.OnlineState.{OnlineState}
-use Rattle.sync_engine.specs.declared.online.OnlineState.TheVariants.{Unknown, Online}
+use Rattle.client_turns.specs.declared.online.OnlineState.{OnlineState}
+use Rattle.client_turns.specs.declared.online.OnlineState.TheVariants.{Unknown, Online}
 use Rattle.sync_engine.specs.declared.watch_stream.Due.{Due}
 use Rattle.sync_engine.specs.declared.watch_stream.Due.TheVariants.{Nothing, One, Resets as due_resets, All}
 use Rattle.sync_engine.specs.declared.watch_stream.WatchStream.{WatchStream}
 use Rattle.sync_engine.specs.Standing.{standing_in}
-use Rattle.sync_engine.specs.Watching.{is_offline, online_closed, online_rung}
+use Rattle.client_turns.specs.Watching.{is_offline, online_closed, online_rung}
 
 -- it was never opened
 pub record IsNew (watch : WatchStream) : Type 0 where

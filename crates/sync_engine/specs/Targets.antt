@@ -6,7 +6,7 @@ use Rattle.local_store.specs.State.{State, committed}
 use Rattle.queries.specs.declared.target.Target.{Target}
 use Rattle.record_codec.specs.declared.commit.Commit.TheVariants.{Allocate}
 use Rattle.target_cache.specs.Cache.{TellsId, id_at}
-use Rattle.sync_engine.specs.Answers.{are_left}
+use Rattle.client_turns.specs.Answers.{are_left}
 
 -- the id that a target has, or gets where one is left
 abbrev pub given_id : State → Option ℤ → Option ℤ

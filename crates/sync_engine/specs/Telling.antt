@@ -1,9 +1,8 @@
 -- What a client hands out for an event.
-use Rattle.std.specs.Prelude.{◌≡◌, ◌⊎◌, ◌↔◌, ℕ, ◌<◌, nat_eq, ℤ, Bool, true, if◌then◌else◌, List, [], ◌++◌, fold, map as each, Option, Some, None, is_some, IfSome, IsSome, IsTrue}
+use Rattle.std.specs.Prelude.{◌≡◌, ◌⊎◌, ◌↔◌, ℕ, ◌<◌, nat_eq, ℤ, Bool, true, if◌then◌else◌, List, [], ◌++◌, map as each, Option, Some, None, is_some, IfSome, IsSome, IsTrue}
 use Rattle.std.specs.List.{AllPairs, AllZip, Contains, list_any, slice_get}
 use Rattle.client_events.specs.declared.event.Event.{Event}
 use Rattle.limbo_listens.specs.Listens.{Listens, limbo_at}
-use Rattle.limbo_resolver.specs.Limbo.{Key, without}
 use Rattle.listeners.specs.Table.{KeepsTargets, Table, target_of, viewed}
 use Rattle.local_store.specs.Documents.{document_of, documents_of, standing_of}
 use Rattle.local_store.specs.Files.{Moves}
@@ -17,18 +16,19 @@ use Rattle.record_codec.specs.declared.commit.Commit.{Commit}
 use Rattle.mutations.specs.declared.results.WriteRequest.TheVariants.{Handshake}
 use Rattle.write_pipeline.specs.Order.{Steps, latest_token}
 use Rattle.write_pipeline.specs.Standing.{StandsFor as PipelineStandsFor}
-use Rattle.sync_engine.specs.Answers.{Answers}
-use Rattle.sync_engine.specs.Asking.{IsAddLine, IsListenLine, resets_by}
-use Rattle.sync_engine.specs.Lines.{Line, Told, wrote, listening, unlistened, document, result, rejected, error, snapshot, remove, send}
-use Rattle.sync_engine.specs.Past.{Turn, Past, told as told_of}
-use Rattle.sync_engine.specs.Settling.{Settles, ShowsAt, told_to}
+use Rattle.client_turns.specs.Answers.{Answers}
+use Rattle.client_turns.specs.Asking.{IsAddLine, IsListenLine, resets_by}
+use Rattle.client_turns.specs.LimboListens.{without_all}
+use Rattle.client_turns.specs.Lines.{Line, Told, wrote, listening, unlistened, document, result, rejected, error, snapshot, remove, send}
+use Rattle.client_turns.specs.Past.{Turn, Past, told as told_of}
+use Rattle.client_turns.specs.Settling.{Settles, ShowsAt, told_to}
 use Rattle.sync_engine.specs.Standing.{Kept, IsQuiet, StandsAfter, StandsFor, limbo_in, stance_in}
-use Rattle.sync_engine.specs.Turn.{IsSettled, IsTurn, heard_then, is_heard}
-use Rattle.sync_engine.specs.Turns.{after}
-use Rattle.sync_engine.specs.Writing.{request_of}
+use Rattle.client_turns.specs.Turn.{IsSettled, IsTurn, heard_then, is_heard}
+use Rattle.client_turns.specs.Turns.{after}
+use Rattle.client_turns.specs.Writing.{request_of}
 use Rattle.value_model.specs.declared.message.StreamName.TheVariants as stream
 use Rattle.sync_engine.specs.Stream.{IsClosed, is_newly_offline, resets_of}
-use Rattle.sync_engine.specs.declared.refusal.Refusal.TheVariants.{StreamState}
+use Rattle.client_turns.specs.declared.refusal.Refusal.TheVariants.{StreamState}
 use Rattle.sync_engine.specs.declared.watch_stream.Due.TheVariants.{Nothing}
 use Rattle.sync_engine.specs.declared.watch_stream.WatchStream.{WatchStream}
 use Rattle.sync_engine.specs.declared.out.Out.{Out}
@@ -241,10 +241,6 @@ pub record RemovesAll (ids : List ℕ) (old new : Table) : Type 0 where
 pub record ForgetsAll (ids : List ℕ) (old new : Listens) : Type 0 where
   pub keys : (q : ℕ) → limbo_at new q ≡ (if list_any (nat_eq q) ids then [] else limbo_at old q)
   pub limbo : new.limbo ≡ old.limbo
-
--- running listens without those of these ids
-abbrev pub without_all : List ℤ → List (ℤ × Key) → List (ℤ × Key)
-without_all ids running = fold without running ids
 
 -- the listens of these ids run no longer
 pub record RefusesAll (ids : List ℤ) (old new : Listens) : Type 0 where

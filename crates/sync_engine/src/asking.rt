@@ -3,11 +3,11 @@
 ghost use Rattle.std.specs.Prelude.{◌≡◌, ◌↔◌, ◌<ℤ◌, ◌∷◌, ℤ, IfOk, IsTrue, OnOk, [], true, false};
 ghost use Rattle.std.specs.List.{AllPairs, Contains};
 ghost use Rattle.listeners.specs.Table.{IsWanted};
-ghost use Rattle.sync_engine.specs.LimboListens.{is_running};
+ghost use Rattle.client_turns.specs.LimboListens.{is_running};
 ghost use Rattle.sync_engine.specs.Requesting.{Adds, AddsListens, AllRun, AllWanted, AsksFor, AreDue, CallsAre, HaveTargetRows, IsDueIn, IsListenToAdd, IsSought, IsToAdd, IsToRemove, KeepsButCalls, KeepsDue, Picked, Removes, Requests};
 ghost use Rattle.sync_engine.specs.Stream.{resets_of};
-ghost use Rattle.sync_engine.specs.Standing.{HasTargetRow};
-ghost use Rattle.sync_engine.specs.Watching.{held_keys, wanted_document};
+ghost use Rattle.client_turns.specs.Settling.{HasTargetRow};
+ghost use Rattle.client_turns.specs.Watching.{held_keys, wanted_document};
 ghost use Rattle.sync_engine.specs.declared.watch_stream.Due.TheVariants.{Nothing};
 
 use crate::client::Client;

@@ -7,11 +7,11 @@ ghost use Rattle.limbo_resolver.specs.Limbo.{key_in};
 ghost use Rattle.local_store.specs.Files.{FindsState, Refuses};
 ghost use Rattle.local_store.specs.State.{State};
 ghost use Rattle.local_store.specs.Store.{IsFoundIn, IsStored};
-ghost use Rattle.sync_engine.specs.Past.{Past};
+ghost use Rattle.client_turns.specs.Past.{Past};
 ghost use Rattle.write_pipeline.specs.Order.{latest_token};
 ghost use Rattle.sync_engine.specs.Standing.{ComesAs, IsLive, IsSpent, IsStanding, StandsFor};
 ghost use Rattle.sync_engine.specs.Telling.{HandsOut, Lends, MovesBy};
-ghost use Rattle.sync_engine.specs.Writing.{is_stream_open};
+ghost use Rattle.client_turns.specs.Writing.{is_stream_open};
 
 use crate::fault::ClientFault;
 use crate::out::Outcome;

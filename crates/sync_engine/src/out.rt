@@ -1,4 +1,4 @@
-use crate::refusal::Refusal;
+use client_turns::Refusal;
 use document_keys::DocumentKey;
 use value_model::{RpcStatus, Timestamp};
 

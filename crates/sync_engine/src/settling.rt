@@ -6,13 +6,13 @@ ghost use Rattle.listeners.specs.Concerns.{IsConcerned};
 ghost use Rattle.listeners.specs.Ids.{has_id};
 ghost use Rattle.mutation_queue.specs.Queue.{written_key};
 ghost use Rattle.sync_engine.specs.Concerned.{AreConcerned, ConcernsOne};
-ghost use Rattle.sync_engine.specs.Settling.{MayStart};
+ghost use Rattle.client_turns.specs.Settling.{MayStart};
 ghost use Rattle.sync_engine.specs.Standing.{stance_in};
 ghost use Rattle.sync_engine.specs.Telling.{IsQuietOrAmong, KeepsRest, Raises, ShowsOne};
 
 use crate::client::Client;
-use crate::online::OnlineState;
 use crate::out::Out;
+use client_turns::OnlineState;
 use document_keys::{DocumentKey, KeySet, NoMemory};
 use mutations::Write;
 use std::alloc::Global;

@@ -4,7 +4,7 @@ ghost use Rattle.sync_engine.specs.Stream.{Applies, Ends, EndsAll, Hears, IsClos
 ghost use Rattle.sync_engine.specs.declared.watch_stream.Due.TheVariants.{One};
 
 use crate::current::CurrentTargets;
-use crate::online::OnlineState;
+use client_turns::OnlineState;
 use document_keys::NoMemory;
 use std::alloc::Global;
 use value_model::ListenResponse;

@@ -4,7 +4,7 @@ ghost use Rattle.std.specs.Prelude.{◌≡◌, true, IfOk, OnOk, IsErrOf};
 ghost use Rattle.client_events.specs.declared.event.Event.TheVariants as event;
 ghost use Rattle.local_store.specs.State.{State};
 ghost use Rattle.value_model.specs.declared.message.StreamName.TheVariants as stream;
-ghost use Rattle.sync_engine.specs.Past.{Past};
+ghost use Rattle.client_turns.specs.Past.{Past};
 ghost use Rattle.sync_engine.specs.Standing.{StandsFor};
 ghost use Rattle.sync_engine.specs.Stream.{is_newly_offline};
 ghost use Rattle.sync_engine.specs.Telling.{HandsSettled, IsQuietOr, KeepsButStream, KeepsRest, Loses, Raises, RefusesStream};
@@ -12,9 +12,8 @@ ghost use Rattle.sync_engine.specs.declared.watch_stream.Due.TheVariants.{Nothin
 
 use crate::client::Client;
 use crate::fault::ClientFault;
-use crate::online::OnlineState;
 use crate::out::{Out, Outcome};
-use crate::refusal::Refusal;
+use client_turns::{OnlineState, Refusal};
 use document_keys::{NoMemory, Text};
 use std::alloc::Global;
 use value_model::{RpcStatus, StreamName};

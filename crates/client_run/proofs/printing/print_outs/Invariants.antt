@@ -1,6 +1,6 @@
 use Rattle.std.proofs.Common.{◌≡◌, List, take}
 use Rattle.std.specs.String.{string_bytes}
-use Rattle.sync_engine.specs.Lines.{Line}
+use Rattle.client_turns.specs.Lines.{Line}
 use Rattle.client_run.specs.Printed.{text_of}
 use Rattle.client_run.specs.Taken.{AreShown}
 use Rattle.client_run.proofs.printing.print_outs.Given as goal

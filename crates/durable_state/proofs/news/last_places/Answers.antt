@@ -1,4 +1,4 @@
-use Rattle.std.proofs.Common.{◌≡◌, ◌∙◌, ℕ, List, Option, Some, cond, length, sym, ap, subst, arith}
+use Rattle.std.proofs.Common.{◌≡◌, ◌∙◌, ℕ, List, Some, cond, length, sym, ap, subst, arith}
 use Rattle.std.specs.Map.{lookup}
 use Rattle.document_keys.specs.KeySet.{is_key}
 use Rattle.mutation_queue.proofs.Tables.{same_test}

@@ -1,4 +1,4 @@
-use Rattle.std.proofs.Common.{◌≡◌, ◌∙◌, ◌<◌, ◌≤◌, ℕ, List, take, length, get_or, refl, sym, ap, subst}
+use Rattle.std.proofs.Common.{◌≡◌, ◌∙◌, ◌<◌, ◌≤◌, List, take, length, get_or, refl, sym, ap, subst}
 use Rattle.std.specs.List.{filter_map}
 use Rattle.std.proofs.lemmas.List.{take_all}
 use Rattle.keyed_writes.specs.Keyed.{IsNext}
@@ -7,7 +7,7 @@ use Rattle.mutations.specs.declared.write.Write.{Write}
 use Rattle.mutation_queue.specs.Queue.{written_key}
 use Rattle.remote_documents.specs.Table as remote
 use Rattle.durable_state.specs.Cached.{answered_by}
-use Rattle.durable_state.specs.Ready.{HavePlaces, first_keys}
+use Rattle.durable_state.specs.Ready.{first_keys}
 use Rattle.durable_state.proofs.Changed.{answered_none, answered_one, places_more, places_still}
 use Rattle.durable_state.proofs.Firsts.{first_on, first_still}
 use Rattle.durable_state.proofs.readying.answer_each.Goals as goal

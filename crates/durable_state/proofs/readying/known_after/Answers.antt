@@ -1,4 +1,4 @@
-use Rattle.std.proofs.Common.{◌∙◌, option_map, sym, ap}
+use Rattle.std.proofs.Common.{◌∙◌, sym, ap}
 use Rattle.remote_documents.specs.Table.{entries_in}
 use Rattle.durable_state.specs.Cached.{cached}
 use Rattle.durable_state.proofs.Newest.{known_then, put_or}

@@ -1,5 +1,4 @@
 use Rattle.std.proofs.Common.{◌≡◌, ◌∙◌}
-use Rattle.mutations.specs.declared.write.Write.{Write}
 use Rattle.durable_state.specs.Cached.{first_writes}
 use Rattle.durable_state.proofs.Relaid.{head_writes}
 use Rattle.durable_state.proofs.relaying.lay_behind.Goals as goal

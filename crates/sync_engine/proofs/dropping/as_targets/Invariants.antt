@@ -1,5 +1,4 @@
-use Rattle.std.proofs.Common.{◌≡◌, pos, take}
-use Rattle.std.proofs.Common.{map as each}
+use Rattle.std.proofs.Common.{◌≡◌, pos, take, map as each}
 use Rattle.sync_engine.proofs.dropping.as_targets.Given as goal
 
 abbrev pub invariant-loop-row : goal.invariant-loop-row

@@ -1,5 +1,4 @@
-use Rattle.std.proofs.Common.{◌≡◌, take}
-use Rattle.std.proofs.Common.{map as each}
+use Rattle.std.proofs.Common.{◌≡◌, take, map as each}
 use Rattle.sync_engine.specs.declared.out.Out.TheVariants.{Error}
 use Rattle.sync_engine.proofs.resetting.errors.Given as goal
 

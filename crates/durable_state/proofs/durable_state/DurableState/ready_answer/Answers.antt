@@ -1,4 +1,4 @@
-use Rattle.std.proofs.Common.{◌≡◌, ◌∙◌, ℕ, List, refl, sym, ap, subst}
+use Rattle.std.proofs.Common.{◌≡◌, ◌∙◌, ℕ, List, refl, ap, subst}
 use Rattle.std.proofs.lemmas.Result.{IfOk-weaker}
 use Rattle.mutations.specs.declared.write.Write.{Write}
 use Rattle.std.specs.List.{filter_map}
@@ -45,7 +45,7 @@ returns-clause-moves c =
     c.in_ok-changes.ensures.changes ∙ ap (λ (t : Tables). filter_map (answered_by (entries_in t.entries) writes results at) (first_keys writes)) c.self.view_is in
     IfOk-weaker c.ready_settling.result _ (λ (ready : Ready). (id : ℕ) → state_by s ready ≡ committed s (Acknowledge id at c.args.results.now))
     (λ (ready : Ready) moves id.
-        let moved_so : state_by (state_in inside) ready ≡ moved (state_in inside) Settle (put_changes (Committed at) cs) = moves in
-        subst (λ (x : State). state_by x ready ≡ moved x Settle (put_changes (Committed at) cs)) same moved_so
-        ∙ answered_moved s id at results writes cs first is ∙ ap (λ rs. committed s (Acknowledge id at rs)) c.as_slice-2.ensures)
+    let moved_so : state_by (state_in inside) ready ≡ moved (state_in inside) Settle (put_changes (Committed at) cs) = moves in
+    subst (λ (x : State). state_by x ready ≡ moved x Settle (put_changes (Committed at) cs)) same moved_so
+    ∙ answered_moved s id at results writes cs first is ∙ ap (λ rs. committed s (Acknowledge id at rs)) c.as_slice-2.ensures)
     c.ready_settling.ensures.moves

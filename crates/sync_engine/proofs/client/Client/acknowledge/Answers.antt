@@ -6,14 +6,14 @@ use Rattle.mutations.specs.declared.write.Write.{Write}
 use Rattle.record_codec.specs.declared.commit.Commit.TheVariants.{Acknowledge}
 use Rattle.write_pipeline.specs.Order.{acknowledged, kept}
 use Rattle.sync_engine.specs.Concerned.{AreConcerned}
-use Rattle.sync_engine.specs.Past.{steps_of}
+use Rattle.client_turns.specs.Past.{steps_of}
 use Rattle.sync_engine.specs.Standing.{GoesOn, Kept}
 use Rattle.sync_engine.specs.Telling.{HandsSettled, MovesBy}
-use Rattle.sync_engine.specs.Turns.{refused}
+use Rattle.client_turns.specs.Turns.{refused}
 use Rattle.sync_engine.specs.declared.out.Out.{Out}
 use Rattle.sync_engine.specs.declared.out.Out.TheVariants.{Result}
 use Rattle.sync_engine.specs.declared.out.Outcome.TheVariants.{Done, Refused}
-use Rattle.sync_engine.specs.declared.refusal.Refusal.TheVariants.{IdsSpent}
+use Rattle.client_turns.specs.declared.refusal.Refusal.TheVariants.{IdsSpent}
 use Rattle.sync_engine.specs.declared.write_stream.WriteStream.{WriteStream}
 use Rattle.local_store.specs.Files.{Moves}
 use Rattle.write_pipeline.specs.Standing.{HasTransforms}

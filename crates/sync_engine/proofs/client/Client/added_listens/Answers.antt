@@ -2,7 +2,7 @@ use Rattle.std.proofs.Common.{◌≡◌, true, ℤ, List, SFits, w32, pos, get_o
 use Rattle.std.proofs.lemmas.Bool.{false≢true}
 use Rattle.std.proofs.lemmas.Int.{to_z-of_z}
 use Rattle.std.proofs.lemmas.List.Elements.{All-push}
-use Rattle.sync_engine.specs.LimboListens.{is_running}
+use Rattle.client_turns.specs.LimboListens.{is_running}
 use Rattle.listen_protocol.specs.Calls.{Calls}
 use Rattle.sync_engine.specs.Requesting.{AllRun, IsListenToAdd, Picked}
 use Rattle.sync_engine.proofs.Picking.{item_at, picked_less, picked_one}

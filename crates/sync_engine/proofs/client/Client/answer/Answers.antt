@@ -2,11 +2,11 @@ use Rattle.std.proofs.Common.{[], ◌∷◌, refl}
 use Rattle.client_events.specs.declared.event.Event.TheVariants as event
 use Rattle.local_store.specs.Documents.{document_of, standing_of}
 use Rattle.local_store.specs.State.{State}
-use Rattle.sync_engine.specs.Answers.{ends}
-use Rattle.sync_engine.specs.Turns.{answered}
-use Rattle.sync_engine.specs.Lines.{document}
-use Rattle.sync_engine.specs.Past.{listener}
-use Rattle.sync_engine.specs.Writing.{bad_turn, is_stream_open, opened_turn}
+use Rattle.client_turns.specs.Answers.{ends}
+use Rattle.client_turns.specs.Turns.{answered}
+use Rattle.client_turns.specs.Lines.{document}
+use Rattle.client_turns.specs.Past.{listener}
+use Rattle.client_turns.specs.Writing.{bad_turn, is_stream_open, opened_turn}
 use Rattle.sync_engine.proofs.Closed.{bad_none, opened_none}
 use Rattle.sync_engine.specs.Telling.{MovesBy}
 use Rattle.sync_engine.proofs.Committed.{nothing_moves}

@@ -1,11 +1,11 @@
-use Rattle.std.proofs.Common.{false, [], List, refl, sym, ap, subst, ◌∙◌}
+use Rattle.std.proofs.Common.{false, List, refl, sym, ap, subst, ◌∙◌}
 use Rattle.client_events.specs.declared.event.Event.TheVariants as event
 use Rattle.value_model.specs.declared.message.StreamName.TheVariants as stream
 use Rattle.sync_engine.specs.Standing.{Kept}
 use Rattle.sync_engine.specs.Telling.{Loses}
-use Rattle.sync_engine.specs.Turns.{refused}
+use Rattle.client_turns.specs.Turns.{refused}
 use Rattle.sync_engine.specs.declared.out.Out.{Out}
-use Rattle.sync_engine.specs.declared.refusal.Refusal.TheVariants.{BadMessage}
+use Rattle.client_turns.specs.declared.refusal.Refusal.TheVariants.{BadMessage}
 use Rattle.sync_engine.proofs.Handing.{as_refused}
 use Rattle.sync_engine.proofs.Streamed.{hands_disallowed, hands_lost, lost_due, watch_bad_now, watch_bad_unopened}
 use Rattle.sync_engine.proofs.client.Client.bad_watch.Goals as goal

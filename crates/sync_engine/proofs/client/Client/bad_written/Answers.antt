@@ -1,9 +1,9 @@
 use Rattle.std.proofs.Common.{false, refl, sym, ap, subst, ◌∙◌}
 use Rattle.client_events.specs.declared.event.Event.TheVariants as event
 use Rattle.value_model.specs.declared.message.StreamName.TheVariants as stream
-use Rattle.sync_engine.specs.Past.{steps_of}
+use Rattle.client_turns.specs.Past.{steps_of}
 use Rattle.sync_engine.specs.Standing.{Kept, StandsFor}
-use Rattle.sync_engine.specs.declared.refusal.Refusal.TheVariants.{BadMessage, StreamState}
+use Rattle.client_turns.specs.declared.refusal.Refusal.TheVariants.{BadMessage, StreamState}
 use Rattle.sync_engine.proofs.Closed.{bad_now, bad_unopened, hands_closed}
 use Rattle.sync_engine.proofs.Handing.{hands_refused}
 use Rattle.sync_engine.proofs.client.Client.bad_written.Goals as goal

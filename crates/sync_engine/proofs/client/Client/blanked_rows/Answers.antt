@@ -1,5 +1,4 @@
-use Rattle.std.proofs.Common.{◌≡◌, ℤ, ℕ, List, SFits, w32, pos, nat_abs, get_or, length, rules, refl, take, Vec, Global, sym, ap, subst, ◌+◌, ◌<◌, ◌^◌, ◌∙◌, ◌++◌, ◌∷◌, [], ◌⊎◌, arith}
-use Rattle.std.proofs.Common.{map as each}
+use Rattle.std.proofs.Common.{◌≡◌, ℤ, ℕ, List, SFits, w32, pos, nat_abs, get_or, length, rules, take, Vec, Global, sym, ap, subst, ◌+◌, ◌<◌, ◌^◌, ◌∙◌, ◌++◌, ◌∷◌, [], ◌⊎◌, arith, map as each}
 use Rattle.std.proofs.lemmas.Bool.{false≢true}
 use Rattle.std.proofs.lemmas.Int.{to_z-of_z}
 use Rattle.std.proofs.lemmas.List.Elements.{All-push}

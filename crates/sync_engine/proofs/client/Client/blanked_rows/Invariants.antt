@@ -1,5 +1,4 @@
-use Rattle.std.proofs.Common.{◌<◌, ◌⊎◌, pos, take}
-use Rattle.std.proofs.Common.{map as each}
+use Rattle.std.proofs.Common.{◌<◌, ◌⊎◌, pos, take, map as each}
 use Rattle.std.specs.List.{All, Contains}
 use Rattle.sync_engine.specs.Dropping.{HoldsOne}
 use Rattle.sync_engine.specs.Requesting.{CallsAre, Picked}

@@ -2,10 +2,10 @@ use Rattle.client_events.specs.declared.event.Event.TheVariants as event
 use Rattle.local_store.specs.State.{State}
 use Rattle.value_model.specs.declared.message.StreamName.TheVariants as stream
 use Rattle.std.proofs.Common.{refl}
-use Rattle.sync_engine.specs.Past.{steps_of}
+use Rattle.client_turns.specs.Past.{steps_of}
 use Rattle.sync_engine.specs.Telling.{MovesBy}
-use Rattle.sync_engine.specs.Watching.{is_watched}
-use Rattle.sync_engine.specs.Writing.{closed_turn}
+use Rattle.client_turns.specs.Watching.{is_watched}
+use Rattle.client_turns.specs.Writing.{closed_turn}
 use Rattle.sync_engine.proofs.Committed.{nothing_moves}
 use Rattle.sync_engine.proofs.Following.{by_state}
 use Rattle.sync_engine.proofs.Streamed.{watch_closed_none}

@@ -4,7 +4,7 @@ use Rattle.value_model.specs.declared.message.StreamName.TheVariants as stream
 use Rattle.sync_engine.specs.Standing.{Kept}
 use Rattle.sync_engine.specs.Stream.{resets_of}
 use Rattle.sync_engine.specs.Telling.{Loses}
-use Rattle.sync_engine.specs.Turns.{answered}
+use Rattle.client_turns.specs.Turns.{answered}
 use Rattle.sync_engine.specs.declared.out.Out.{Out}
 use Rattle.sync_engine.proofs.Handing.{as_done, no_reset}
 use Rattle.sync_engine.proofs.Streamed.{hands_disallowed, hands_lost, lost_due, watch_closed_now, watch_closed_unopened}

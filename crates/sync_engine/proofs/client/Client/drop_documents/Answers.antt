@@ -1,8 +1,8 @@
-use Rattle.std.proofs.Common.{◌≡◌, ◌≢◌, ◌↔◌, ℕ, ◌<◌, ℤ, pos, nat_eq, if◌then◌else◌, List, [], ◌∷◌, ◌++◌, map as each, length, refl, sym, ap, subst, ◌∙◌, arith}
+use Rattle.std.proofs.Common.{◌≡◌, ℕ, ◌<◌, ℤ, pos, nat_eq, if◌then◌else◌, List, [], ◌++◌, map as each, refl, sym, ap, subst, ◌∙◌, arith}
 use Rattle.std.specs.List.{All, AllPairs, list_any}
 use Rattle.client_events.specs.declared.event.Event.TheVariants as event
 use Rattle.limbo_listens.specs.Listens.{Listens, limbo_at}
-use Rattle.limbo_resolver.specs.Limbo.{Key, Limbo}
+use Rattle.limbo_resolver.specs.Limbo.{Limbo}
 use Rattle.listeners.specs.Table.{Table}
 use Rattle.durable_state.specs.Rows.{HasRow}
 use Rattle.local_store.specs.Files.{Moves}
@@ -12,11 +12,12 @@ use Rattle.record_codec.specs.declared.commit.Commit.TheVariants.{Drop}
 use Rattle.sync_engine.specs.Dropping.{AreBlankedIn, AreMovedBy, Drops}
 use Rattle.sync_engine.specs.Standing.{Kept, limbo_in}
 use Rattle.sync_engine.specs.Stream.{Hears}
-use Rattle.sync_engine.specs.Telling.{ForgetsAll, HandsSettled, MovesBy, RemovesAll, without_all}
-use Rattle.sync_engine.specs.Watching.{calls_of}
+use Rattle.sync_engine.specs.Telling.{ForgetsAll, HandsSettled, MovesBy, RemovesAll}
+use Rattle.client_turns.specs.LimboListens.{without_all}
+use Rattle.client_turns.specs.Watching.{calls_of}
 use Rattle.sync_engine.specs.declared.out.Out.TheVariants.{Error}
 use Rattle.sync_engine.specs.declared.out.Outcome.TheVariants.{Done, Refused}
-use Rattle.sync_engine.specs.declared.refusal.Refusal.TheVariants.{IdsSpent}
+use Rattle.client_turns.specs.declared.refusal.Refusal.TheVariants.{IdsSpent}
 use Rattle.sync_engine.specs.declared.watch_stream.WatchStream.{WatchStream}
 use Rattle.sync_engine.proofs.Committed.{moves_still, nothing_moves}
 use Rattle.sync_engine.proofs.Dropped.{some_length}

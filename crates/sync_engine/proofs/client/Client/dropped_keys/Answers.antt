@@ -1,7 +1,7 @@
 use Rattle.std.proofs.Common.{ℤ, List, Some, SFits, w32, pos, get_or, take, rules, refl, ap, subst, sym, ◌+◌, ◌∙◌}
 use Rattle.std.proofs.lemmas.Int.{to_z-of_z}
 use Rattle.limbo_resolver.specs.Limbo.{Key, key_in}
-use Rattle.sync_engine.specs.Hearing.{AreDropped}
+use Rattle.client_turns.specs.Hearing.{AreDropped}
 use Rattle.sync_engine.specs.Standing.{Kept}
 use Rattle.sync_engine.proofs.Holding.{dropped_less, dropped_one}
 use Rattle.sync_engine.proofs.client.Client.dropped_keys.Goals as goal

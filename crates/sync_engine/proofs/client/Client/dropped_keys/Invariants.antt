@@ -1,5 +1,5 @@
 use Rattle.std.proofs.Common.{take}
-use Rattle.sync_engine.specs.Hearing.{AreDropped}
+use Rattle.client_turns.specs.Hearing.{AreDropped}
 use Rattle.sync_engine.proofs.client.Client.dropped_keys.Given as goal
 
 abbrev pub invariant-loop-id : goal.invariant-loop-id

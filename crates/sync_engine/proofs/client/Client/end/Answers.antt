@@ -1,8 +1,7 @@
-use Rattle.std.proofs.Common.{◌≡◌, ◌≢◌, ℕ, ◌<◌, List, [], ◌∷◌, length, refl, sym, ap, subst, ◌∙◌, arith}
+use Rattle.std.proofs.Common.{subst, arith}
 use Rattle.client_events.specs.declared.event.Event.TheVariants as event
 use Rattle.local_store.specs.State.{State}
-use Rattle.sync_engine.specs.Hearing.{AreDropped}
-use Rattle.sync_engine.specs.Standing.{Kept}
+use Rattle.client_turns.specs.Hearing.{AreDropped}
 use Rattle.sync_engine.specs.Telling.{MovesBy}
 use Rattle.sync_engine.proofs.Committed.{moves_still, nothing_moves}
 use Rattle.sync_engine.proofs.Dropped.{no_key, some_key}

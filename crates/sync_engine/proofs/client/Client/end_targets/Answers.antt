@@ -1,5 +1,4 @@
-use Rattle.std.proofs.Common.{◌↔◌, ℕ, ◌<◌, ◌^◌, nat_eq, if◌then◌else◌, IsTrue, List, [], length, arith, refl, sym, ap, subst, ◌∙◌}
-use Rattle.std.proofs.Common.{map as each}
+use Rattle.std.proofs.Common.{◌↔◌, ℕ, ◌<◌, ◌^◌, nat_eq, if◌then◌else◌, IsTrue, List, [], length, arith, refl, sym, ap, subst, ◌∙◌, map as each}
 use Rattle.std.proofs.lemmas.Bool.{true≢false}
 use Rattle.client_events.specs.declared.event.Event.TheVariants as event
 use Rattle.std.specs.List.{list_any}
@@ -9,15 +8,16 @@ use Rattle.listeners.specs.Table.{Table}
 use Rattle.local_store.specs.Files.{Moves}
 use Rattle.local_store.specs.State.{State}
 use Rattle.local_store.specs.Store.{Store}
-use Rattle.sync_engine.specs.Blanking.{IsBlanking, blanked_state}
-use Rattle.sync_engine.specs.Hearing.{IsAnyHeld}
+use Rattle.client_turns.specs.Blanking.{IsBlanking, blanked_state}
+use Rattle.client_turns.specs.Hearing.{IsAnyHeld}
 use Rattle.sync_engine.specs.Standing.{Kept, limbo_in}
 use Rattle.sync_engine.specs.Stream.{EndsAll, Hears}
-use Rattle.sync_engine.specs.Telling.{ForgetsAll, HandsSettled, MovesBy, RemovesAll, without_all}
-use Rattle.sync_engine.specs.Watching.{calls_of}
+use Rattle.sync_engine.specs.Telling.{ForgetsAll, HandsSettled, MovesBy, RemovesAll}
+use Rattle.client_turns.specs.LimboListens.{without_all}
+use Rattle.client_turns.specs.Watching.{calls_of}
 use Rattle.sync_engine.specs.declared.out.Out.TheVariants.{Error}
 use Rattle.sync_engine.specs.declared.out.Outcome.TheVariants.{Done, Refused}
-use Rattle.sync_engine.specs.declared.refusal.Refusal.TheVariants.{IdsSpent}
+use Rattle.client_turns.specs.declared.refusal.Refusal.TheVariants.{IdsSpent}
 use Rattle.sync_engine.specs.declared.watch_stream.WatchStream.{WatchStream}
 use Rattle.sync_engine.proofs.Committed.{moves_still, nothing_moves}
 use Rattle.sync_engine.proofs.Dropped.{end_spent, hands_end, moves_end}

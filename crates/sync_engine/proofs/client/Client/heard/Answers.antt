@@ -1,6 +1,6 @@
 use Rattle.std.proofs.Common.{sym, ap, subst, ◌∙◌}
 use Rattle.sync_engine.specs.Standing.{Kept, StandsFor}
-use Rattle.sync_engine.specs.Watching.{calls_of}
+use Rattle.client_turns.specs.Watching.{calls_of}
 use Rattle.sync_engine.proofs.Heard.{hands_heard}
 use Rattle.sync_engine.proofs.client.Client.heard.Goals as goal
 

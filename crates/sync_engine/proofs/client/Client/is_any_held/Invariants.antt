@@ -1,5 +1,5 @@
 use Rattle.std.proofs.Common.{take}
-use Rattle.sync_engine.specs.Hearing.{IsAnyHeld}
+use Rattle.client_turns.specs.Hearing.{IsAnyHeld}
 use Rattle.sync_engine.proofs.client.Client.is_any_held.Given as goal
 
 abbrev pub invariant-loop-id : goal.invariant-loop-id

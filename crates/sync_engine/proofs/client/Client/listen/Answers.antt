@@ -3,14 +3,14 @@ use Rattle.client_events.specs.declared.event.Event.TheVariants as event
 use Rattle.listeners.specs.Table.{Changes, ChangesTarget, Table, fresh, viewed}
 use Rattle.local_store.specs.State.{State}
 use Rattle.queries.specs.declared.target.Target.{Target}
-use Rattle.sync_engine.specs.Turns.{refused}
+use Rattle.client_turns.specs.Turns.{refused}
 use Rattle.sync_engine.specs.Standing.{Kept}
 use Rattle.sync_engine.specs.Targets.{GivesTarget, MovesForTarget}
 use Rattle.sync_engine.specs.Telling.{HandsSettled, MovesBy}
 use Rattle.sync_engine.specs.declared.out.Out.{Out}
 use Rattle.sync_engine.specs.declared.out.Out.TheVariants.{Listening}
 use Rattle.sync_engine.specs.declared.out.Outcome.TheVariants.{Done, Refused}
-use Rattle.sync_engine.specs.declared.refusal.Refusal.TheVariants.{IdsSpent, ListenerTaken}
+use Rattle.client_turns.specs.declared.refusal.Refusal.TheVariants.{IdsSpent, ListenerTaken}
 use Rattle.sync_engine.proofs.Committed.{nothing_moves}
 use Rattle.sync_engine.proofs.Handing.{hands_refused, none_viewed, some_viewed}
 use Rattle.target_cache.specs.Cache.{id_at}

@@ -6,14 +6,14 @@ use Rattle.client_events.specs.declared.event.Event.TheVariants as event
 use Rattle.listeners.specs.Table.{target_of}
 use Rattle.local_store.specs.Files.{Moves}
 use Rattle.local_store.specs.State.{State}
-use Rattle.sync_engine.specs.Blanking.{IsBlanking, blanked_state}
-use Rattle.sync_engine.specs.Hearing.{HaveRows, IsAnyHeld}
+use Rattle.client_turns.specs.Blanking.{IsBlanking, blanked_state}
+use Rattle.client_turns.specs.Hearing.{HaveRows, IsAnyHeld}
 use Rattle.sync_engine.specs.Standing.{Kept}
 use Rattle.sync_engine.specs.Stream.{Hears, Resets}
 use Rattle.sync_engine.specs.Telling.{HandsSettled, MovesBy}
-use Rattle.sync_engine.specs.Watching.{calls_of}
+use Rattle.client_turns.specs.Watching.{calls_of}
 use Rattle.sync_engine.specs.declared.out.Outcome.TheVariants.{Done, Refused}
-use Rattle.sync_engine.specs.declared.refusal.Refusal.TheVariants.{IdsSpent}
+use Rattle.client_turns.specs.declared.refusal.Refusal.TheVariants.{IdsSpent}
 use Rattle.sync_engine.specs.declared.watch_stream.WatchStream.{WatchStream}
 use Rattle.sync_engine.proofs.Committed.{moves_still, nothing_moves}
 use Rattle.sync_engine.proofs.Emptied.{blanking}

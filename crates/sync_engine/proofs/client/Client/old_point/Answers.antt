@@ -1,8 +1,8 @@
 use Rattle.std.proofs.Common.{sym, ap, subst, ◌∙◌}
 use Rattle.local_store.specs.State.{State}
-use Rattle.sync_engine.specs.Hearing.{IsOld}
+use Rattle.client_turns.specs.Hearing.{IsOld}
 use Rattle.sync_engine.specs.Standing.{Kept, StandsFor}
-use Rattle.sync_engine.specs.Watching.{calls_of}
+use Rattle.client_turns.specs.Watching.{calls_of}
 use Rattle.sync_engine.proofs.Heard.{hands_old}
 use Rattle.sync_engine.proofs.client.Client.old_point.Goals as goal
 

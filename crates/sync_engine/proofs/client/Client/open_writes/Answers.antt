@@ -1,10 +1,10 @@
 use Rattle.std.proofs.Common.{true, List, [], ◌∷◌, ◌++◌, refl, sym, ap, subst, ◌∙◌}
 use Rattle.value_model.specs.declared.message.StreamName.TheVariants as stream
-use Rattle.sync_engine.specs.Past.{steps_of}
+use Rattle.client_turns.specs.Past.{steps_of}
 use Rattle.sync_engine.specs.Standing.{Kept, StandsFor}
 use Rattle.sync_engine.specs.declared.out.Out.{Out}
 use Rattle.sync_engine.specs.declared.out.Out.TheVariants.{SendHandshake}
-use Rattle.sync_engine.specs.declared.refusal.Refusal.TheVariants.{StreamState}
+use Rattle.client_turns.specs.declared.refusal.Refusal.TheVariants.{StreamState}
 use Rattle.sync_engine.proofs.Closed.{hands_opened, opened_now, opened_twice}
 use Rattle.sync_engine.proofs.Handing.{hands_refused}
 use Rattle.sync_engine.proofs.client.Client.open_writes.Goals as goal

@@ -7,16 +7,16 @@ use Rattle.record_codec.specs.declared.commit.Commit.TheVariants.{Point}
 use Rattle.sync_engine.specs.Stream.{Hears}
 use Rattle.sync_engine.specs.Standing.{Kept}
 use Rattle.sync_engine.specs.Telling.{HandsSettled, MovesBy}
-use Rattle.sync_engine.specs.Watching.{calls_of}
+use Rattle.client_turns.specs.Watching.{calls_of}
 use Rattle.sync_engine.specs.declared.out.Outcome.TheVariants.{Done, Refused}
 use Rattle.sync_engine.specs.declared.watch_stream.WatchStream.{WatchStream}
-use Rattle.sync_engine.specs.declared.refusal.Refusal.TheVariants.{IdsSpent}
+use Rattle.client_turns.specs.declared.refusal.Refusal.TheVariants.{IdsSpent}
 use Rattle.sync_engine.proofs.Following.{by_state}
 use Rattle.sync_engine.proofs.Handing.{hands_refused}
 use Rattle.sync_engine.proofs.Pointed.{current_as, hands_point, made_commit, made_spelled, moved_as, parts_as, moves_point, parts_of, point_ascends, point_moment, point_spent}
 use Rattle.sync_engine.proofs.Turning.{moves_none}
 use Rattle.sync_engine.proofs.Committed.{moves_still, nothing_moves}
-use Rattle.sync_engine.specs.Turns.{refused}
+use Rattle.client_turns.specs.Turns.{refused}
 use Rattle.sync_engine.proofs.client.Client.point.Goals as goal
 
 pub returns-then-number-ge-MOST_COMMITS-clause-turn : goal.returns-then-number-ge-MOST_COMMITS-clause-turn

@@ -7,14 +7,14 @@ use Rattle.record_codec.specs.declared.commit.Commit.TheVariants.{Reject}
 use Rattle.write_pipeline.specs.Order.{closed}
 use Rattle.sync_engine.specs.Concerned.{AreConcerned}
 use Rattle.value_model.specs.declared.message.StreamName.TheVariants as stream
-use Rattle.sync_engine.specs.Past.{steps_of}
+use Rattle.client_turns.specs.Past.{steps_of}
 use Rattle.sync_engine.specs.Standing.{GoesOn, Kept}
 use Rattle.sync_engine.specs.Telling.{HandsSettled, MovesBy}
-use Rattle.sync_engine.specs.Turns.{refused}
+use Rattle.client_turns.specs.Turns.{refused}
 use Rattle.sync_engine.specs.declared.out.Out.{Out}
 use Rattle.sync_engine.specs.declared.out.Out.TheVariants.{Rejected}
 use Rattle.sync_engine.specs.declared.out.Outcome.TheVariants.{Done, Refused}
-use Rattle.sync_engine.specs.declared.refusal.Refusal.TheVariants.{IdsSpent}
+use Rattle.client_turns.specs.declared.refusal.Refusal.TheVariants.{IdsSpent}
 use Rattle.sync_engine.specs.declared.write_stream.WriteStream.{WriteStream}
 use Rattle.sync_engine.proofs.Closed.{hands_rejected, moves_rejected, spent_rejects}
 use Rattle.sync_engine.proofs.Committed.{nothing_moves}

@@ -1,9 +1,9 @@
-use Rattle.std.proofs.Common.{ℕ, List, inl, sym, ap, subst, ◌∙◌, is_some, not}
+use Rattle.std.proofs.Common.{ℕ, List, inl, sym, ap, subst, ◌∙◌, is_some}
 use Rattle.std.specs.List.{Contains}
 use Rattle.listeners.specs.Table.{viewed}
 use Rattle.sync_engine.specs.Standing.{Kept}
 use Rattle.sync_engine.specs.Stream.{is_newly_offline}
-use Rattle.sync_engine.specs.Watching.{is_offline}
+use Rattle.client_turns.specs.Watching.{is_offline}
 use Rattle.sync_engine.proofs.Handing.{raises_none}
 use Rattle.sync_engine.proofs.Streamed.{newly_not, newly_was, quiet_unless}
 use Rattle.sync_engine.proofs.client.Client.settle_offline.Goals as goal

@@ -1,6 +1,6 @@
 use Rattle.std.proofs.Common.{refl, sym, ap, subst, ◌∙◌}
 use Rattle.client_events.specs.declared.event.Event.TheVariants as event
-use Rattle.sync_engine.specs.Past.{steps_of}
+use Rattle.client_turns.specs.Past.{steps_of}
 use Rattle.sync_engine.specs.Standing.{Kept, StandsFor}
 use Rattle.sync_engine.proofs.Closed.{hands_nothing, shaken_is, shaken_stands, written_as}
 use Rattle.sync_engine.proofs.client.Client.shaken.Goals as goal

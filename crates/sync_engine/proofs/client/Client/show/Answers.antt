@@ -1,7 +1,7 @@
 use Rattle.std.proofs.Common.{ℤ, List, Option, false, sym, ap, subst, ◌∙◌}
 use Rattle.std.specs.Prelude.{option_and_then}
 use Rattle.listen_protocol.specs.Calls.{Key}
-use Rattle.sync_engine.specs.Settling.{MayStart, standing_or}
+use Rattle.client_turns.specs.Settling.{MayStart, standing_or}
 use Rattle.sync_engine.specs.Standing.{Kept, stance_in, standing_in}
 use Rattle.sync_engine.proofs.Showing.{is_shown, lent_standing}
 use Rattle.sync_engine.proofs.client.Client.show.Goals as goal

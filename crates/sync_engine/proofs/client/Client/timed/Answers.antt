@@ -1,10 +1,10 @@
 use Rattle.std.proofs.Common.{[], refl}
 use Rattle.client_events.specs.declared.event.Event.TheVariants as event
 use Rattle.local_store.specs.State.{State}
-use Rattle.sync_engine.specs.Hearing.{old_point}
+use Rattle.client_turns.specs.Hearing.{old_point}
 use Rattle.sync_engine.specs.Telling.{MovesBy}
-use Rattle.sync_engine.specs.Turns.{answered}
-use Rattle.sync_engine.specs.Watching.{calls_of}
+use Rattle.client_turns.specs.Turns.{answered}
+use Rattle.client_turns.specs.Watching.{calls_of}
 use Rattle.sync_engine.proofs.Committed.{nothing_moves}
 use Rattle.sync_engine.proofs.Following.{by_state}
 use Rattle.sync_engine.proofs.Heard.{heard_as}

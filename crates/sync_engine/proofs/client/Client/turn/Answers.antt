@@ -1,9 +1,9 @@
-use Rattle.std.proofs.Common.{◌≡◌, Bool, true, false, Some, Vec, Global, sym, subst, ◌∙◌}
+use Rattle.std.proofs.Common.{◌≡◌, true, false, Some, Vec, Global, sym, subst, ◌∙◌}
 use Rattle.local_store.specs.Store.{IsSpent as IsStoreSpent, Store}
 use Rattle.sync_engine.specs.Standing.{IsAtRest, Kept}
 use Rattle.sync_engine.specs.Telling.{HandsOut, HandsSettled}
-use Rattle.sync_engine.specs.Turn.{is_heard}
-use Rattle.sync_engine.specs.Watching.{calls_of}
+use Rattle.client_turns.specs.Turn.{is_heard}
+use Rattle.client_turns.specs.Watching.{calls_of}
 use Rattle.sync_engine.specs.declared.out.Out.{Out}
 use Rattle.sync_engine.specs.declared.out.Outcome.{Outcome}
 use Rattle.sync_engine.specs.declared.out.Outcome.TheVariants.{Refused}

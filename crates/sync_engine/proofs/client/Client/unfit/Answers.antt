@@ -1,9 +1,9 @@
 use Rattle.std.proofs.Common.{refl, sym, ap, subst, ◌∙◌}
 use Rattle.client_events.specs.declared.event.Event.TheVariants as event
 use Rattle.value_model.specs.declared.message.StreamName.TheVariants as stream
-use Rattle.sync_engine.specs.Past.{steps_of}
+use Rattle.client_turns.specs.Past.{steps_of}
 use Rattle.sync_engine.specs.Standing.{Kept, StandsFor}
-use Rattle.sync_engine.specs.declared.refusal.Refusal.TheVariants.{BadMessage}
+use Rattle.client_turns.specs.declared.refusal.Refusal.TheVariants.{BadMessage}
 use Rattle.sync_engine.proofs.Closed.{hands_closed, unfit_is, written_as}
 use Rattle.sync_engine.proofs.client.Client.unfit.Goals as goal
 

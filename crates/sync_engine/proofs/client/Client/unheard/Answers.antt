@@ -1,6 +1,6 @@
 use Rattle.std.proofs.Common.{List, subst, ◌∙◌}
 use Rattle.sync_engine.specs.Telling.{Loses}
-use Rattle.sync_engine.specs.Watching.{calls_of}
+use Rattle.client_turns.specs.Watching.{calls_of}
 use Rattle.sync_engine.specs.declared.out.Out.{Out}
 use Rattle.sync_engine.proofs.Heard.{hands_unheard}
 use Rattle.sync_engine.proofs.client.Client.unheard.Goals as goal

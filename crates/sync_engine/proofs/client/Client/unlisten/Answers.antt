@@ -5,7 +5,7 @@ use Rattle.sync_engine.specs.Standing.{Kept, StandsFor}
 use Rattle.sync_engine.specs.Stream.{Ends}
 use Rattle.sync_engine.specs.declared.out.Out.{Out}
 use Rattle.sync_engine.specs.declared.out.Out.TheVariants.{Unlistened}
-use Rattle.sync_engine.specs.declared.refusal.Refusal.TheVariants.{NoListener}
+use Rattle.client_turns.specs.declared.refusal.Refusal.TheVariants.{NoListener}
 use Rattle.sync_engine.proofs.Ending.{ends_not, hands_ended}
 use Rattle.sync_engine.proofs.Handing.{hands_refused}
 use Rattle.sync_engine.proofs.client.Client.unlisten.Goals as goal

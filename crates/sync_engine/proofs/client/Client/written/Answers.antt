@@ -2,12 +2,12 @@ use Rattle.std.proofs.Common.{false, [], refl, sym, ap, subst, ◌∙◌}
 use Rattle.client_events.specs.declared.event.Event.TheVariants as event
 use Rattle.value_model.specs.declared.message.StreamName.TheVariants as stream
 use Rattle.local_store.specs.State.{State}
-use Rattle.sync_engine.specs.Past.{steps_of}
+use Rattle.client_turns.specs.Past.{steps_of}
 use Rattle.sync_engine.specs.Standing.{Kept}
 use Rattle.sync_engine.specs.Telling.{MovesBy}
-use Rattle.sync_engine.specs.Turns.{answered, refused}
-use Rattle.sync_engine.specs.Writing.{first_batch, member_name}
-use Rattle.sync_engine.specs.declared.refusal.Refusal.TheVariants.{BadMessage, StreamState}
+use Rattle.client_turns.specs.Turns.{answered, refused}
+use Rattle.client_turns.specs.Writing.{first_batch, member_name}
+use Rattle.client_turns.specs.declared.refusal.Refusal.TheVariants.{BadMessage, StreamState}
 use Rattle.sync_engine.proofs.Closed.{shaken_is, unfit_is, written_as, written_unopened}
 use Rattle.sync_engine.proofs.Committed.{nothing_moves}
 use Rattle.sync_engine.proofs.Handing.{hands_refused}

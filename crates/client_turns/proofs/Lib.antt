@@ -1,0 +1,14 @@
+pub mod Among
+pub mod Current
+pub mod Given
+pub mod HeardOnes
+pub mod Lists
+pub mod Ones
+pub mod Ordered
+pub mod Reading
+pub mod Refused
+pub mod Requested
+pub mod Requests
+pub mod Sent
+pub mod Steps
+pub mod Wanted

@@ -1,0 +1,14 @@
+pub mod Answers
+pub mod Asking
+pub mod Blanking
+pub mod Hearing
+pub mod Laws
+pub mod LimboListens
+pub mod Lines
+pub mod Order
+pub mod Past
+pub mod Settling
+pub mod Turn
+pub mod Turns
+pub mod Watching
+pub mod Writing

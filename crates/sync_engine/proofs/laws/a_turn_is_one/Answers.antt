@@ -1,5 +1,0 @@
-use Rattle.sync_engine.proofs.Ones.{a_turn_is_one}
-use Rattle.sync_engine.proofs.laws.a_turn_is_one.Goals as goal
-
-pub returns : goal.returns
-returns c = a_turn_is_one

@@ -1,5 +1,0 @@
-use Rattle.sync_engine.proofs.Ordered.{writes_go_in_order}
-use Rattle.sync_engine.proofs.laws.writes_go_in_order.Goals as goal
-
-pub returns : goal.returns
-returns c = writes_go_in_order
