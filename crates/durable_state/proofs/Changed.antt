@@ -61,15 +61,6 @@ pub entry_by : (b : Bool) (e : Entry) (s : Seal) (found : Option (Entry × Seal)
 entry_by true e s found = refl
 entry_by false e s found = refl
 
-pub cached_more : (entries : EntryMap) (seal : Seal) (cs : List KeyedEntry) (i : ℕ) (c : KeyedEntry) (q : List (List ℕ)) → i < length cs → c ≡ get_or cs i c
-    → cached (with_all entries (put_changes seal (take (i + 1) cs))) q ≡ cond (is_key c.key q) (Some c.entry) (cached (with_all entries (put_changes seal (take i cs))) q)
-cached_more entries seal cs i c q below is =
-    let front = with_all entries (put_changes seal (take i cs)) in
-    ap (λ l. cached (with_all entries (put_changes seal l)) q) (take_more cs i c below ∙ ap (λ x. take i cs ++ x ∷ []) (sym is))
-    ∙ ap (λ m. cached m q) (put_more entries seal (take i cs) c)
-    ∙ ap (option_map (λ (p : Entry × Seal). p.0)) (get_changed front (c.key, Some (c.entry, seal)) q)
-    ∙ entry_by (is_key c.key q) c.entry seal (finite.get front q)
-
 -- the answer's entry of one key more, or none
 pub answered_one : (seal : Seal) (h : List (List ℕ) → Option Changed) (keys : List (List (List ℕ))) (key : List (List ℕ)) (cs after : List KeyedEntry) (c : KeyedEntry) (found : Option KeyedEntry) → found ≡ Some c → after ≡ cs ++ c ∷ []
     → option_map (put_change seal) found ≡ h key → put_changes seal cs ≡ filter_map h keys → put_changes seal after ≡ filter_map h (keys ++ key ∷ [])

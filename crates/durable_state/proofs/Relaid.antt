@@ -50,9 +50,6 @@ module _ {X : Type 0} (key : X → List (List ℕ)) (xs : List X) (i : ℕ) (x :
   pub passes_still : (p : List (List ℕ) → Bool) → p (key x) ≡ false → filter p (map key (take (i + 1) xs)) ≡ filter p (map key (take i xs))
   passes_still p failed = ap (filter p) keys_more ∙ filter-append p (map key (take i xs)) (key x ∷ []) ∙ ap (λ b. filter p (map key (take i xs)) ++ cond b (key x ∷ []) []) failed ∙ append-nil (filter p (map key (take i xs)))
 
-  pub gains : (p : List (List ℕ) → Bool) → filter p (map key (take (i + 1) xs)) ≡ filter p (map key (take i xs)) ++ cond (p (key x)) (key x ∷ []) []
-  gains p = ap (filter p) keys_more ∙ filter-append p (map key (take i xs)) (key x ∷ [])
-
 pub head_writes : (bs : List Batch) (b : Batch) → Some b ≡ slice_get bs 0 → b.writes ≡ first_writes bs
 head_writes [] b is = cc
 head_writes (first ∷ bs) b is = ap (λ (x : Batch). x.writes) (same_Some b first is)

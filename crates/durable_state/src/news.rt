@@ -35,7 +35,8 @@ impl<'a> Model for News<'a> {
 
     ghost view = { λ news. news.changes.now };
 
-    ghost invariant = { λ news. ForSome news.places (λ places. AreLast (length news.changes.now) news.changes.now places.entries) };
+    ghost invariant = { λ news. ForSome news.places (λ places.
+        AreLast (length news.changes.now) news.changes.now places.entries) };
 }
 
 /// For each key the place of its last change.

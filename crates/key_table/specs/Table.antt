@@ -45,7 +45,8 @@ abbrev pub ordered : Option (BTreeSet (List (List ℕ))) → List (List ℕ) →
 ordered order key = option_map (λ set. list_any (is_key key) set.keys) order
 
 -- one key stands in the order, or doesn't, and every other as it did; and there is no order where there was none
-abbrev pub Orders : List (List ℕ) → Bool → Option (BTreeSet (List (List ℕ))) → Option (BTreeSet (List (List ℕ))) → Type 0
+abbrev pub Orders : List (List ℕ) → Bool
+    → Option (BTreeSet (List (List ℕ))) → Option (BTreeSet (List (List ℕ))) → Type 0
 Orders key there old new = (q : List (List ℕ))
     → ordered new q ≡ option_map (λ had. if is_key key q then there else had) (ordered old q)
 

@@ -123,7 +123,8 @@ impl<V> KeyTable<V> {
         let _places = self.places.iter();
     }
 
-    /// Keeps the keys in order from now on, for listings. It costs nothing where they are kept so already.
+    /// Keeps the keys in order from now on, so that listings are fast; no answer shows it. It costs nothing where they are kept
+    /// so already.
     ///
     /// # Errors
     /// `NoMemory`

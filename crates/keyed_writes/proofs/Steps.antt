@@ -43,14 +43,6 @@ module _ (writes : List Write) (key : List (List ℕ)) where
   pub none_found : (from : ℕ) → from ≤ length writes → Lack from (length writes) → IsNext writes key from (length writes)
   none_found from behind lack = record { behind = behind; within = omega arith; passed = lack; there = λ v under. absurd (omega (arith, under)) }
 
--- no write is linked yet
-pub none_linked : (from : ℕ) (writes : List Write) (firsts : List (List (List ℕ) × ℕ)) (nexts : List ℕ) → from ≡ length writes → firsts ≡ [] → length nexts ≡ length writes → AreLinked from writes firsts nexts
-none_linked from writes firsts nexts all empty long = subst (λ f. AreLinked f writes firsts nexts) (sym all) (subst (λ (t : List (List (List ℕ) × ℕ)). AreLinked (length writes) writes t nexts) (sym empty) (record {
-  first = λ key. none_found writes key (length writes) (omega arith) (λ i w behind before. absurd (omega (arith, behind, before)));
-  long = long;
-  next = λ i w n behind below. absurd (omega (arith, behind, below));
-}))
-
 module _ (writes : List Write) (from place : ℕ) (w : Write) (below : place < length writes) (is : w ≡ get_or writes place w) (next_to : from ≡ place + 1) where
   -- the write before has another key
   further : (key : List (List ℕ)) (found : ℕ) → is_key (key_of w) key ≡ false → IsNext writes key from found → IsNext writes key place found

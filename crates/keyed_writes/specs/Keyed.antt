@@ -18,8 +18,10 @@ pub record IsNext (writes : List Write) (key : List (List ℕ)) (from place : �
   pub there : (w : Write) → place < length writes → is_key (key_of (get_or writes place w)) key ≡ true
 
 -- the table has the first place of each key from this place on, and the list behind each such place the next one of its key
-pub record AreLinked (from : ℕ) (writes : List Write) (firsts : List (List (List ℕ) × ℕ)) (nexts : List ℕ) : Type 0 where
-  pub first : (key : List (List ℕ)) → IsNext writes key from (unwrap_or (lookup (is_key key) firsts) (length writes))
+pub record AreLinked (from : ℕ) (writes : List Write)
+    (firsts : List (List (List ℕ) × ℕ)) (nexts : List ℕ) : Type 0 where
+  pub first : (key : List (List ℕ))
+      → IsNext writes key from (unwrap_or (lookup (is_key key) firsts) (length writes))
   pub long : length nexts ≡ length writes
   pub next : (i : ℕ) (w : Write) (n : ℕ) → from ≤ i → i < length writes
       → IsNext writes (key_of (get_or writes i w)) (i + 1) (get_or nexts i n)

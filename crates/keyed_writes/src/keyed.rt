@@ -33,7 +33,8 @@ impl<'a> Model for KeyedWrites<'a> {
 
     ghost view = { λ keyed. keyed.writes.now };
 
-    ghost invariant = { λ keyed. ForSome keyed.links (λ links. AreLinked 0 keyed.writes.now links.firsts.entries links.nexts.items) };
+    ghost invariant = { λ keyed. ForSome keyed.links (λ links.
+        AreLinked 0 keyed.writes.now links.firsts.entries links.nexts.items) };
 }
 
 /// The first place, from this one on, of a write that has the key; past the last write where none has.
@@ -90,7 +91,8 @@ impl<'a> KeyedWrites<'a> {
     /// The next place behind this one of a write that has the same key; past the last write where none has.
     pub fn after(&self, place: usize) -> usize
         requires { place < length self.now }
-        ensures { (write : Write) → IsNext self.now (key_of (get_or self.now place write)) (place + 1) result }
+        ensures { (write : Write) →
+            IsNext self.now (key_of (get_or self.now place write)) (place + 1) result }
     {
         match &self.links {
             None => scan(self.writes, key_of(&self.writes[place]), place + 1),
