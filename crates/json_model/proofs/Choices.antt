@@ -8,7 +8,7 @@ use Rattle.json_model.specs.Clean.{IsClean, AreClean}
 use Rattle.json_model.specs.Faults.{FaultsAt, MembersFaults, levels_inside}
 use Rattle.json_model.specs.Members.{is_null, takes_null, is_left_out, is_chosen, chosen, is_one_known, only_name, lacks_array, refined}
 use Rattle.json_model.specs.Origin.{Origin}
-use Rattle.json_model.specs.Places.{write_rows, transform_rows, field_filter_rows, member_place, chooses, is_choice, required}
+use Rattle.json_model.specs.Places.{write_rows, transform_rows, field_filter_rows, member_place, is_unknown, chooses, is_choice, required}
 use Rattle.json_model.proofs.Fitting.{own_choice}
 use Rattle.json_model.proofs.Rows.{every_row}
 use Rattle.json_model.proofs.Among.{each_at, chosen_among}
@@ -53,6 +53,10 @@ choice_clean o kind ms k d (limit, name, room, clean) is =
 -- what is chosen is one of the alternatives
 pub chosen_choice : (kind : Object) (ms : Members) (k : List ℕ) (d : Json) → chosen kind ms ≡ (k, d) ∷ [] → is_choice kind k ≡ true
 chosen_choice kind ms k d is = (and_parts (is_choice kind k) _ (chosen_among kind ms k d is).1).0
+
+-- the kind of a value that is given is known
+pub kind_known : (ms : Members) (k : List ℕ) (d : Json) → chosen object.Value ms ≡ (k, d) ∷ [] → is_unknown (member_place object.Value k) ≡ false
+kind_known ms k d is = not-true _ (chosen_choice object.Value ms k d is)
 
 -- the one alternative that is given has this name
 pub only_is : (kind : Object) (ms : Members) (k : List ℕ) (d : Json) → chosen kind ms ≡ (k, d) ∷ [] → only_name (chosen kind ms) ≡ k

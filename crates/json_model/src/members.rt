@@ -54,10 +54,10 @@ pub(crate) fn is_vector_map(object: Object, members: &Map<String, Json>) -> bool
 fn is_chosen(object: Object, name: &str, json: &Json) -> bool
     ensures { result ≡ is_chosen_of object name.now (view json.now) }
 {
-    if !is_choice(object, name) {
+    if json.is_null() && member_place(object, name).is_left_out(json) {
         return false;
     }
-    !member_place(object, name).is_left_out(json)
+    is_choice(object, name)
 }
 
 /// The alternative that is given, with its name, where exactly one is.
@@ -91,6 +91,7 @@ fn only_name(object: Object, members: &Map<String, Json>) -> &str
 }
 
 /// The alternative that is given, with its name, where exactly one is and it is known.
+#[tactic(auto, using(crate::proofs::Choices::kind_known))]
 pub fn only_choice(object: Object, members: &Map<String, Json>) -> Option<(&str, &Json)>
     ensures { MatchOption result
         (is_one_known object (chosen_of object (members_view members.now.entries)) ≡ false)
@@ -99,10 +100,12 @@ pub fn only_choice(object: Object, members: &Map<String, Json>) -> Option<(&str,
     let Some((name, json)) = only_chosen(object, members) else {
         return None;
     };
-    if member_place(object, name).is_unknown() {
-        return None;
+    match object {
+        // the alternatives of a value are the kinds that are known
+        Object::Value => Some((name, json)),
+        _ if member_place(object, name).is_unknown() => None,
+        _ => Some((name, json)),
     }
-    Some((name, json))
 }
 
 /// Whether the object must be an array among values, and isn't one.

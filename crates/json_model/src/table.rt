@@ -1,4 +1,5 @@
-//! The tables: what is to stand under which name of which object. A new object is a row here, and in `specs/Places.antt`.
+//! The tables: what is to stand under which name of which object. A new object is a row here, and in `specs/Places.antt`. A name
+//! is compared with one row after another, so what comes most stands first in the long tables of values, lines and writes.
 
 ghost use Rattle.std.specs.Prelude.{◌≡◌, map, IsTrue};
 ghost use Rattle.json_model.specs.Places as table;
@@ -11,17 +12,17 @@ pub fn value_member(name: &str) -> Place
     ensures { result ≡ table.value_member name.now }
 {
     match name {
-        "arrayValue" => Place::Object(Object::Array),
+        "stringValue" => Place::Leaf(Leaf::Text),
+        "integerValue" => Place::Leaf(Leaf::Integer),
         "booleanValue" => Place::Leaf(Leaf::Boolean),
+        "timestampValue" => Place::Leaf(Leaf::Time),
+        "mapValue" => Place::Object(Object::Map),
+        "arrayValue" => Place::Object(Object::Array),
+        "nullValue" => Place::Leaf(Leaf::Null),
+        "referenceValue" => Place::Leaf(Leaf::Reference),
         "bytesValue" => Place::Leaf(Leaf::Bytes),
         "doubleValue" => Place::Unsupported,
         "geoPointValue" => Place::Unsupported,
-        "integerValue" => Place::Leaf(Leaf::Integer),
-        "mapValue" => Place::Object(Object::Map),
-        "nullValue" => Place::Leaf(Leaf::Null),
-        "referenceValue" => Place::Leaf(Leaf::Reference),
-        "stringValue" => Place::Leaf(Leaf::Text),
-        "timestampValue" => Place::Leaf(Leaf::Time),
         _ => Place::Unknown,
     }
 }
@@ -33,15 +34,15 @@ fn line_member(name: &str) -> Place
     ensures { result ≡ table.placed table.line_rows name.now }
 {
     match name {
-        "close" => Place::Object(Object::CloseLine),
-        "get" => Place::Object(Object::GetLine),
-        "listen" => Place::Object(Object::ListenLine),
-        "open" => Place::Object(Object::OpenLine),
-        "timer" => Place::Object(Object::TimerLine),
-        "unlisten" => Place::Object(Object::UnlistenLine),
-        "watch" => Place::Ignored,
         "write" => Place::Object(Object::WriteLine),
+        "get" => Place::Object(Object::GetLine),
+        "watch" => Place::Ignored,
         "written" => Place::Ignored,
+        "listen" => Place::Object(Object::ListenLine),
+        "unlisten" => Place::Object(Object::UnlistenLine),
+        "open" => Place::Object(Object::OpenLine),
+        "close" => Place::Object(Object::CloseLine),
+        "timer" => Place::Object(Object::TimerLine),
         _ => Place::Unknown,
     }
 }
@@ -88,12 +89,12 @@ fn write_member(name: &str) -> Place
     ensures { result ≡ table.placed table.write_rows name.now }
 {
     match name {
-        "currentDocument" => Place::Object(Object::Condition),
-        "delete" => Place::Leaf(Leaf::Name),
-        "transform" => Place::Unsupported,
         "update" => Place::Object(Object::Update),
         "updateMask" => Place::Object(Object::Mask),
         "updateTransforms" => Place::Series(Series::Transforms),
+        "currentDocument" => Place::Object(Object::Condition),
+        "delete" => Place::Leaf(Leaf::Name),
+        "transform" => Place::Unsupported,
         _ => Place::Unknown,
     }
 }
@@ -571,9 +572,9 @@ fn is_write_choice(name: &str) -> bool
     ensures { result ≡ table.is_write_choice name.now }
 {
     match name {
+        "update" => true,
         "delete" => true,
         "transform" => true,
-        "update" => true,
         _ => false,
     }
 }
