@@ -3,7 +3,7 @@ ghost use Rattle.document_keys.specs.Names.{Root, IsPart, IsSegment, IsRoot, IsK
 ghost use Rattle.std.specs.List.{All};
 ghost use Rattle.document_keys.specs.Paths.{IsFieldName, SpellsPath};
 ghost use Rattle.value_model.specs.Storable.{IsStorableName};
-ghost use Rattle.json_model.specs.References.{SpellsReference, IsUnder, HasDocumentFault, HasReferenceFault};
+ghost use Rattle.json_model.specs.References.{SpellsReference, IsUnder, root_of, HasDocumentFault, HasReferenceFault};
 ghost use Rattle.json_model.specs.Faults.{FirstOf, IsFault};
 ghost use Rattle.json_model.specs.Leaves.{IsNameFault, FieldNameFaults, PathFaults, SpellsFieldPath, HasFieldPathFault, QueryPathFaults, SpellsQueryPath, HasManyNames, bad_name as bad_name_of};
 
@@ -107,6 +107,24 @@ fn read_root(alloc: Global, text: &str) -> Result<Option<Database>, NoMemory>
     Ok(Some(Database::from_segments(alloc, project, name)?))
 }
 
+/// The name of the document of that key in the database.
+fn name_in(alloc: Global, root: &Database, key: DocumentKey) -> Result<RefName, NoMemory>
+    ensures database { IfOk result (λ name. root_of name ≡ root.now) }
+    ensures key { IfOk result (λ name. name.key ≡ key) }
+    ensures storable { IfOk result IsStorableName }
+{
+    let project = root.project().copy(alloc)?;
+    let database = root.name().copy(alloc)?;
+    show_segment(&project);
+    show_segment(&database);
+    show_key(&key);
+    Ok(RefName {
+        project,
+        database,
+        key,
+    })
+}
+
 /// The document, of any database, whose name is the text.
 ///
 /// # Errors
@@ -124,16 +142,7 @@ pub fn read_reference(alloc: Global, text: &str) -> Result<RefName, JsonFault>
         Ok(key) => key,
         Err(fault) => return Err(fault),
     };
-    let project = root.project().copy(alloc)?;
-    let database = root.name().copy(alloc)?;
-    show_segment(&project);
-    show_segment(&database);
-    show_key(&key);
-    Ok(RefName {
-        project,
-        database,
-        key,
-    })
+    Ok(name_in(alloc, &root, key)?)
 }
 
 /// The fault of a field's name.

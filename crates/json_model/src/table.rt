@@ -1,7 +1,10 @@
 //! The tables: what is to stand under which name of which object. A new object is a row here, and in `specs/Places.antt`. A name
 //! is compared with one row after another, so what comes most stands first in the long tables of values, lines and writes.
 
-ghost use Rattle.std.specs.Prelude.{◌≡◌, map, IsTrue};
+ghost use Rattle.std.specs.Prelude.{◌≡◌, map, IsTrue, if◌then◌else◌};
+ghost use Rattle.std.specs.Str.{bytes_eq};
+ghost use Rattle.json_model.specs.declared.place.Leaf.TheVariants as leaves;
+ghost use Rattle.json_model.specs.declared.place.Place.TheVariants as places;
 ghost use Rattle.json_model.specs.Places as table;
 
 use crate::place::{Constants, Leaf, Object, Place, Series};
@@ -437,23 +440,38 @@ fn write_result_member(name: &str) -> Place
     }
 }
 
+/// The place, under the only name that is known.
+fn only(name: &str, known: &str, place: Place) -> Place
+    ensures { result ≡ (if bytes_eq name.now known.now then place else places.Unknown) }
+{
+    if name == known {
+        return place;
+    }
+    Place::Unknown
+}
+
+/// The place of one of several texts.
+fn constant(texts: Constants) -> Place
+    ensures { result ≡ places.Leaf (leaves.Constant texts) }
+{
+    Place::Leaf(Leaf::Constant(texts))
+}
+
 /// What an object of one member holds.
 fn lone_member(object: Object, name: &str) -> Place
     requires { IsTrue (table.has_one_member object) }
     ensures { result ≡ table.member_place object name.now }
 {
     match object {
-        Object::Array | Object::Elements if name == "values" => Place::Series(Series::Values),
-        Object::Map if name == "fields" => Place::Object(Object::Fields),
-        Object::GetLine if name == "name" => Place::Leaf(Leaf::Name),
-        Object::UnlistenLine if name == "id" => Place::Leaf(Leaf::ListenerId),
-        Object::OpenLine if name == "stream" => {
-            Place::Leaf(Leaf::Constant(Constants::StreamName))
-        }
-        Object::TimerLine if name == "name" => Place::Leaf(Leaf::Constant(Constants::TimerName)),
-        Object::Documents if name == "documents" => Place::Series(Series::Names),
-        Object::Field if name == "fieldPath" => Place::Leaf(Leaf::QueryPath),
-        _ => Place::Unknown,
+        Object::Array | Object::Elements => only(name, "values", Place::Series(Series::Values)),
+        Object::Map => only(name, "fields", Place::Object(Object::Fields)),
+        Object::GetLine => only(name, "name", Place::Leaf(Leaf::Name)),
+        Object::UnlistenLine => only(name, "id", Place::Leaf(Leaf::ListenerId)),
+        Object::OpenLine => only(name, "stream", constant(Constants::StreamName)),
+        Object::TimerLine => only(name, "name", constant(Constants::TimerName)),
+        Object::Documents => only(name, "documents", Place::Series(Series::Names)),
+        Object::Field => only(name, "fieldPath", Place::Leaf(Leaf::QueryPath)),
+        _ => unreachable!(),
     }
 }
 
