@@ -58,7 +58,7 @@ own_only kind name ds none = untold (lacks_only kind ds) (json_fault.BadShape na
 only_own : (kind : Series) (name : List ℕ) (ds : Items) → lacks_only kind ds ≡ false → own_list_faults kind name ds ≡ []
 only_own kind name ds only = ap (λ (b : Bool). if b then json_fault.BadShape name ∷ [] else []) only
 
-none_deep : (limit levels : ℕ) → levels ≤ limit → depth_faults limit levels ≡ []
+pub none_deep : (limit levels : ℕ) → levels ≤ limit → depth_faults limit levels ≡ []
 none_deep limit levels room = by (nat_lt limit levels) refl
   where
     by : (b : Bool) → nat_lt limit levels ≡ b → (if b then json_fault.TooDeep ∷ [] else []) ≡ []

@@ -15,6 +15,7 @@ pub mod OneLeaf
 pub mod OneName
 pub mod OneChosen
 pub mod Walked
+pub mod Lone
 pub mod Trees
 pub mod Among
 pub mod Sound

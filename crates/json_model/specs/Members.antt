@@ -1,5 +1,5 @@
 -- The members of JSON objects. A member whose value is null counts as left out.
-use Rattle.std.specs.Prelude.{ℕ, List, [], ◌∷◌, Bool, true, false, not, ◌&&◌, ◌||◌, Option, Some, None, cond, is_some, codes, option_and_then, if◌then◌else◌}
+use Rattle.std.specs.Prelude.{◌≡◌, ℕ, List, [], ◌∷◌, Bool, true, false, not, ◌&&◌, ◌||◌, Option, Some, None, cond, is_some, codes, option_and_then, if◌then◌else◌}
 use Rattle.std.specs.Ordering.{nat_cmp, match_ordering}
 use Rattle.std.specs.Cmp.Lexicographic.{slice_cmp}
 use Rattle.std.specs.Str.{bytes_eq}
@@ -82,6 +82,13 @@ lacks_array _ ms = false
 -- the object must have exactly one of several members, or just an array, and hasn't
 abbrev pub lacks_choice : Object → Members → Bool
 lacks_choice o ms = lacks_array o ms || (chooses o && not (is_one_known o (chosen o ms)))
+
+-- a value with one member: that of a scalar kind, which isn't left out
+pub record IsLone (kind : Object) (ms : Members) (scalar : Leaf) (name : List ℕ) (inner : Json) : Type 0 where
+  pub value : kind ≡ object.Value
+  pub alone : ms ≡ member name inner no_members
+  pub stands : place.Leaf scalar ≡ member_place object.Value name
+  pub there : is_left_out (place.Leaf scalar) inner ≡ false
 
 -- ---- what the members make of an object
 

@@ -1,11 +1,11 @@
-ghost use Rattle.std.specs.Prelude.{◌≡◌, ◌≢◌, [], ◌∷◌, length, false, codes, MatchOption, option_map};
+ghost use Rattle.std.specs.Prelude.{◌≡◌, ◌≢◌, [], ◌∷◌, length, false, codes, IfSome, MatchOption, option_map};
 ghost use Rattle.serde_json.specs.Find.{get_member};
 ghost use Rattle.serde_json.specs.View.{view, members_view};
-ghost use Rattle.json_model.specs.Members.{given as given_of, is_vector_map as is_vector_map_of, is_vector as is_vector_of, is_chosen as is_chosen_of, chosen as chosen_of, is_one_known, only_name as only_name_of, lacks_array as lacks_array_of, lacks_choice as lacks_choice_of, is_of_array as is_of_array_of, takes_list as takes_list_of, refined as refined_of};
+ghost use Rattle.json_model.specs.Members.{IsLone, given as given_of, is_vector_map as is_vector_map_of, is_vector as is_vector_of, is_chosen as is_chosen_of, chosen as chosen_of, is_one_known, only_name as only_name_of, lacks_array as lacks_array_of, lacks_choice as lacks_choice_of, is_of_array as is_of_array_of, takes_list as takes_list_of, refined as refined_of};
 ghost use Rattle.json_model.specs.Places.{member_place as member_place_of, is_unknown as is_unknown_of};
 
 use crate::constants::is_list_operator;
-use crate::place::Object;
+use crate::place::{Leaf, Object, Place};
 use crate::table::{chooses, is_choice, member_place};
 use serde_json::{Map, Value as Json};
 
@@ -106,6 +106,37 @@ pub fn only_choice(object: Object, members: &Map<String, Json>) -> Option<(&str,
         _ if member_place(object, name).is_unknown() => None,
         _ => Some((name, json)),
     }
+}
+
+/// The one member of a value: its kind, with its name and what stands under it.
+#[derive(Clone, Copy)]
+pub(crate) struct LoneScalar<'a> {
+    pub leaf: Leaf,
+    pub name: &'a str,
+    pub json: &'a Json,
+}
+
+/// The scalar that a value is, where it has no other member. None for other objects, and where it is left out.
+#[tactic(auto, using(crate::proofs::Lone::alone))]
+pub(crate) fn lone_scalar(object: Object, members: &Map<String, Json>) -> Option<LoneScalar<'_>>
+    ensures { IfSome result (λ scalar. IsLone object (members_view members.now.entries)
+        scalar.leaf scalar.name.now (view scalar.json.now)) }
+{
+    let Object::Value = object else {
+        return None;
+    };
+    if members.len() != 1 {
+        return None;
+    }
+    let (key, json) = members.first_key_value()?;
+    let name = key.as_str();
+    let Place::Leaf(leaf) = member_place(Object::Value, name) else {
+        return None;
+    };
+    if Place::Leaf(leaf).is_left_out(json) {
+        return None;
+    }
+    Some(LoneScalar { leaf, name, json })
 }
 
 /// Whether the object must be an array among values, and isn't one.

@@ -19,6 +19,7 @@ use crate::clean_leaves::{
     clean_boolean, clean_bytes, clean_integer, clean_name, clean_reference, clean_text, clean_time,
 };
 use crate::fault::JsonFault;
+use crate::members::lone_scalar;
 use crate::place::{Leaf, Object, Place, Series};
 use crate::setting::Setting;
 use crate::side::Side;
@@ -144,6 +145,9 @@ pub fn clean_value(alloc: Global, setting: &Setting<'_>, json: &Json) -> Result<
     ensures deep { IfOk result (λ v. depth v ≤ max_nesting) }
 {
     let members = clean_object(setting, Object::Value, json);
+    if let Some(scalar) = lone_scalar(Object::Value, members) {
+        return build_scalar(alloc, setting, scalar.leaf, scalar.json);
+    }
     let (name, inner) = clean_choice(setting, Object::Value, members);
     build_kind(alloc, setting, value_member(name), inner)
 }

@@ -9,7 +9,7 @@ ghost use Rattle.json_model.specs.Places.{required as required_of};
 
 use crate::fault::{JsonFault, improve};
 use crate::leaves::{bad_shape_unless, find_flat};
-use crate::members::{given, is_vector_map, lacks_choice, refined};
+use crate::members::{given, is_vector_map, lacks_choice, lone_scalar, refined};
 use crate::names::{count_names, find_in_field_name};
 use crate::place::{Object, Place, Series};
 use crate::reading::MAX_NESTING;
@@ -131,6 +131,15 @@ pub fn find_fault(
             let Place::Object(object) = place else {
                 return find_flat(alloc, setting, place, name, json);
             };
+            if let Some(scalar) = lone_scalar(object, members) {
+                return find_flat(
+                    alloc,
+                    setting,
+                    Place::Leaf(scalar.leaf),
+                    scalar.name,
+                    scalar.json,
+                );
+            }
             if let Some(fault) = own_fault(alloc, object, name, members)? {
                 return Ok(Some(fault));
             }

@@ -13,6 +13,7 @@ use Rattle.json_model.specs.Clean.{ItemsAreClean}
 use Rattle.json_model.specs.Grammar.{SpellsKind, SpellsItems, SpellsMembers, as_scalar, no_member}
 use Rattle.json_model.proofs.Built.{kind_known, no_other_kind, whole_list, one_more, item_clean, field_clean, member_skip, member_more, a_value, a_full_list}
 use Rattle.json_model.proofs.Deep.{clean_deep, value_within, values_within}
+use Rattle.json_model.proofs.Lone.{lone_is_scalar, lone_clean, lone_value}
 use Rattle.json_model.proofs.Stored.{keys_put, members_put}
 use Rattle.json_model.proofs.Trees.{null_test, item_depth, entry_depth}
 use Rattle.json_model.proofs.reading.+build.Goals as goal
@@ -65,6 +66,19 @@ clean_fields-loop-key-preserved t c = (
   rw (c.in_ok-put.ensures.done, c.in_ok-name.ensures) (keys_put _ _ c.in_ok-value.value c.loop-key.invariant.3 c.show_text.ensures.utf8),
   rw (c.in_ok-put.ensures.done, c.in_ok-name.ensures) (members_put _ _ _ c.loop-key.invariant.4 c.in_ok-value.ensures.storable),
 )
+
+pub clean_value-build_scalar-requires : goal.clean_value-build_scalar-requires
+clean_value-build_scalar-requires t c = record {
+  scalar = lone_is_scalar _ _ _ _ _ c.in-Some.ensures;
+  clean = lone_clean _ _ _ _ _ _ c.clean_object-members.ensures.clean c.in-Some.ensures;
+}
+
+pub clean_value-returns-in-Some-clause-value : goal.clean_value-returns-in-Some-clause-value
+clean_value-returns-in-Some-clause-value t c = IfOk-weaker c.build_scalar.result _ _ (λ v spells. lone_value _ v _ _ _ _ _ c.clean_object-members.ensures.is c.in-Some.ensures spells) c.build_scalar.ensures.found
+
+pub clean_value-returns-in-Some-clause-deep : goal.clean_value-returns-in-Some-clause-deep
+clean_value-returns-in-Some-clause-deep t c =
+    IfOk-weaker c.build_scalar.result _ _ (λ v spells. value_within _ _ v c.requires (lone_value _ v _ _ _ _ _ c.clean_object-members.ensures.is c.in-Some.ensures spells)) c.build_scalar.ensures.found
 
 pub clean_value-build_kind-requires : goal.clean_value-build_kind-requires
 clean_value-build_kind-requires t c =

@@ -9,6 +9,7 @@ use Rattle.json_model.specs.Places.{required}
 use Rattle.json_model.specs.Ranks.{better}
 use Rattle.json_model.specs.Faults.{FirstOf, InLevels, MembersFaults, levels_inside, own_faults, own_list_faults}
 use Rattle.json_model.proofs.Walked.{own_in_object, own_in_series, or_inside, in_levels, at_object, at_series, flat_object, flat_list, flat_scalar, names_of, if_ok, view_null, view_boolean, view_number, view_string, items_start, items_step, members_skip, members_step, members_end}
+use Rattle.json_model.proofs.Lone.{lone_faults}
 use Rattle.json_model.proofs.walk.+find.Goals as goal
 
 pub find_fault-returns-in_default : goal.find_fault-returns-in_default
@@ -17,8 +18,12 @@ find_fault-returns-in_default t c =
 
 pub find_fault-returns-in-Some : goal.find_fault-returns-in-Some
 find_fault-returns-in-Some t c = rw c.in-Object-place.is
-    (own_in_object c.args.setting.now c.args.limit c.args.name.now _ _ (members_view c.in-Object.members.entries) c.in-Object-place.object c.in-Some.fault refl (ap view c.in-Object.is ∙ view-Object c.in-Object.members)
-    (sym c.in-Some.is ∙ c.in_ok-fault-in-Object.ensures))
+    (if_ok _ _ c.find_flat-in-Some.result (λ found. lone_faults c.args.setting.now c.args.limit c.args.name.now found c.in-Object-place.object _ (members_view c.in-Object.members.entries) _ _ _ (ap view c.in-Object.is ∙ view-Object c.in-Object.members) c.in-Some.ensures) c.find_flat-in-Some.ensures)
+
+pub find_fault-returns-in-Some-2 : goal.find_fault-returns-in-Some-2
+find_fault-returns-in-Some-2 t c = rw c.in-Object-place.is
+    (own_in_object c.args.setting.now c.args.limit c.args.name.now _ _ (members_view c.in-Object.members.entries) c.in-Object-place.object c.in-Some-2.fault refl (ap view c.in-Object.is ∙ view-Object c.in-Object.members)
+    (sym c.in-Some-2.is ∙ c.in_ok-fault-in-Object.ensures))
 
 pub find_fault-returns-in_ok-inside-in-Object : goal.find_fault-returns-in_ok-inside-in-Object
 find_fault-returns-in_ok-inside-in-Object t c = rw c.in-Object-place.is
@@ -34,10 +39,10 @@ pub find_fault-returns-in_default-place : goal.find_fault-returns-in_default-pla
 find_fault-returns-in_default-place t c =
     if_ok _ _ c.find_flat-in_default-place.result (λ found. flat_list c.args.setting.now c.args.limit c.args.name.now found c.args.place _ (items_view c.in-Array.items.items) (ap view c.in-Array.is ∙ view-Array c.in-Array.items) c.in_default-place.not-Series) c.find_flat-in_default-place.ensures
 
-pub find_fault-returns-in-Some-2 : goal.find_fault-returns-in-Some-2
-find_fault-returns-in-Some-2 t c = rw c.in-Series.is
-    (own_in_series c.args.setting.now c.args.limit c.args.name.now _ _ (items_view c.in-Array.items.items) c.in-Series.series c.in-Some-2.fault refl (ap view c.in-Array.is ∙ view-Array c.in-Array.items)
-    (sym c.in-Some-2.is ∙ c.in_ok-fault-in-Array.ensures))
+pub find_fault-returns-in-Some-3 : goal.find_fault-returns-in-Some-3
+find_fault-returns-in-Some-3 t c = rw c.in-Series.is
+    (own_in_series c.args.setting.now c.args.limit c.args.name.now _ _ (items_view c.in-Array.items.items) c.in-Series.series c.in-Some-3.fault refl (ap view c.in-Array.is ∙ view-Array c.in-Array.items)
+    (sym c.in-Some-3.is ∙ c.in_ok-fault-in-Array.ensures))
 
 pub find_fault-returns-in_default-3 : goal.find_fault-returns-in_default-3
 find_fault-returns-in_default-3 t c = rw c.in-Series.is
