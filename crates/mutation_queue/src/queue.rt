@@ -35,9 +35,10 @@ impl Model for MutationQueue {
 }
 
 impl MutationQueue {
-    /// The empty queue. It takes no memory yet.
+    /// The empty queue, into which none was ever pushed. It takes no memory yet.
     pub fn new(alloc: Global) -> MutationQueue
-        ensures { result.batches ≡ [] }
+        ensures batches { result.batches ≡ [] }
+        ensures pushed { result.pushed ≡ 0 }
     {
         MutationQueue {
             line: Line::new(alloc),

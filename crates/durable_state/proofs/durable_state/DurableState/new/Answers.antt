@@ -10,10 +10,10 @@ pub invariant_of-result : goal.invariant_of-result
 invariant_of-result c = record {
   within = omega arith;
   next = omega arith;
-  fields = subst (All IsBatchOfFields) (sym c.new.ensures) (All-nil IsBatchOfFields);
+  fields = subst (All IsBatchOfFields) (sym c.new.ensures.batches) (All-nil IsBatchOfFields);
   map = c.is_map.ensures;
-  laid = first_laid (record { number = 0; batches = c.new.result.batches; next_batch = 1; entries = entries_in c.new-entries.result; last_read = None; rows = c.new-2.result.rows }) c.new-3.result c.new.ensures c.new-3.ensures;
+  laid = first_laid (record { number = 0; batches = c.new.result.batches; next_batch = 1; entries = entries_in c.new-entries.result; last_read = None; rows = c.new-2.result.rows }) c.new-3.result c.new.ensures.batches c.new-3.ensures;
 }
 
 pub returns : goal.returns
-returns c = rw (c.new.ensures, c.new-2.ensures, first_entries c.new-entries.result c.is_map.ensures c.new-entries.ensures) refl
+returns c = rw (c.new.ensures.batches, c.new-2.ensures, first_entries c.new-entries.result c.is_map.ensures c.new-entries.ensures) refl
