@@ -62,6 +62,11 @@ abbrev pub ChangesTarget : ℕ → Option ℤ → Table → Table → Type 0
 ChangesTarget id target old new = (q : ℕ)
     → target_of new q ≡ (if is_id id q then target else target_of old q)
 
+-- the table with the listener at the id
+abbrev pub Puts : ℕ → Listening → Table → Table → Type 0
+Puts id listener old new = (q : ℕ)
+    → lookup (is_id q) new ≡ (if is_id id q then Some listener else lookup (is_id q) old)
+
 -- a view of the target that has raised no snapshot
 abbrev pub fresh : Target → Viewed
 fresh target = record { target = target; raised = None }

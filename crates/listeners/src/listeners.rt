@@ -1,4 +1,4 @@
-ghost use Rattle.std.specs.Prelude.{◌≡◌, ◌↔◌, ◌<◌, ◌<ℤ◌, ℕ, ℤ, None, Some, IfOk, IsSome, IsTrue, OnErr, OnOk, option_map};
+ghost use Rattle.std.specs.Prelude.{◌≡◌, ◌↔◌, ◌<◌, ◌<ℤ◌, ℕ, ℤ, None, Some, IfErr, IfOk, IsSome, IsTrue, OnErr, OnOk, option_map};
 ghost use Rattle.std.specs.BTreeMap.{IsOrdered, keys};
 ghost use Rattle.std.specs.List.{AllPairs, Contains};
 ghost use Rattle.std.specs.Ordering.{nat_cmp};
@@ -6,7 +6,7 @@ ghost use Rattle.listeners.specs.Concerns.{AddsConcernedOnly, HasAllConcerned, I
 ghost use Rattle.listeners.specs.Ids.{KeepsMembers, has_id};
 ghost use Rattle.listeners.specs.Places.{is_among};
 ghost use Rattle.listeners.specs.Refreshing.{IsOverAt, RefreshesAt};
-ghost use Rattle.listeners.specs.Table.{Changes, ChangesTarget, IsWanted, KeepsTargets, SameViews, fresh, target_of, viewed};
+ghost use Rattle.listeners.specs.Table.{Changes, ChangesTarget, IsWanted, KeepsTargets, Puts, SameViews, fresh, target_of, viewed};
 
 use crate::id_set;
 use crate::indexes::Indexes;
@@ -84,6 +84,25 @@ fn keys_of(alloc: Global, listeners: &BTreeMap<u32, Listener>) -> Result<Vec<u32
     Ok(ids)
 }
 
+/// Puts the listener into the table; where memory is missing, nothing changes and it is handed back.
+fn put_listener(
+    listeners: &mut BTreeMap<u32, Listener>,
+    id: u32,
+    listener: Listener,
+) -> Result<(), Listener>
+    ensures put { OnOk result (Puts id listener listeners.old.entries listeners.new.entries) }
+    ensures kept { IfErr result (λ back. (back ≡ listener)
+        × (listeners.new.entries ≡ listeners.old.entries)) }
+{
+    match listeners.insert(id, listener) {
+        Ok(_) => Ok(()),
+        Err(refused) => {
+            let (_, listener) = refused.value;
+            Err(listener)
+        }
+    }
+}
+
 impl Listeners {
     /// No listeners. It takes no memory yet.
     pub fn new(alloc: Global) -> Listeners
@@ -149,10 +168,9 @@ impl Listeners {
     {
         let listener = Listener::new(alloc, query, target)?;
         self.indexes.put(alloc, &listener, id)?;
-        match self.listeners.insert(id, listener) {
-            Ok(_) => Ok(()),
-            Err(refused) => {
-                let (_, listener) = refused.value;
+        match put_listener(&mut self.listeners, id, listener) {
+            Ok(()) => Ok(()),
+            Err(listener) => {
                 self.indexes.take(&listener, id);
                 Err(NoMemory)
             }

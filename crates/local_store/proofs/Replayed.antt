@@ -54,21 +54,25 @@ around payloads i payload here =
 
 -- a payload that spells no commit that fits leads nowhere
 pub stuck : (payloads : List (List ℕ)) (i : ℕ) (payload : List ℕ) (before : State) → slice_get payloads i ≡ Some payload → Replays start (take i payloads) before
-    → ((c : Commit) → HasSpelling c → payload ≡ spelling c → Fits before c → ⊥) → (s : State) → Replays start payloads s → ⊥
+    → ((t : State) → Replays before (payload ∷ []) t → ⊥) → (s : State) → Replays start payloads s → ⊥
 stuck payloads i payload before here so_far none s all =
     let next = replays_at start (take i payloads) payload (drop (suc i) payloads) s (subst (λ (l : List (List ℕ)). Replays start l s) (around payloads i payload here) all) in
     let same = replays_once start (take i payloads) next.before before next.replays so_far in
-    none next.commit next.has next.is (subst (λ (t : State). Fits t next.commit) same next.fits)
+    none (committed before next.commit) (next.commit, next.has, next.is, subst (λ (t : State). Fits t next.commit) same next.fits, refl)
+
+-- bytes that spell no commit that fits
+pub unspelled : (before : State) (bytes : List ℕ) → ((c : Commit) → HasSpelling c → bytes ≡ spelling c → ⊥) → (t : State) → Replays before (bytes ∷ []) t → ⊥
+unspelled before bytes none t (c, has, is, fits, _) = none c has is
 
 -- a payload whose commit doesn't fit spells no other that does
-pub unfit : (before : State) (first : Commit) (bytes : List ℕ) → HasSpelling first × (bytes ≡ spelling first) → (Fits before first → ⊥) → (c : Commit) → HasSpelling c → bytes ≡ spelling c → Fits before c → ⊥
-unfit before first bytes spelled no_fit c has is fits = no_fit (subst (λ (d : Commit). Fits before d) (one_value c first has spelled.0 (sym is ∙ spelled.1)) fits)
+pub unfit : (before : State) (first : Commit) (bytes : List ℕ) → HasSpelling first × (bytes ≡ spelling first) → (Fits before first → ⊥) → (t : State) → Replays before (bytes ∷ []) t → ⊥
+unfit before first bytes spelled no_fit t (c, has, is, fits, _) = no_fit (subst (λ (d : Commit). Fits before d) (one_value c first has spelled.0 (sym is ∙ spelled.1)) fits)
 
 -- the next payload leads on
-pub leads_on : (payloads : List (List ℕ)) (i : ℕ) (payload : List ℕ) (commit : Commit) (before : State) → slice_get payloads i ≡ Some payload
-    → HasSpelling commit → payload ≡ spelling commit → Fits before commit → Replays start (take i payloads) before
-    → Replays start (take (i + 1) payloads) (committed before commit)
-leads_on payloads i payload commit before here has is fits so_far =
+pub leads_on : (payloads : List (List ℕ)) (i : ℕ) (payload : List ℕ) (before behind : State) → slice_get payloads i ≡ Some payload
+    → Replays before (payload ∷ []) behind → Replays start (take i payloads) before → Replays start (take (i + 1) payloads) behind
+leads_on payloads i payload before behind here (commit, has, is, fits, so) so_far =
     let more : take (i + 1) payloads ≡ take i payloads ++ payload ∷ [] =
     take_more payloads i payload (slice_get_within payloads i payload here) ∙ ap (λ (q : List ℕ). take i payloads ++ q ∷ []) (get_or_from_slice_get payloads i payload payload here) in
-    subst (λ (l : List (List ℕ)). Replays start l (committed before commit)) (sym more) (replays_push start (take i payloads) before payload commit so_far has is fits)
+    subst (λ (l : List (List ℕ)). Replays start l behind) (sym more)
+    (subst (Replays start (take i payloads ++ payload ∷ [])) (sym so) (replays_push start (take i payloads) before payload commit so_far has is fits))

@@ -40,7 +40,7 @@ use Rattle.views.specs.declared.standing.Standing.{Standing}
 use Rattle.watch_aggregator.specs.Effects.{Gives}
 use Rattle.watch_aggregator.specs.declared.effect.Effect.TheVariants as effect
 use Rattle.client_turns.specs.Answers.{Answers}
-use Rattle.sync_engine.specs.Dropping.{AreBlankedIn, AreMovedBy, AreToldListens, Drops, HoldsOne, ShareOne}
+use Rattle.sync_engine.specs.Dropping.{AreBlankedIn, AreMovedBy, AreToldListens, Drops, HoldsOne, LetsGo, ShareOne}
 use Rattle.client_turns.specs.Hearing as hearing
 use Rattle.client_turns.specs.Hearing.{AreBlankedFor, AreDropped, HeardTurn, Holds, commits_if_left}
 use Rattle.client_turns.specs.LimboListens.{heard_limbo, is_running, limbo_of, without_all}
@@ -54,6 +54,7 @@ use Rattle.sync_engine.specs.Telling.{AreListenersIn, HandsSettled, IsQuietOrAmo
 use Rattle.client_turns.specs.Turn.{answered_next}
 use Rattle.client_turns.specs.Turns.{commits, refused}
 use Rattle.client_turns.specs.Watching.{calls_of, current_keys}
+use Rattle.sync_engine.specs.declared.dropping.Going.{Going}
 use Rattle.sync_engine.specs.declared.out.Out.{Out}
 use Rattle.sync_engine.specs.declared.out.Out.TheVariants.{Error}
 use Rattle.sync_engine.specs.declared.out.Outcome.TheVariants.{Done}
@@ -280,6 +281,10 @@ module _ (old mid new : Kept) (past : Past) (change : TargetChange) (ids : List 
       (handed old.store.state past (event.Watch (sent.Target change)) answer mid new before vec.items answers refl stays rest
       (raises (subst (λ (l : List ℕ). IsQuietOrAmong l mid) (sym same) quiet_or_moved)) (λ q. errors_raise q status those)
       (subst (λ (os : List Out). AllZip (IsShown new) os (each (λ id. error id status) those)) (sym begins) (errors_shown new status those)))
+
+-- the listeners that ended are the same ones by another name
+pub gone_of : {ended : List ℤ} {keys : List Key} {going : Going} {given those : List ℕ} {old new : Kept} → given ≡ those → LetsGo ended keys going given old new → LetsGo ended keys going those old new
+gone_of {ended} {keys} {going} {old = old} {new = new} same it = subst (λ (l : List ℕ). LetsGo ended keys going l old new) same it
 
 -- documents in limbo are dropped
 pub hands_drop : {old new : Kept} (mid : Kept) {past : Past} {before : List Out} {vec : Vec Out Global} {given : List ℕ} (response : ListenResponse) (ids : List ℤ) (status : RpcStatus) (keys : List Key) (rows those moved : List ℕ) (told : List ℤ) (heard : WatchStream)

@@ -1,6 +1,7 @@
 -- a client that stands for what it has heard, but that its listeners may still have to raise something
 use Rattle.std.proofs.Common.{◌≡◌, ℕ, ◌≤◌, ℤ, List, [], length, Option, Some, None, IfSome, sym, ap, subst, ◌∙◌}
 use Rattle.std.specs.List.{list_any}
+use Rattle.host_api.specs.Host.{View}
 use Rattle.client_events.specs.declared.event.Event.{Event}
 use Rattle.listen_protocol.specs.Calls.{Calls}
 use Rattle.document_keys.specs.Names.{Root}
@@ -9,6 +10,7 @@ use Rattle.limbo_resolver.specs.Laws.{IsSound}
 use Rattle.limbo_resolver.specs.Limbo.{Key, Limbo}
 use Rattle.listeners.specs.Table.{Table, target_of, viewed}
 use Rattle.local_store.specs.State.{State}
+use Rattle.local_store.specs.Store.{IsSpent, IsStored}
 use Rattle.views.specs.Viewed.{Viewed}
 use Rattle.write_pipeline.specs.Order.{outstanding}
 use Rattle.sync_engine.specs.declared.watch_stream.WatchStream.{WatchStream}
@@ -19,6 +21,8 @@ use Rattle.sync_engine.specs.Standing.{IsQuiet, Kept, StandsFor, StandsOn, Stand
 use Rattle.client_turns.specs.Turn.{answered_next}
 use Rattle.client_turns.specs.Turns.{after}
 use Rattle.client_turns.specs.Watching.{WatchStep, begun, calls_of, is_target, is_wanted, listened, passes, requested_in, step_by}
+use Rattle.sync_engine.specs.Telling.{MovesBy}
+use Rattle.sync_engine.proofs.Committed.{moves_still, nothing_moves}
 use Rattle.sync_engine.proofs.Passing.{watches_passes}
 use Rattle.target_cache.specs.declared.row.Row.{Row}
 
@@ -110,3 +114,7 @@ follows_plain {old} {s} {past} mid e answer stands it state listeners limbo watc
 -- what holds of the state that the client keeps holds of the one that it stands for
 pub by_state : {client : Kept} {s : State} {past : Past} (P : State → Type 0) → StandsFor client s past → (StandsFor client client.store.state past → P client.store.state) → P s
 by_state {client} {s} {past} P stands holds = subst P stands.state (holds (subst (λ (t : State). StandsFor client t past) (sym stands.state) stands))
+
+-- where nothing was done, a crash finds the state that the client stands for
+pub nothing_done : {client : Kept} {e : Event} {v : View} → ¬ (IsSpent client.store) → IsStored client.store v → (s : State) (past : Past) → StandsFor client s past → MovesBy s past e v v
+nothing_done {client} {e} {v} whole is s past stands = by_state (λ (t : State). MovesBy t past e v v) stands (λ st. moves_still (nothing_moves client.store.state whole is))

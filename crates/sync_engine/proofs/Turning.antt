@@ -40,7 +40,7 @@ use Rattle.sync_engine.specs.Standing.{IsQuiet, Kept, StandsFor, StandsOn, Watch
 use Rattle.sync_engine.specs.declared.watch_stream.Due.TheVariants.{Nothing, One}
 use Rattle.sync_engine.specs.declared.watch_stream.WatchStream.{WatchStream}
 use Rattle.sync_engine.specs.declared.write_stream.WriteStream.{WriteStream}
-use Rattle.sync_engine.specs.Targets.{GivesTarget, MovesForTarget, given_id, given_state}
+use Rattle.sync_engine.specs.Targets.{GivesTarget, HasBegun, MovesForTarget, given_id, given_state}
 use Rattle.sync_engine.specs.Telling.{HandsSettled, IsQuietOrAmong, IsShown, KeepsListeners, KeepsRest, MovesBy, Raises}
 use Rattle.sync_engine.specs.declared.out.Out.{Out}
 use Rattle.sync_engine.specs.declared.out.Out.TheVariants.{Document, Listening, Wrote}
@@ -317,6 +317,23 @@ module _ (old mid new : Kept) (past : Past) (id : ℕ) (query : Target) (given :
       (subst (λ (os : List Out). AllZip (IsShown new) os first.answer.lines) (sym begins)
       (subst (AllZip (IsShown new) (Listening id target mid.store.state.number ∷ [])) (sym first.lines)
       (sym (ap (λ (t : State). listening id target t.number) gives.state), tt))))
+
+-- a listener began, whose ids are handed out first
+pub has_begun : {old mid new : Kept} {id : ℕ} {query : Target} {target : ℤ} {before outs : List Out} → mid.root ≡ old.root → mid.store ≡ old.store → mid.limbo ≡ old.limbo → mid.writes ≡ old.writes → mid.watch ≡ record old.watch { due = One target }
+    → Changes id (Some (fresh query)) old.listeners mid.listeners → ChangesTarget id (Some target) old.listeners mid.listeners
+    → KeepsRest mid new → (IsQuietOrAmong (id ∷ []) mid → Raises mid new before outs) → before ≡ Listening id target mid.store.state.number ∷ [] → HasBegun id query target old new outs
+has_begun {mid = mid} {new} {outs = outs} root store limbo writes watch listeners targets rest raises begins = record {
+  mid = mid;
+  root = root;
+  store = store;
+  limbo = limbo;
+  writes = writes;
+  watch = watch;
+  listeners = listeners;
+  targets = targets;
+  rest = rest;
+  raises = λ quiet. subst (λ (before : List Out). Raises mid new before outs) begins (raises quiet);
+}
 
 pub taken_answers : {old : Kept} {past : Past} (id : ℕ) (query : Target) (view : Viewed) → StandsFor old old.store.state past → viewed old.listeners id ≡ Some view → Answers old.store.state past (event.Listen id query) (refused (ListenerTaken id))
 taken_answers {old} {past} id query view stands there = subst (λ (v : Option Viewed). Begins old.store.state id query v (refused (ListenerTaken id))) (sym there ∙ stands.listeners id) refl

@@ -1,8 +1,10 @@
 -- How documents in limbo go whose listens the backend ended, by what a client keeps.
-use Rattle.std.specs.Prelude.{◌≡◌, ◌⊎◌, ◌↔◌, ◌<◌, ◌<ℤ◌, ◌||◌, ℕ, ℤ, pos, true, List, Some, None, if◌then◌else◌}
-use Rattle.std.specs.List.{AllPairs, Contains}
+use Rattle.std.specs.Prelude.{◌≡◌, ◌⊎◌, ◌↔◌, ◌<◌, ◌<ℤ◌, ◌||◌, ◌++◌, ℕ, nat_eq, ℤ, pos, true, List, [], map as each, Some, None, if◌then◌else◌}
+use Rattle.std.specs.List.{AllPairs, Contains, list_any}
 use Rattle.durable_state.specs.Rows.{HasRow}
 use Rattle.limbo_resolver.specs.Limbo.{Key, ids_of}
+use Rattle.local_store.specs.State.{committed}
+use Rattle.record_codec.specs.declared.commit.Commit.TheVariants.{Drop}
 use Rattle.listen_protocol.specs.Calls.{Calls, lists}
 use Rattle.listen_protocol.specs.ToldKeys.{told_keys}
 use Rattle.listen_protocol.specs.Transcript.{counts}
@@ -12,8 +14,11 @@ use Rattle.target_cache.specs.Cache.{IsRow}
 use Rattle.target_cache.specs.declared.row.Held.{Held}
 use Rattle.target_cache.specs.declared.row.Row.{Row}
 use Rattle.views.specs.declared.standing.Standing.{Standing}
-use Rattle.sync_engine.specs.Standing.{Kept, standing_in}
+use Rattle.client_turns.specs.LimboListens.{without_all}
+use Rattle.sync_engine.specs.Standing.{Kept, limbo_in, standing_in}
 use Rattle.sync_engine.specs.Stream.{resets_of}
+use Rattle.sync_engine.specs.Telling.{RemovesAll}
+use Rattle.sync_engine.specs.declared.dropping.Going.{Going}
 use Rattle.sync_engine.specs.declared.watch_stream.WatchStream.{WatchStream}
 
 -- one of the keys is among others
@@ -69,3 +74,21 @@ pub record Drops (ended blanked resets : List ℤ) (old new : WatchStream) : Typ
   pub current : (t : ℤ) → standing_in new.current.targets.items t
       ≡ (if lists ended t || lists blanked t then None else standing_in old.current.targets.items t)
   pub due : resets_of new.due ≡ resets
+
+-- What goes where targets ended and the keys with them: these rows are made blank, and the targets of these rows and the
+-- listens of documents in limbo that were told one of the keys are to be removed and added again.
+pub record IsGoing (client : Kept) (h : Calls) (ended : List ℤ) (keys : List Key) (going : Going) : Type 0 where
+  pub rows : AreBlankedIn client h ended keys going.rows.items
+  pub told : List ℤ
+  pub told_are : AreToldListens client h keys told
+  pub resets : going.resets.items ≡ each pos going.rows.items ++ told
+
+-- The keys went, with what goes with them, and these listeners ended.
+pub record LetsGo (ended : List ℤ) (keys : List Key) (going : Going) (those : List ℕ) (old new : Kept) : Type 0 where
+  pub root : new.root ≡ old.root
+  pub state : new.store.state ≡ committed old.store.state (Drop keys going.rows.items)
+  pub writes : new.writes ≡ old.writes
+  pub removed : RemovesAll those old.listeners new.listeners
+  pub forgets : (q : ℕ) → limbo_in new q ≡ (if list_any (nat_eq q) those then [] else limbo_in old q)
+  pub refuses : new.limbo.limbo ≡ record old.limbo.limbo { running = without_all ended old.limbo.limbo.running }
+  pub watch : Drops ended going.blanked.items going.resets.items old.watch new.watch

@@ -1,12 +1,18 @@
 -- The id of a listener's target.
-use Rattle.std.specs.Prelude.{◌≡◌, ℤ, pos, length, Option, Some, None, if◌then◌else◌}
+use Rattle.std.specs.Prelude.{◌≡◌, ℕ, ℤ, pos, length, List, [], ◌∷◌, Option, Some, None, if◌then◌else◌}
 use Rattle.host_api.specs.Host.{View}
+use Rattle.listeners.specs.Table.{Changes, ChangesTarget, fresh}
 use Rattle.local_store.specs.Files.{Moves}
 use Rattle.local_store.specs.State.{State, committed}
 use Rattle.queries.specs.declared.target.Target.{Target}
 use Rattle.record_codec.specs.declared.commit.Commit.TheVariants.{Allocate}
 use Rattle.target_cache.specs.Cache.{TellsId, id_at}
 use Rattle.client_turns.specs.Answers.{are_left}
+use Rattle.sync_engine.specs.Standing.{Kept}
+use Rattle.sync_engine.specs.Telling.{IsQuietOrAmong, KeepsRest, Raises}
+use Rattle.sync_engine.specs.declared.out.Out.{Out}
+use Rattle.sync_engine.specs.declared.out.Out.TheVariants.{Listening}
+use Rattle.sync_engine.specs.declared.watch_stream.Due.TheVariants.{One}
 
 -- the id that a target has, or gets where one is left
 abbrev pub given_id : State → Option ℤ → Option ℤ
@@ -30,3 +36,17 @@ pub record MovesForTarget (s : State) (target : Target) (old new : View) : Type 
   pub found : Option ℤ
   pub tells : TellsId s.rows target found
   pub moves : Moves s (given_state s target found) old new
+
+-- The listener of the query began, at this target, and raised its first snapshot, if it has one.
+pub record HasBegun (id : ℕ) (query : Target) (target : ℤ) (old new : Kept) (outs : List Out) : Type 0 where
+  pub mid : Kept
+  pub root : mid.root ≡ old.root
+  pub store : mid.store ≡ old.store
+  pub limbo : mid.limbo ≡ old.limbo
+  pub writes : mid.writes ≡ old.writes
+  pub watch : mid.watch ≡ record old.watch { due = One target }
+  pub listeners : Changes id (Some (fresh query)) old.listeners mid.listeners
+  pub targets : ChangesTarget id (Some target) old.listeners mid.listeners
+  pub rest : KeepsRest mid new
+  pub raises : IsQuietOrAmong (id ∷ []) mid
+      → Raises mid new (Listening id target mid.store.state.number ∷ []) outs

@@ -52,7 +52,15 @@ impl Model for Client {
 
     ghost coded = { kept_code };
 
-    ghost view = { λ c. record { root = c.root; store = c.store; listeners = c.listeners; limbo = c.limbo; watch = c.watch; writes = c.writes; spent = c.spent } };
+    ghost view = { λ c. record {
+      root = c.root;
+      store = c.store;
+      listeners = c.listeners;
+      limbo = c.limbo;
+      watch = c.watch;
+      writes = c.writes;
+      spent = c.spent;
+    } };
 
     ghost invariant = { λ c. c.spent ≡ false → ¬ (IsStoreSpent c.store) × (c.watch.due ≡ Nothing) };
 }

@@ -30,7 +30,8 @@ impl CurrentTargets {
 
     /// How the target stands, if it is current, lent.
     pub(crate) fn standing(&self, target: &i32) -> Option<&Standing>
-        ensures { option_map (λ standing. standing.now) result ≡ standing_in self.now.targets.items target.now }
+        ensures { option_map (λ standing. standing.now) result
+            ≡ standing_in self.now.targets.items target.now }
     {
         for current in self.targets.iter() {
             if current.id == *target {

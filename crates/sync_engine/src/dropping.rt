@@ -11,12 +11,14 @@ ghost use Rattle.listeners.specs.Ids.{KeepsMembers, has_id};
 ghost use Rattle.listeners.specs.Table.{target_of};
 ghost use Rattle.durable_state.specs.Rows.{HasRow};
 ghost use Rattle.limbo_resolver.specs.Limbo.{Key};
-ghost use Rattle.local_store.specs.State.{State};
+ghost use Rattle.local_store.specs.Files.{Moves};
+ghost use Rattle.local_store.specs.State.{Fits, State, committed};
 ghost use Rattle.local_store.specs.Store.{IsSpent as IsStoreSpent, IsStored};
 ghost use Rattle.outcome_codec.specs.Spelling.{AreSpelledIds};
+ghost use Rattle.record_codec.specs.declared.commit.Commit.TheVariants as commit_of;
 ghost use Rattle.watch_aggregator.specs.Effects.{Gives};
 ghost use Rattle.watch_aggregator.specs.declared.effect.Effect.TheVariants as effect;
-ghost use Rattle.sync_engine.specs.Dropping.{AreBlankedIn, AreMovedBy, AreToldListens, HoldsOne, IsCurrentWithOne, RowHoldsOne, ShareOne, WasToldOne};
+ghost use Rattle.sync_engine.specs.Dropping.{AreBlankedIn, AreMovedBy, AreToldListens, HoldsOne, IsCurrentWithOne, IsGoing, LetsGo, RowHoldsOne, ShareOne, WasToldOne};
 ghost use Rattle.client_turns.specs.Hearing.{AreDropped};
 ghost use Rattle.client_turns.specs.Past.{Past};
 ghost use Rattle.sync_engine.specs.Requesting.{CallsAre};
@@ -71,6 +73,19 @@ fn joined(alloc: Global, ids: &[i32], others: &[i32]) -> Result<Vec<i32>, NoMemo
     all.extend_from_slice(ids)?;
     all.extend_from_slice(others)?;
     Ok(all)
+}
+
+/// What goes with documents in limbo that are dropped.
+#[derive(Drop)]
+pub(crate) struct Going {
+    /// The ids of the rows that are made blank, ascending.
+    rows: Vec<u32>,
+    /// The same as ids of targets.
+    blanked: Vec<i32>,
+    /// The targets that are to be removed and added again.
+    resets: Vec<i32>,
+    /// The listeners that are concerned, ascending.
+    moved: Vec<u32>,
 }
 
 impl Client {
@@ -219,6 +234,78 @@ impl Client {
         Ok(ids)
     }
 
+    /// What goes where the targets ended and the keys go.
+    fn going(&self, alloc: Global, ids: &[i32], keys: &KeySet) -> Result<Going, NoMemory>
+        ensures going { IfOk result (λ going. CallsAre self.now (λ h.
+            IsGoing self.now h ids.now keys.now going)) }
+        ensures known { IfOk result (λ going.
+            All (HasRow self.now.store.state.rows) going.rows.items) }
+        ensures spelled { IfOk result (λ going. AreSpelledIds going.rows.items) }
+        ensures blanked { IfOk result (λ going. going.blanked.items ≡ each pos going.rows.items) }
+        ensures moved { IfOk result (λ going.
+            AreMovedBy self.now keys.now going.blanked.items going.moved.items) }
+    {
+        let rows = self.blanked_rows(alloc, ids, keys)?;
+        let told = self.told_listens(alloc, keys)?;
+        let blanked = as_targets(alloc, rows.as_slice())?;
+        let moved = self.moved_by(alloc, keys, blanked.as_slice())?;
+        let resets = joined(alloc, blanked.as_slice(), told.as_slice())?;
+        Ok(Going {
+            rows,
+            blanked,
+            resets,
+            moved,
+        })
+    }
+
+    /// The keys go, with what goes with them, and these listeners end. Hands out the listeners that are concerned.
+    fn let_go<H: Host>(
+        &mut self,
+        alloc: Global,
+        host: &mut H,
+        ids: &[i32],
+        keys: KeySet,
+        going: Going,
+        listeners: &[u32],
+    ) -> Result<Vec<u32>, ClientFault>
+        requires stored { IsTrue H.tells_files → IsStored self.old.store (H.view host.old) }
+        requires whole { ¬ (IsStoreSpent self.old.store) }
+        requires poised { self.old.spent ≡ true }
+        requires fits { Fits self.old.store.state (commit_of.Drop keys going.rows.items) }
+        requires spelled { AreSpelledIds going.rows.items }
+        ensures gone { OnOk result (LetsGo ids.now keys going listeners.now self.old self.new) }
+        ensures moved { IfOk result (λ moved. moved.items ≡ going.moved.items) }
+        ensures whole { OnOk result (¬ (IsStoreSpent self.new.store)) }
+        ensures root { (self.new.root ≡ self.old.root) × (self.new.spent ≡ self.old.spent) }
+        ensures stored { IsTrue H.tells_files → IsStored self.new.store (H.view host.new) }
+        ensures files { IsTrue H.tells_files
+            → Moves self.old.store.state
+            (committed self.old.store.state (commit_of.Drop keys going.rows.items))
+            (H.view host.old) (H.view host.new) }
+        ensures out { KeepsOut (H.view host.old) (H.view host.new) }
+        ensures unspent { IsErrOf result ClientFault.Spent → ⊥ }
+        ensures counts { RisesAt (IsErrOf result ClientFault.DiskFault)
+            (H.view host.old).disk_faults (H.view host.new).disk_faults }
+    {
+        let Going {
+            rows,
+            blanked,
+            resets,
+            moved,
+        } = going;
+        show_keys(&keys);
+        let ids_of_rows = Sequence::from_vec(rows);
+        let commit = Commit::Drop {
+            keys,
+            ids: ids_of_rows,
+        };
+        self.commit(alloc, host, commit)?;
+        self.remove_listeners(listeners);
+        refuse_all(&mut self.limbo, ids);
+        self.watch.dropped(ids, blanked.as_slice(), resets);
+        Ok(moved)
+    }
+
     /// Targets ended, listens of documents in limbo among them: these documents are dropped, the targets that hold them are reset,
     /// and listeners whose target ended are told so, and end.
     pub(crate) fn drop_documents<H: Host>(
@@ -252,23 +339,14 @@ impl Client {
         ensures counts { RisesAt (IsErrOf result ClientFault.DiskFault)
             (H.view host.old).disk_faults (H.view host.new).disk_faults }
     {
-        let rows = self.blanked_rows(alloc, ids, &keys)?;
-        let told = self.told_listens(alloc, &keys)?;
+        let going = self.going(alloc, ids, &keys)?;
         let listeners = self.listeners_of(alloc, ids)?;
         if self.store.number() >= MOST_COMMITS {
             return Ok(Outcome::Refused(Refusal::IdsSpent, Vec::new(alloc)));
         }
-        let blanked = as_targets(alloc, rows.as_slice())?;
-        let moved = self.moved_by(alloc, &keys, blanked.as_slice())?;
-        let resets = joined(alloc, blanked.as_slice(), told.as_slice())?;
         let mut outs = errors(alloc, listeners.as_slice(), status)?;
         self.watch.heard(alloc, response)?;
-        show_keys(&keys);
-        let rows = Sequence::from_vec(rows);
-        self.commit(alloc, host, Commit::Drop { keys, ids: rows })?;
-        self.remove_listeners(listeners.as_slice());
-        refuse_all(&mut self.limbo, ids);
-        self.watch.dropped(ids, blanked.as_slice(), resets);
+        let moved = self.let_go(alloc, host, ids, keys, going, listeners.as_slice())?;
         self.settle(alloc, moved.as_slice(), &mut outs)?;
         Ok(Outcome::Done(outs))
     }

@@ -169,6 +169,44 @@ impl Client {
         self.point(alloc, host, response, at)
     }
 
+    /// The turn of a message that the open stream of listeners brought, and of what it asks for.
+    fn follow<H: Host>(
+        &mut self,
+        alloc: Global,
+        host: &mut H,
+        response: &ListenResponse,
+        asked: &Effect,
+    ) -> Result<Outcome, ClientFault>
+        requires stored { IsTrue H.tells_files → IsStored self.old.store (H.view host.old) }
+        requires whole { ¬ (IsStoreSpent self.old.store) }
+        requires poised { self.old.spent ≡ true }
+        requires heard { (h : Calls) × (AggregatorStandsFor self.old.watch.aggregator h × AreSpelledCalls h) }
+        requires idle { self.old.watch.due ≡ Nothing }
+        requires spelled { IsSpelledMessage response.now }
+        requires opening { self.old.watch.is_open ≡ true }
+        requires gives { CallsAre self.old (λ h. Gives h response.now asked.now) }
+        ensures turn { IfOk result (λ outcome. (s : State) (past : Past) → StandsFor self.old s past
+            → HandsSettled s past (event.Watch response.now) outcome self.new) }
+        ensures whole { OnOk result (¬ (IsStoreSpent self.new.store)) }
+        ensures root { (self.new.root ≡ self.old.root) × (self.new.spent ≡ self.old.spent) }
+        ensures stored { IsTrue H.tells_files → IsStored self.new.store (H.view host.new) }
+        ensures files { IsTrue H.tells_files → (s : State) (past : Past) → StandsFor self.old s past
+            → MovesBy s past (event.Watch response.now) (H.view host.old) (H.view host.new) }
+        ensures out { KeepsOut (H.view host.old) (H.view host.new) }
+        ensures unspent { IsErrOf result ClientFault.Spent → ⊥ }
+        ensures counts { RisesAt (IsErrOf result ClientFault.DiskFault)
+            (H.view host.old).disk_faults (H.view host.new).disk_faults }
+    {
+        match asked {
+            Effect::Nothing => self.heard(alloc, response),
+            Effect::Point(at) => self.timed(alloc, host, response, *at),
+            Effect::Mismatch { id, .. } => self.mismatch(alloc, host, response, id),
+            Effect::Ended { ids, status } => {
+                self.end(alloc, host, response, ids.as_slice(), status)
+            }
+        }
+    }
+
     /// The turn of a message on the stream of listeners.
     pub(crate) fn watched<H: Host>(
         &mut self,
@@ -198,12 +236,7 @@ impl Client {
             return Ok(refused(alloc, false));
         }
         match self.watch.aggregator.effect(alloc, &response) {
-            Ok(Effect::Nothing) => self.heard(alloc, &response),
-            Ok(Effect::Point(at)) => self.timed(alloc, host, &response, at),
-            Ok(Effect::Mismatch { id, .. }) => self.mismatch(alloc, host, &response, &id),
-            Ok(Effect::Ended { ids, status }) => {
-                self.end(alloc, host, &response, ids.as_slice(), &status)
-            }
+            Ok(asked) => self.follow(alloc, host, &response, &asked),
             Err(WatchFault::BadMessage(member)) => self.unheard(alloc, &response, member),
             Err(WatchFault::NoMemory) => Err(ClientFault::NoMemory),
         }

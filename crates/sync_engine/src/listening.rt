@@ -1,11 +1,11 @@
 //! The turns of listeners.
 
-ghost use Rattle.std.specs.Prelude.{◌≡◌, ◌↔◌, IsTrue, true, IfOk, OnOk, IsErrOf};
+ghost use Rattle.std.specs.Prelude.{◌≡◌, ◌↔◌, IsTrue, true, None, IfOk, OnOk, IsErrOf};
 ghost use Rattle.host_api.specs.Counts.{RisesAt};
 ghost use Rattle.host_api.specs.Host.{KeepsOut};
 ghost use Rattle.client_events.specs.Spelled.{IsSpelledEvent};
 ghost use Rattle.client_events.specs.declared.event.Event.TheVariants as event;
-ghost use Rattle.listeners.specs.Table.{IsWanted};
+ghost use Rattle.listeners.specs.Table.{IsWanted, viewed};
 ghost use Rattle.local_store.specs.State.{State};
 ghost use Rattle.local_store.specs.Store.{IsSpent as IsStoreSpent, IsStored};
 ghost use Rattle.target_codec.specs.Spelling.{IsSpelledTarget};
@@ -13,12 +13,13 @@ ghost use Rattle.client_turns.specs.Past.{Past};
 ghost use Rattle.sync_engine.specs.Standing.{StandsFor};
 ghost use Rattle.sync_engine.specs.declared.watch_stream.Due.TheVariants.{Nothing};
 ghost use Rattle.sync_engine.specs.Telling.{HandsSettled, MovesBy, KeepsListeners};
-ghost use Rattle.sync_engine.specs.Targets.{GivesTarget, MovesForTarget};
+ghost use Rattle.sync_engine.specs.Targets.{GivesTarget, HasBegun, MovesForTarget};
 
 use crate::client::Client;
 use crate::fault::ClientFault;
 use crate::out::{Out, Outcome};
 use client_turns::Refusal;
+use document_keys::NoMemory;
 use host_api::Host;
 use local_store::MOST_COMMITS;
 use queries::{Query, Target};
@@ -68,6 +69,29 @@ impl Client {
         Ok(Some(id as i32))
     }
 
+    /// The listener of the query begins, at this target. Hands out its ids, and its first snapshot, if it has one.
+    fn begin(
+        &mut self,
+        alloc: Global,
+        id: u32,
+        query: Query,
+        target: i32,
+    ) -> Result<Vec<Out>, NoMemory>
+        requires poised { self.old.spent ≡ true }
+        requires free { viewed self.old.listeners id ≡ None }
+        ensures begun { IfOk result (λ outs. HasBegun id query target self.old self.new outs.items) }
+        ensures store { self.new.store ≡ self.old.store }
+        ensures root { (self.new.root ≡ self.old.root) × (self.new.spent ≡ self.old.spent) }
+    {
+        let commit = self.store.number();
+        let mut outs = Vec::new(alloc);
+        outs.push(Out::Listening { id, target, commit })?;
+        self.listeners.add(alloc, id, query, target)?;
+        self.watch.listened(&target);
+        self.settle(alloc, &[id], &mut outs)?;
+        Ok(outs)
+    }
+
     /// The turn of a listener that begins.
     pub(crate) fn listen<H: Host>(
         &mut self,
@@ -100,12 +124,7 @@ impl Client {
         let Some(target) = self.target_for(alloc, host, query.as_target())? else {
             return Ok(Outcome::Refused(Refusal::IdsSpent, Vec::new(alloc)));
         };
-        let commit = self.store.number();
-        let mut outs = Vec::new(alloc);
-        outs.push(Out::Listening { id, target, commit })?;
-        self.listeners.add(alloc, id, query, target)?;
-        self.watch.listened(&target);
-        self.settle(alloc, &[id], &mut outs)?;
+        let outs = self.begin(alloc, id, query, target)?;
         Ok(Outcome::Done(outs))
     }
 

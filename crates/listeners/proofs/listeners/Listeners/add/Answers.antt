@@ -21,16 +21,16 @@ invariant_of-self c =
 pub invariant_of-self-in-Ok : goal.invariant_of-self-in-Ok
 invariant_of-self-in-Ok c =
     let old = c.self.inside.listeners.entries in
-    let new = c.insert.new.self.entries in
+    let new = c.put_listener.new.listeners.entries in
     let listener = c.in_ok-listener.listener in
     let index = c.put.new.self.places.ids.entries in
     let none : viewed old c.args.id ≡ None = ap (λ t. viewed t c.args.id) c.self.view_is ∙ c.requires in
     record {
-      indexed = indexed_after old new c.self.inside.indexes.places.ids.entries index c.args.id (Some listener.view) (views_change old new c.args.id (Some listener) c.in-Ok.ensures.updates.0 (Some listener.view) refl) c.self.invariant.indexed c.put.ensures.kept
+      indexed = indexed_after old new c.self.inside.indexes.places.ids.entries index c.args.id (Some listener.view) (views_change old new c.args.id (Some listener) c.in-Ok.ensures.put (Some listener.view) refl) c.self.invariant.indexed c.put.ensures.kept
           (λ view is.
           let same : listener.view ≡ view = cc in
           subst (λ (v : Viewed). IsTrue (stands_at index (place_of v.target) c.args.id)) same c.in_ok-put.ensures.place);
-      targeted = targeted_added old new c.self.inside.indexes.targets.ids.entries c.put.new.self.targets.ids.entries listener.target_id c.args.id (targets_change old new c.args.id (Some listener) c.in-Ok.ensures.updates.0 (Some listener.target_id) refl)
+      targeted = targeted_added old new c.self.inside.indexes.targets.ids.entries c.put.new.self.targets.ids.entries listener.target_id c.args.id (targets_change old new c.args.id (Some listener) c.in-Ok.ensures.put (Some listener.target_id) refl)
           c.in_ok-put.ensures.target (no_target old c.args.id none) c.self.invariant.targeted;
       filled = c.put.ensures.filled c.self.invariant.filled;
     }
@@ -38,16 +38,16 @@ invariant_of-self-in-Ok c =
 pub invariant_of-self-in-Err : goal.invariant_of-self-in-Err
 invariant_of-self-in-Err c =
     let old = c.self.inside.listeners.entries in
-    let new = c.insert.new.self.entries in
+    let new = c.put_listener.new.listeners.entries in
     let listener = c.in_ok-listener.listener in
     let targets = c.self.inside.indexes.targets.ids.entries in
     let mid = c.put.new.self.targets.ids.entries in
     let after = c.take.new.self.targets.ids.entries in
     let none : viewed old c.args.id ≡ None = ap (λ t. viewed t c.args.id) c.self.view_is ∙ c.requires in
-    let back : SetsServed listener.target_id c.args.id false mid after = subst (λ (p : ℕ × Listening). SetsServed p.1.target_id c.args.id false mid after) c.in-Err.ensures.value_returned c.take.ensures.target in
+    let back : SetsServed listener.target_id c.args.id false mid after = subst (λ (l : Listening). SetsServed l.target_id c.args.id false mid after) c.in-Err.ensures.kept.0 c.take.ensures.target in
     record {
-      indexed = indexed_without old new c.self.inside.indexes.places.ids.entries c.take.new.self.places.ids.entries c.args.id c.in-Err.ensures.err none
+      indexed = indexed_without old new c.self.inside.indexes.places.ids.entries c.take.new.self.places.ids.entries c.args.id c.in-Err.ensures.kept.1 none
           (λ place q other there. c.take.ensures.kept place q other (c.put.ensures.kept place q other there)) c.self.invariant.indexed;
-      targeted = targeted_same old new targets after (same_targets old new c.in-Err.ensures.err) (taken_again old targets mid after listener.target_id c.args.id c.in_ok-put.ensures.target back (no_target old c.args.id none) c.self.invariant.targeted) c.self.invariant.targeted;
+      targeted = targeted_same old new targets after (same_targets old new c.in-Err.ensures.kept.1) (taken_again old targets mid after listener.target_id c.args.id c.in_ok-put.ensures.target back (no_target old c.args.id none) c.self.invariant.targeted) c.self.invariant.targeted;
       filled = c.take.ensures.filled (c.put.ensures.filled c.self.invariant.filled);
     }

@@ -1,15 +1,11 @@
 use Rattle.std.proofs.Common.{subst, arith}
-use Rattle.client_events.specs.declared.event.Event.TheVariants as event
-use Rattle.local_store.specs.State.{State}
 use Rattle.client_turns.specs.Hearing.{AreDropped}
-use Rattle.sync_engine.specs.Telling.{MovesBy}
-use Rattle.sync_engine.proofs.Committed.{moves_still, nothing_moves}
 use Rattle.sync_engine.proofs.Dropped.{no_key, some_key}
-use Rattle.sync_engine.proofs.Following.{by_state}
+use Rattle.sync_engine.proofs.Following.{nothing_done}
 use Rattle.sync_engine.proofs.client.Client.end.Goals as goal
 
 pub returns-in_err-keys-clause-files : goal.returns-in_err-keys-clause-files
-returns-in_err-keys-clause-files g c = λ told s past stands. by_state (λ (t : State). MovesBy t past (event.Watch c.args.response.now) (g.H.Host.view c.args.host.now) (g.H.Host.view c.args.host.now)) stands (λ st. moves_still (nothing_moves _ c.requires.whole (c.requires.stored told)))
+returns-in_err-keys-clause-files g c = λ told. nothing_done c.requires.whole (c.requires.stored told)
 
 pub drop_documents-requires-clause-some : goal.drop_documents-requires-clause-some
 drop_documents-requires-clause-some g c = some_key c.in_ok-keys.keys (omega (arith, c.if-len-gt0.true, c.len.ensures.count))

@@ -19,10 +19,9 @@ use Rattle.sync_engine.specs.declared.out.Out.TheVariants.{Error}
 use Rattle.sync_engine.specs.declared.out.Outcome.TheVariants.{Done, Refused}
 use Rattle.client_turns.specs.declared.refusal.Refusal.TheVariants.{IdsSpent}
 use Rattle.sync_engine.specs.declared.watch_stream.WatchStream.{WatchStream}
-use Rattle.sync_engine.proofs.Committed.{moves_still, nothing_moves}
 use Rattle.sync_engine.proofs.Dropped.{end_spent, hands_end, moves_end}
 use Rattle.sync_engine.proofs.Emptied.{blanking}
-use Rattle.sync_engine.proofs.Following.{by_state}
+use Rattle.sync_engine.proofs.Following.{by_state, nothing_done}
 use Rattle.sync_engine.proofs.Handing.{hands_refused}
 use Rattle.sync_engine.proofs.client.Client.end_targets.Goals as goal
 use Rattle.sync_engine.proofs.client.Client.end_targets.Goals.{else-blanks-via-then-blanks+else-number-ge-MOST_COMMITS, else-blanks-via-else-blanks}
@@ -48,19 +47,19 @@ returns-then-number-ge-MOST_COMMITS-clause-turn g c = λ s past stands. by_state
     c.new.ensures.items)
 
 pub returns-in_err-rows-clause-files : goal.returns-in_err-rows-clause-files
-returns-in_err-rows-clause-files g c = λ told s past stands. by_state (λ (t : State). MovesBy t past (event.Watch c.args.response.now) (g.H.Host.view c.args.host.now) (g.H.Host.view c.args.host.now)) stands (λ st. moves_still (nothing_moves _ c.requires.whole (c.requires.stored told)))
+returns-in_err-rows-clause-files g c = λ told. nothing_done c.requires.whole (c.requires.stored told)
 
 pub returns-then-number-ge-MOST_COMMITS-clause-files : goal.returns-then-number-ge-MOST_COMMITS-clause-files
-returns-then-number-ge-MOST_COMMITS-clause-files g c = λ told s past stands. by_state (λ (t : State). MovesBy t past (event.Watch c.args.response.now) (g.H.Host.view c.args.host.now) (g.H.Host.view c.args.host.now)) stands (λ st. moves_still (nothing_moves _ c.requires.whole (c.requires.stored told)))
+returns-then-number-ge-MOST_COMMITS-clause-files g c = λ told. nothing_done c.requires.whole (c.requires.stored told)
 
 pub returns-in_err-listeners-clause-files : goal.returns-in_err-listeners-clause-files
-returns-in_err-listeners-clause-files g c = λ told s past stands. by_state (λ (t : State). MovesBy t past (event.Watch c.args.response.now) (g.H.Host.view c.args.host.now) (g.H.Host.view c.args.host.now)) stands (λ st. moves_still (nothing_moves _ c.requires.whole (c.requires.stored told)))
+returns-in_err-listeners-clause-files g c = λ told. nothing_done c.requires.whole (c.requires.stored told)
 
 pub returns-in_err-outs-clause-files : goal.returns-in_err-outs-clause-files
-returns-in_err-outs-clause-files g c = λ told s past stands. by_state (λ (t : State). MovesBy t past (event.Watch c.args.response.now) (g.H.Host.view c.args.host.now) (g.H.Host.view c.args.host.now)) stands (λ st. moves_still (nothing_moves _ c.requires.whole (c.requires.stored told)))
+returns-in_err-outs-clause-files g c = λ told. nothing_done c.requires.whole (c.requires.stored told)
 
 pub returns-in_err-heard-clause-files : goal.returns-in_err-heard-clause-files
-returns-in_err-heard-clause-files g c = λ told s past stands. by_state (λ (t : State). MovesBy t past (event.Watch c.args.response.now) (g.H.Host.view c.args.host.now) (g.H.Host.view c.args.host.now)) stands (λ st. moves_still (nothing_moves _ c.requires.whole (c.requires.stored told)))
+returns-in_err-heard-clause-files g c = λ told. nothing_done c.requires.whole (c.requires.stored told)
 
 pub returns-in_err-blank-clause-files : goal.returns-in_err-blank-clause-files
 returns-in_err-blank-clause-files g c = λ told s past stands. by_state (λ (t : State). MovesBy t past (event.Watch c.args.response.now) (g.H.Host.view c.args.host.now) (g.H.Host.view c.blank.new.host)) stands (λ st.

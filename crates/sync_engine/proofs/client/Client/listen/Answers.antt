@@ -1,14 +1,13 @@
-use Rattle.std.proofs.Common.{ℕ, ℤ, ◌≤◌, to_z, of_z, w32, length, List, [], ◌∷◌, ◌++◌, Some, refl, sym, ap, subst, ◌∙◌}
+use Rattle.std.proofs.Common.{ℤ, ◌≤◌, length, List, Some, refl, sym, ap, subst, ◌∙◌}
 use Rattle.client_events.specs.declared.event.Event.TheVariants as event
 use Rattle.listeners.specs.Table.{Changes, ChangesTarget, Table, fresh, viewed}
 use Rattle.local_store.specs.State.{State}
+use Rattle.local_store.specs.Store.{Store}
 use Rattle.queries.specs.declared.target.Target.{Target}
 use Rattle.client_turns.specs.Turns.{refused}
 use Rattle.sync_engine.specs.Standing.{Kept}
-use Rattle.sync_engine.specs.Targets.{GivesTarget, MovesForTarget}
+use Rattle.sync_engine.specs.Targets.{GivesTarget, HasBegun, MovesForTarget}
 use Rattle.sync_engine.specs.Telling.{HandsSettled, MovesBy}
-use Rattle.sync_engine.specs.declared.out.Out.{Out}
-use Rattle.sync_engine.specs.declared.out.Out.TheVariants.{Listening}
 use Rattle.sync_engine.specs.declared.out.Outcome.TheVariants.{Done, Refused}
 use Rattle.client_turns.specs.declared.refusal.Refusal.TheVariants.{IdsSpent, ListenerTaken}
 use Rattle.sync_engine.proofs.Committed.{nothing_moves}
@@ -34,14 +33,8 @@ returns-in_err-target-clause-files g c = λ told s past stands. by_state (λ (t 
 pub returns-in_default-clause-files : goal.returns-in_default-clause-files
 returns-in_default-clause-files g c = λ told s past stands. by_state (λ (t : State). MovesBy t past (event.Listen c.args.id c.args.query) (g.H.Host.view c.args.host.now) (g.H.Host.view c.target_for.new.host)) stands (λ st. moves_begun c.args.id c.args.query st (sym (ap (λ (k : Kept). viewed k.listeners c.args.id) c.self.view_is) ∙ none_viewed _ c.view.result _ c.is_none.result c.view.ensures c.is_none.ensures c.if-not-is_none.false) (subst (λ (q : Target). MovesForTarget c.args.self.now.store.state q (g.H.Host.view c.args.host.now) (g.H.Host.view c.target_for.new.host)) c.as_target.ensures.same (c.target_for.ensures.files told)))
 
-pub returns-in_err-push-clause-files : goal.returns-in_err-push-clause-files
-returns-in_err-push-clause-files g c = λ told s past stands. by_state (λ (t : State). MovesBy t past (event.Listen c.args.id c.args.query) (g.H.Host.view c.args.host.now) (g.H.Host.view c.target_for.new.host)) stands (λ st. moves_begun c.args.id c.args.query st (sym (ap (λ (k : Kept). viewed k.listeners c.args.id) c.self.view_is) ∙ none_viewed _ c.view.result _ c.is_none.result c.view.ensures c.is_none.ensures c.if-not-is_none.false) (subst (λ (q : Target). MovesForTarget c.args.self.now.store.state q (g.H.Host.view c.args.host.now) (g.H.Host.view c.target_for.new.host)) c.as_target.ensures.same (c.target_for.ensures.files told)))
-
-pub returns-in_err-add-clause-files : goal.returns-in_err-add-clause-files
-returns-in_err-add-clause-files g c = λ told s past stands. by_state (λ (t : State). MovesBy t past (event.Listen c.args.id c.args.query) (g.H.Host.view c.args.host.now) (g.H.Host.view c.target_for.new.host)) stands (λ st. moves_begun c.args.id c.args.query st (sym (ap (λ (k : Kept). viewed k.listeners c.args.id) c.self.view_is) ∙ none_viewed _ c.view.result _ c.is_none.result c.view.ensures c.is_none.ensures c.if-not-is_none.false) (subst (λ (q : Target). MovesForTarget c.args.self.now.store.state q (g.H.Host.view c.args.host.now) (g.H.Host.view c.target_for.new.host)) c.as_target.ensures.same (c.target_for.ensures.files told)))
-
-pub returns-in_err-settle-clause-files : goal.returns-in_err-settle-clause-files
-returns-in_err-settle-clause-files g c = λ told s past stands. by_state (λ (t : State). MovesBy t past (event.Listen c.args.id c.args.query) (g.H.Host.view c.args.host.now) (g.H.Host.view c.target_for.new.host)) stands (λ st. moves_begun c.args.id c.args.query st (sym (ap (λ (k : Kept). viewed k.listeners c.args.id) c.self.view_is) ∙ none_viewed _ c.view.result _ c.is_none.result c.view.ensures c.is_none.ensures c.if-not-is_none.false) (subst (λ (q : Target). MovesForTarget c.args.self.now.store.state q (g.H.Host.view c.args.host.now) (g.H.Host.view c.target_for.new.host)) c.as_target.ensures.same (c.target_for.ensures.files told)))
+pub returns-in_err-outs-clause-files : goal.returns-in_err-outs-clause-files
+returns-in_err-outs-clause-files g c = λ told s past stands. by_state (λ (t : State). MovesBy t past (event.Listen c.args.id c.args.query) (g.H.Host.view c.args.host.now) (g.H.Host.view c.target_for.new.host)) stands (λ st. moves_begun c.args.id c.args.query st (sym (ap (λ (k : Kept). viewed k.listeners c.args.id) c.self.view_is) ∙ none_viewed _ c.view.result _ c.is_none.result c.view.ensures c.is_none.ensures c.if-not-is_none.false) (subst (λ (q : Target). MovesForTarget c.args.self.now.store.state q (g.H.Host.view c.args.host.now) (g.H.Host.view c.target_for.new.host)) c.as_target.ensures.same (c.target_for.ensures.files told)))
 
 pub returns-clause-files : goal.returns-clause-files
 returns-clause-files g c = λ told s past stands. by_state (λ (t : State). MovesBy t past (event.Listen c.args.id c.args.query) (g.H.Host.view c.args.host.now) (g.H.Host.view c.target_for.new.host)) stands (λ st. moves_begun c.args.id c.args.query st (sym (ap (λ (k : Kept). viewed k.listeners c.args.id) c.self.view_is) ∙ none_viewed _ c.view.result _ c.is_none.result c.view.ensures c.is_none.ensures c.if-not-is_none.false) (subst (λ (q : Target). MovesForTarget c.args.self.now.store.state q (g.H.Host.view c.args.host.now) (g.H.Host.view c.target_for.new.host)) c.as_target.ensures.same (c.target_for.ensures.files told)))
@@ -50,15 +43,20 @@ pub returns-in_default-clause-turn : goal.returns-in_default-clause-turn
 returns-in_default-clause-turn g c = λ s past stands. by_state (λ (t : State). HandsSettled t past (event.Listen c.args.id c.args.query) (Refused IdsSpent c.new-in_default.result) c.target_for.new.self) stands (λ st. hands_refused IdsSpent refl (ap (λ (w : WatchStream). w.due) c.target_for.ensures.rest.watch ∙ c.requires.idle) (spent_stands c.args.query c.in_ok-target.field-0 st (subst (λ (q : Target). GivesTarget c.args.self.now.store.state q c.in_ok-target.field-0 c.target_for.new.self.store.state) c.as_target.ensures.same c.in_ok-target.ensures.found) c.in_default.is c.target_for.ensures.rest) (spent_answers c.args.id c.args.query c.in_ok-target.field-0 st (sym (ap (λ (k : Kept). viewed k.listeners c.args.id) c.self.view_is) ∙ none_viewed _ c.view.result _ c.is_none.result c.view.ensures c.is_none.ensures c.if-not-is_none.false) (subst (λ (q : Target). GivesTarget c.args.self.now.store.state q c.in_ok-target.field-0 c.target_for.new.self.store.state) c.as_target.ensures.same c.in_ok-target.ensures.found) c.in_default.is) c.new-in_default.ensures.items)
 
 pub returns-clause-turn : goal.returns-clause-turn
-returns-clause-turn g c = λ s past stands. by_state (λ (t : State). HandsSettled t past (event.Listen c.args.id c.args.query) (Done c.settle.new.outs) c.settle.new.self) stands (λ st.
-    hands_begun c.args.self.now _ c.settle.new.self past c.args.id c.args.query c.in_ok-target.field-0 c.in-Some.target st (sym (ap (λ (k : Kept). viewed k.listeners c.args.id) c.self.view_is) ∙ none_viewed _ c.view.result _ c.is_none.result c.view.ensures c.is_none.ensures c.if-not-is_none.false) c.requires.idle
-    (subst (λ (k : Kept). GivesTarget c.args.self.now.store.state c.args.query c.in_ok-target.field-0 k.store.state) (sym c.self-2.view_is) (subst (λ (q : Target). GivesTarget c.args.self.now.store.state q c.in_ok-target.field-0 c.target_for.new.self.store.state) c.as_target.ensures.same c.in_ok-target.ensures.found))
-    c.in-Some.is (ap (λ (k : Kept). k.root) c.self-2.view_is ∙ c.target_for.ensures.rest.root) (ap (λ (k : Kept). k.limbo) c.self-2.view_is ∙ c.target_for.ensures.rest.limbo) (ap (λ (k : Kept). k.writes) c.self-2.view_is ∙ c.target_for.ensures.rest.writes)
-    (c.listened.ensures ∙ ap (λ (z : ℤ). record c.self-2.inside.watch { due = One z }) (given_back c.args.self.now.store.state c.args.query c.in_ok-target.field-0 c.in-Some.target (subst (λ (l : List Row). id_at (length l) ≤ 2147483648) (c.targets.ensures ∙ ap (λ (k : Kept). k.store.state.rows) c.self.view_is) c.next_id-last.ensures.most) (subst (λ (q : Target). GivesTarget c.args.self.now.store.state q c.in_ok-target.field-0 c.target_for.new.self.store.state) c.as_target.ensures.same c.in_ok-target.ensures.found) c.in-Some.is) ∙ ap (λ (w : WatchStream). record w { due = One c.in-Some.target }) (ap (λ (k : Kept). k.watch) c.self-2.view_is ∙ c.target_for.ensures.rest.watch))
-    (subst (λ (l : Table). Changes c.args.id (Some (fresh c.args.query)) l c.add.new.self) (ap (λ (k : Kept). k.listeners) c.self-2.view_is ∙ c.target_for.ensures.rest.listeners) c.in_ok-add.ensures.done)
-    (subst (λ (z : ℤ). ChangesTarget c.args.id (Some z) c.args.self.now.listeners c.add.new.self) (given_back c.args.self.now.store.state c.args.query c.in_ok-target.field-0 c.in-Some.target (subst (λ (l : List Row). id_at (length l) ≤ 2147483648) (c.targets.ensures ∙ ap (λ (k : Kept). k.store.state.rows) c.self.view_is) c.next_id-last.ensures.most) (subst (λ (q : Target). GivesTarget c.args.self.now.store.state q c.in_ok-target.field-0 c.target_for.new.self.store.state) c.as_target.ensures.same c.in_ok-target.ensures.found) c.in-Some.is)
-    (subst (λ (l : Table). ChangesTarget c.args.id (Some (to_z w32 (of_z w32 c.in-Some.target))) l c.add.new.self) (ap (λ (k : Kept). k.listeners) c.self-2.view_is ∙ c.target_for.ensures.rest.listeners) c.in_ok-add.ensures.target))
-    c.settle.ensures.rest c.in_ok-settle.ensures.raises
-    (c.in_ok-push.ensures.items ∙ ap (λ (o : List Out). o ++ Listening c.args.id (to_z w32 (of_z w32 c.in-Some.target)) c.number-commit.result ∷ []) c.new-outs.ensures.items
-    ∙ ap (λ (z : ℤ). Listening c.args.id z c.number-commit.result ∷ []) (given_back c.args.self.now.store.state c.args.query c.in_ok-target.field-0 c.in-Some.target (subst (λ (l : List Row). id_at (length l) ≤ 2147483648) (c.targets.ensures ∙ ap (λ (k : Kept). k.store.state.rows) c.self.view_is) c.next_id-last.ensures.most) (subst (λ (q : Target). GivesTarget c.args.self.now.store.state q c.in_ok-target.field-0 c.target_for.new.self.store.state) c.as_target.ensures.same c.in_ok-target.ensures.found) c.in-Some.is)
-    ∙ ap (λ (n : ℕ). Listening c.args.id c.in-Some.target n ∷ []) c.number-commit.ensures.number))
+returns-clause-turn g c = λ s past stands.
+    let old = c.args.self.now in
+    let id = c.args.id in
+    let query = c.args.query in
+    let rest = c.target_for.ensures.rest in
+    let given = subst (λ (q : Target). GivesTarget old.store.state q c.in_ok-target.field-0 c.target_for.new.self.store.state) c.as_target.ensures.same c.in_ok-target.ensures.found in
+    let few = subst (λ (l : List Row). id_at (length l) ≤ 2147483648) (c.targets.ensures ∙ ap (λ (k : Kept). k.store.state.rows) c.self.view_is) c.next_id-last.ensures.most in
+    let begun = subst (λ (z : ℤ). HasBegun id query z c.target_for.new.self c.begin.new.self c.in_ok-outs.outs.items) (given_back old.store.state query c.in_ok-target.field-0 c.in-Some.target few given c.in-Some.is) c.in_ok-outs.ensures.begun in
+    by_state (λ (t : State). HandsSettled t past (event.Listen id query) (Done c.in_ok-outs.outs) c.begin.new.self) stands (λ st.
+    hands_begun old begun.mid c.begin.new.self past id query c.in_ok-target.field-0 c.in-Some.target st
+    (sym (ap (λ (k : Kept). viewed k.listeners id) c.self.view_is) ∙ none_viewed _ c.view.result _ c.is_none.result c.view.ensures c.is_none.ensures c.if-not-is_none.false) c.requires.idle
+    (subst (λ (x : Store). GivesTarget old.store.state query c.in_ok-target.field-0 x.state) (sym begun.store) given) c.in-Some.is
+    (begun.root ∙ rest.root) (begun.limbo ∙ rest.limbo) (begun.writes ∙ rest.writes)
+    (begun.watch ∙ ap (λ (w : WatchStream). record w { due = One c.in-Some.target }) rest.watch)
+    (subst (λ (l : Table). Changes id (Some (fresh query)) l begun.mid.listeners) rest.listeners begun.listeners)
+    (subst (λ (l : Table). ChangesTarget id (Some c.in-Some.target) l begun.mid.listeners) rest.listeners begun.targets)
+    begun.rest begun.raises refl)

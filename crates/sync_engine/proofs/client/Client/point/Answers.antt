@@ -11,11 +11,11 @@ use Rattle.client_turns.specs.Watching.{calls_of}
 use Rattle.sync_engine.specs.declared.out.Outcome.TheVariants.{Done, Refused}
 use Rattle.sync_engine.specs.declared.watch_stream.WatchStream.{WatchStream}
 use Rattle.client_turns.specs.declared.refusal.Refusal.TheVariants.{IdsSpent}
-use Rattle.sync_engine.proofs.Following.{by_state}
+use Rattle.sync_engine.proofs.Following.{by_state, nothing_done}
 use Rattle.sync_engine.proofs.Handing.{hands_refused}
 use Rattle.sync_engine.proofs.Pointed.{current_as, hands_point, made_commit, made_spelled, moved_as, parts_as, moves_point, parts_of, point_ascends, point_moment, point_spent}
 use Rattle.sync_engine.proofs.Turning.{moves_none}
-use Rattle.sync_engine.proofs.Committed.{moves_still, nothing_moves}
+use Rattle.sync_engine.proofs.Committed.{nothing_moves}
 use Rattle.client_turns.specs.Turns.{refused}
 use Rattle.sync_engine.proofs.client.Client.point.Goals as goal
 
@@ -28,20 +28,16 @@ returns-then-number-ge-MOST_COMMITS-clause-files g c = λ told s past stands. by
     moves_none (event.Watch c.args.response.now) (refused IdsSpent) (point_spent c.args.response.now c.args.at st c.requires.opening (c.requires.gives (calls_of past) st.watch.calls) c.requires.time (omega (arith, c.if-number-ge-MOST_COMMITS.true, (c.number-number.ensures.number ∙ ap (λ (k : Kept). k.store.state.number) c.self.view_is)))) refl (nothing_moves _ c.requires.whole (c.requires.stored told)))
 
 pub returns-in_err-heard-clause-files : goal.returns-in_err-heard-clause-files
-returns-in_err-heard-clause-files g c = λ told s past stands. by_state (λ (t : State). MovesBy t past (event.Watch c.args.response.now) (g.H.Host.view c.args.host.now) (g.H.Host.view c.args.host.now)) stands (λ st.
-    moves_still (nothing_moves _ c.requires.whole (c.requires.stored told)))
+returns-in_err-heard-clause-files g c = λ told. nothing_done c.requires.whole (c.requires.stored told)
 
 pub returns-in_err-entries-clause-files : goal.returns-in_err-entries-clause-files
-returns-in_err-entries-clause-files g c = λ told s past stands. by_state (λ (t : State). MovesBy t past (event.Watch c.args.response.now) (g.H.Host.view c.args.host.now) (g.H.Host.view c.args.host.now)) stands (λ st.
-    moves_still (nothing_moves _ c.requires.whole (c.requires.stored told)))
+returns-in_err-entries-clause-files g c = λ told. nothing_done c.requires.whole (c.requires.stored told)
 
 pub returns-in_err-made-clause-files : goal.returns-in_err-made-clause-files
-returns-in_err-made-clause-files g c = λ told s past stands. by_state (λ (t : State). MovesBy t past (event.Watch c.args.response.now) (g.H.Host.view c.args.host.now) (g.H.Host.view c.args.host.now)) stands (λ st.
-    moves_still (nothing_moves _ c.requires.whole (c.requires.stored told)))
+returns-in_err-made-clause-files g c = λ told. nothing_done c.requires.whole (c.requires.stored told)
 
 pub returns-in_err-ids-clause-files : goal.returns-in_err-ids-clause-files
-returns-in_err-ids-clause-files g c = λ told s past stands. by_state (λ (t : State). MovesBy t past (event.Watch c.args.response.now) (g.H.Host.view c.args.host.now) (g.H.Host.view c.args.host.now)) stands (λ st.
-    moves_still (nothing_moves _ c.requires.whole (c.requires.stored told)))
+returns-in_err-ids-clause-files g c = λ told. nothing_done c.requires.whole (c.requires.stored told)
 
 pub commit-requires-clause-spelled : goal.commit-requires-clause-spelled
 commit-requires-clause-spelled g c =

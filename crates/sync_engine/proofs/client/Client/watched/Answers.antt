@@ -1,10 +1,6 @@
 use Rattle.std.proofs.Common.{sym, ap, ◌∙◌, false}
-use Rattle.client_events.specs.declared.event.Event.TheVariants as event
-use Rattle.local_store.specs.State.{State}
 use Rattle.sync_engine.specs.Standing.{Kept}
-use Rattle.sync_engine.specs.Telling.{MovesBy}
-use Rattle.sync_engine.proofs.Committed.{moves_still, nothing_moves}
-use Rattle.sync_engine.proofs.Following.{by_state}
+use Rattle.sync_engine.proofs.Following.{nothing_done}
 use Rattle.sync_engine.proofs.Heard.{heard_unopened}
 use Rattle.sync_engine.proofs.Streamed.{hands_disallowed}
 use Rattle.sync_engine.proofs.client.Client.watched.Goals as goal
@@ -13,13 +9,10 @@ pub returns-then-not-self-clause-turn : goal.returns-then-not-self-clause-turn
 returns-then-not-self-clause-turn g c = λ s past stands. hands_disallowed false _ c.refused.ensures c.requires.idle stands (heard_unopened c.args.response stands (ap (λ (k : Kept). k.watch.is_open) (sym c.self.view_is) ∙ c.if-not-self.true))
 
 pub returns-then-not-self-clause-files : goal.returns-then-not-self-clause-files
-returns-then-not-self-clause-files g c = λ told s past stands. by_state (λ (t : State). MovesBy t past (event.Watch c.args.response) (g.H.Host.view c.args.host.now) (g.H.Host.view c.args.host.now)) stands (λ st. moves_still (nothing_moves _ c.requires.whole (c.requires.stored told)))
-
-pub returns-in-Ok-Nothing-clause-files : goal.returns-in-Ok-Nothing-clause-files
-returns-in-Ok-Nothing-clause-files g c = λ told s past stands. by_state (λ (t : State). MovesBy t past (event.Watch c.args.response) (g.H.Host.view c.args.host.now) (g.H.Host.view c.args.host.now)) stands (λ st. moves_still (nothing_moves _ c.requires.whole (c.requires.stored told)))
+returns-then-not-self-clause-files g c = λ told. nothing_done c.requires.whole (c.requires.stored told)
 
 pub returns-in-Err-BadMessage-clause-files : goal.returns-in-Err-BadMessage-clause-files
-returns-in-Err-BadMessage-clause-files g c = λ told s past stands. by_state (λ (t : State). MovesBy t past (event.Watch c.args.response) (g.H.Host.view c.args.host.now) (g.H.Host.view c.args.host.now)) stands (λ st. moves_still (nothing_moves _ c.requires.whole (c.requires.stored told)))
+returns-in-Err-BadMessage-clause-files g c = λ told. nothing_done c.requires.whole (c.requires.stored told)
 
 pub returns-clause-files : goal.returns-clause-files
-returns-clause-files g c = λ told s past stands. by_state (λ (t : State). MovesBy t past (event.Watch c.args.response) (g.H.Host.view c.args.host.now) (g.H.Host.view c.args.host.now)) stands (λ st. moves_still (nothing_moves _ c.requires.whole (c.requires.stored told)))
+returns-clause-files g c = λ told. nothing_done c.requires.whole (c.requires.stored told)
