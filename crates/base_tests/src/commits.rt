@@ -249,6 +249,17 @@ fn check_damages(
     Ok(())
 }
 
+/// The commit is spelled by the payload, and none of the damages leaves a commit. It owns the commit, so that the tests need not.
+fn check_kind(
+    rt: &(impl Abort + AllocGlobal),
+    commit: Commit,
+    payload: &[u8],
+    damages: &[(&str, usize, usize, &[u8])],
+) -> Result<(), Fail> {
+    check_damages(rt, payload, damages)?;
+    check_commit(rt, &commit, payload)
+}
+
 /// A result of no transforms and without an update time.
 fn empty_result(alloc: Global) -> WriteResult {
     WriteResult {
@@ -280,8 +291,7 @@ fn acknowledgement(alloc: Global) -> Result<Commit, Fail> {
 #[test]
 fn acknowledgements(rt: HostRuntime) -> Result<(), Fail> {
     let commit = acknowledgement(rt.alloc())?;
-    check_commit(&rt, &commit, &ACKNOWLEDGE)?;
-    check_damages(&rt, &ACKNOWLEDGE, &NO_ACKNOWLEDGE)
+    check_kind(&rt, commit, &ACKNOWLEDGE, &NO_ACKNOWLEDGE)
 }
 
 #[test]
@@ -297,8 +307,7 @@ fn allocation(alloc: Global) -> Result<Commit, Fail> {
 #[test]
 fn allocations(rt: HostRuntime) -> Result<(), Fail> {
     let commit = allocation(rt.alloc())?;
-    check_commit(&rt, &commit, &ALLOCATE)?;
-    check_damages(&rt, &ALLOCATE, &NO_ALLOCATE)
+    check_kind(&rt, commit, &ALLOCATE, &NO_ALLOCATE)
 }
 
 fn above(alloc: Global, least: i64) -> Result<Filter, Fail> {
@@ -333,9 +342,13 @@ fn rooms(alloc: Global) -> Result<RawCollection, Fail> {
     })
 }
 
-fn query_allocation(alloc: Global) -> Result<Commit, Fail> {
+fn query_of_rooms(alloc: Global) -> Result<Query, Fail> {
     let raw = rooms(alloc)?;
-    let query = Query::check(alloc, RawQuery::Collection(raw))?;
+    Ok(Query::check(alloc, RawQuery::Collection(raw))?)
+}
+
+fn query_allocation(alloc: Global) -> Result<Commit, Fail> {
+    let query = query_of_rooms(alloc)?;
     let target = query.target(alloc)?;
     Ok(Commit::Allocate { id: 1, target })
 }
@@ -343,8 +356,7 @@ fn query_allocation(alloc: Global) -> Result<Commit, Fail> {
 #[test]
 fn allocations_of_queries(rt: HostRuntime) -> Result<(), Fail> {
     let commit = query_allocation(rt.alloc())?;
-    check_commit(&rt, &commit, &QUERY)?;
-    check_damages(&rt, &QUERY, &NO_QUERY)
+    check_kind(&rt, commit, &QUERY, &NO_QUERY)
 }
 
 fn keys(alloc: Global) -> Result<KeySet, Fail> {
@@ -395,8 +407,7 @@ fn point(alloc: Global) -> Result<Commit, Fail> {
 #[test]
 fn points(rt: HostRuntime) -> Result<(), Fail> {
     let commit = point(rt.alloc())?;
-    check_commit(&rt, &commit, &POINT)?;
-    check_damages(&rt, &POINT, &NO_POINT)
+    check_kind(&rt, commit, &POINT, &NO_POINT)
 }
 
 fn ids(alloc: Global, ids: &[u32]) -> Result<Sequence<u32>, Fail> {
@@ -411,8 +422,7 @@ fn reset(alloc: Global) -> Result<Commit, Fail> {
 #[test]
 fn resets(rt: HostRuntime) -> Result<(), Fail> {
     let commit = reset(rt.alloc())?;
-    check_commit(&rt, &commit, &RESET)?;
-    check_damages(&rt, &RESET, &NO_RESET)
+    check_kind(&rt, commit, &RESET, &NO_RESET)
 }
 
 fn dropped(alloc: Global) -> Result<Commit, Fail> {
@@ -426,8 +436,7 @@ fn dropped(alloc: Global) -> Result<Commit, Fail> {
 #[test]
 fn drops(rt: HostRuntime) -> Result<(), Fail> {
     let commit = dropped(rt.alloc())?;
-    check_commit(&rt, &commit, &DROP)?;
-    check_damages(&rt, &DROP, &NO_DROP)
+    check_kind(&rt, commit, &DROP, &NO_DROP)
 }
 
 #[test]

@@ -322,9 +322,14 @@ pub(crate) fn is_commit(alloc: Global, payload: &[u8]) -> Result<bool, Fail> {
     Ok(decode(alloc, payload)?.is_some())
 }
 
-// what is read from the bytes, written again
+/// The commit that the bytes are.
+fn decoded(alloc: Global, payload: &[u8]) -> Result<Commit, Fail> {
+    Ok(decode(alloc, payload)?.ok_or("the bytes are a commit")?)
+}
+
+/// What is read from the bytes, written again.
 fn written_again(alloc: Global, payload: &[u8]) -> Result<Vec<u8>, Fail> {
-    let commit = decode(alloc, payload)?.ok_or("the bytes are a commit")?;
+    let commit = decoded(alloc, payload)?;
     Ok(encode(alloc, &commit)?)
 }
 
@@ -467,22 +472,30 @@ fn batch_in(commit: &Commit) -> Option<&Batch> {
     }
 }
 
-#[test]
-fn content_of_a_delete(rt: HostRuntime) -> Result<(), Fail> {
-    let commit = decode(rt.alloc(), &DELETE)?.ok_or("the bytes are a commit")?;
-    let batch = batch_in(&commit).ok_or("a batch")?;
-    check_batch(&rt, batch);
-    check_delete(&rt, batch.writes.as_slice());
+fn check_deleted(rt: &impl Abort, commit: &Commit) -> Result<(), Fail> {
+    let batch = batch_in(commit).ok_or("a batch")?;
+    check_batch(rt, batch);
+    check_delete(rt, batch.writes.as_slice());
+    Ok(())
+}
+
+fn check_updated(rt: &impl Abort, commit: &Commit) -> Result<(), Fail> {
+    let batch = batch_in(commit).ok_or("a batch")?;
+    check_batch(rt, batch);
+    check_update(rt, batch.writes.as_slice());
     Ok(())
 }
 
 #[test]
+fn content_of_a_delete(rt: HostRuntime) -> Result<(), Fail> {
+    let commit = decoded(rt.alloc(), &DELETE)?;
+    check_deleted(&rt, &commit)
+}
+
+#[test]
 fn content_of_an_update(rt: HostRuntime) -> Result<(), Fail> {
-    let commit = decode(rt.alloc(), &WHOLE)?.ok_or("the bytes are a commit")?;
-    let batch = batch_in(&commit).ok_or("a batch")?;
-    check_batch(&rt, batch);
-    check_update(&rt, batch.writes.as_slice());
-    Ok(())
+    let commit = decoded(rt.alloc(), &WHOLE)?;
+    check_updated(&rt, &commit)
 }
 
 /// An array of an array and so on, so deep.

@@ -85,11 +85,16 @@ fn check_removed(
     check_names(rt, queue, named)
 }
 
+fn push(alloc: Global, queue: &mut MutationQueue, id: u64, write: Write) -> Result<(), Fail> {
+    queue.push(alloc, batch(alloc, id, write)?)?;
+    Ok(())
+}
+
 fn three_batches(alloc: Global) -> Result<MutationQueue, Fail> {
     let mut queue = MutationQueue::new(alloc);
-    queue.push(alloc, batch(alloc, 1, increment(alloc, "a", 1)?)?)?;
-    queue.push(alloc, batch(alloc, 2, increment(alloc, "b", 1)?)?)?;
-    queue.push(alloc, batch(alloc, 3, deletion(alloc, "a")?)?)?;
+    push(alloc, &mut queue, 1, increment(alloc, "a", 1)?)?;
+    push(alloc, &mut queue, 2, increment(alloc, "b", 1)?)?;
+    push(alloc, &mut queue, 3, deletion(alloc, "a")?)?;
     Ok(queue)
 }
 
@@ -329,6 +334,11 @@ fn check_extended(rt: &(impl Abort + AllocGlobal), overlays: &mut Overlays) -> R
     extend(alloc, overlays, "a", &more)?;
     extend(alloc, overlays, "b", &more)?;
     assert!(rt; number_in(alloc, overlays, "a", None)? == Some(4));
+    Ok(())
+}
+
+fn check_taken_away(rt: &(impl Abort + AllocGlobal), overlays: &mut Overlays) -> Result<(), Fail> {
+    let alloc = rt.alloc();
     let key = room(alloc, "a")?;
     let rooms = key.parent(alloc)?;
     assert!(rt; overlays.keys_in(alloc, &rooms)?.len() == 1);
@@ -340,7 +350,8 @@ fn check_extended(rt: &(impl Abort + AllocGlobal), overlays: &mut Overlays) -> R
 #[test]
 fn documents_are_extended(rt: HostRuntime) -> Result<(), Fail> {
     let mut overlays = Overlays::new(rt.alloc());
-    check_extended(&rt, &mut overlays)
+    check_extended(&rt, &mut overlays)?;
+    check_taken_away(&rt, &mut overlays)
 }
 
 fn insert(alloc: Global, table: &mut KeyTable<u64>, segments: &[&str]) -> Result<(), Fail> {

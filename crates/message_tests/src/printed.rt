@@ -83,14 +83,24 @@ fn added(alloc: Global, root: &Database, resume: Option<Resume>) -> Result<Liste
     })
 }
 
+fn check_point(
+    rt: &(impl Abort + AllocGlobal),
+    root: &Database,
+    token: &[u8],
+    expected_count: u64,
+    wanted: &str,
+) -> Result<(), Fail> {
+    let resume = Resume {
+        token: bytes(rt.alloc(), token)?,
+        expected_count,
+    };
+    let request = added(rt.alloc(), root, Some(resume))?;
+    check_listen(rt, root, &request, wanted)
+}
+
 fn check_points(rt: &(impl Abort + AllocGlobal), root: &Database) -> Result<(), Fail> {
     for (token, expected_count, wanted) in POINTS {
-        let token = bytes(rt.alloc(), token)?;
-        let point = Resume {
-            token,
-            expected_count,
-        };
-        check_listen(rt, root, &added(rt.alloc(), root, Some(point))?, wanted)?;
+        check_point(rt, root, token, expected_count, wanted)?;
     }
     Ok(())
 }
@@ -102,9 +112,15 @@ fn points_of_targets(rt: HostRuntime) -> Result<(), Fail> {
 }
 
 #[test]
-fn listen_requests(rt: HostRuntime) -> Result<(), Fail> {
+fn an_added_target(rt: HostRuntime) -> Result<(), Fail> {
     let root = root(rt.alloc())?;
-    check_listen(&rt, &root, &added(rt.alloc(), &root, None)?, ADDED)?;
+    let request = added(rt.alloc(), &root, None)?;
+    check_listen(&rt, &root, &request, ADDED)
+}
+
+#[test]
+fn a_removed_target(rt: HostRuntime) -> Result<(), Fail> {
+    let root = root(rt.alloc())?;
     check_listen(&rt, &root, &ListenRequest::Remove { id: 2 }, REMOVED)
 }
 

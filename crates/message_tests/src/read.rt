@@ -121,10 +121,16 @@ fn a_changed_document(rt: HostRuntime) -> Result<(), Fail> {
 }
 
 #[test]
-fn documents_that_are_gone(rt: HostRuntime) -> Result<(), Fail> {
+fn a_deleted_document(rt: HostRuntime) -> Result<(), Fail> {
     let root = root(rt.alloc())?;
     let deleted = listened(rt.alloc(), &root, GONE)?;
     assert!(rt; matches!(&deleted, ListenResponse::Delete(gone) if gone.read_time.is_some()));
+    Ok(())
+}
+
+#[test]
+fn a_removed_document(rt: HostRuntime) -> Result<(), Fail> {
+    let root = root(rt.alloc())?;
     let removed = listened(rt.alloc(), &root, REMOVED)?;
     assert!(rt; matches!(&removed, ListenResponse::Remove(gone) if gone.read_time.is_none()));
     Ok(())

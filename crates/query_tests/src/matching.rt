@@ -204,14 +204,22 @@ fn lists_of_operands(rt: HostRuntime) -> Result<(), Fail> {
     Ok(())
 }
 
+fn check_tested(
+    rt: &(impl Abort + AllocGlobal),
+    op: UnaryOp,
+    wanted: [bool; 6],
+) -> Result<(), Fail> {
+    let query = query(rt.alloc(), tested(rt.alloc(), op)?)?;
+    check_found(rt, &query, wanted)
+}
+
 #[test]
 fn tests_of_null(rt: HostRuntime) -> Result<(), Fail> {
     for (op, wanted) in [
         (UnaryOp::IsNull, [true, false, false, false, false, false]),
         (UnaryOp::IsNotNull, [false, true, true, true, true, false]),
     ] {
-        let query = query(rt.alloc(), tested(rt.alloc(), op)?)?;
-        check_found(&rt, &query, wanted)?;
+        check_tested(&rt, op, wanted)?;
     }
     Ok(())
 }
@@ -253,32 +261,41 @@ fn is_before(
     query.before(lent(left), lent(right))
 }
 
-#[test]
-fn texts_in_order(rt: HostRuntime) -> Result<(), Fail> {
+/// By the query the first text stands before the second one, and not behind it.
+fn check_pair(
+    rt: &(impl Abort + AllocGlobal),
+    query: &Query,
+    first: &str,
+    second: &str,
+) -> Result<(), Fail> {
+    let is_first = check_before(rt, query, first, second)?;
+    let is_second = check_before(rt, query, second, first)?;
+    assert!(rt; is_first && !is_second, "{first} {second}");
+    Ok(())
+}
+
+fn check_texts(rt: &(impl Abort + AllocGlobal), query: &Query) -> Result<(), Fail> {
     for (first, second) in [
         ("Z", "a"),
         ("a", "é"),
         ("é", "\u{fffd}"),
         ("\u{fffd}", "\u{1f600}"),
     ] {
-        let ascending = by_n(rt.alloc(), false)?;
-        assert!(rt;
-            check_before(&rt, &ascending, first, second)?,
-            "{first} {second}"
-        );
-        assert!(rt;
-            !check_before(&rt, &ascending, second, first)?,
-            "{first} {second}"
-        );
+        check_pair(rt, query, first, second)?;
     }
     Ok(())
 }
 
 #[test]
+fn texts_in_order(rt: HostRuntime) -> Result<(), Fail> {
+    let ascending = by_n(rt.alloc(), false)?;
+    check_texts(&rt, &ascending)
+}
+
+#[test]
 fn texts_descending(rt: HostRuntime) -> Result<(), Fail> {
     let descending = by_n(rt.alloc(), true)?;
-    assert!(rt; check_before(&rt, &descending, "a", "Z")?);
-    Ok(())
+    check_pair(&rt, &descending, "a", "Z")
 }
 
 fn check_rule(rt: &(impl Abort + AllocGlobal), raw: RawCollection, rule: QueryRule) {
@@ -369,13 +386,15 @@ fn check_orders(rt: &impl Abort, orders: &[Order]) {
     assert!(rt; !orders[0].descending && !orders[1].descending);
 }
 
+fn check_implied(rt: &(impl Abort + AllocGlobal), query: &Query) -> Result<(), Fail> {
+    let target = query.target(rt.alloc())?;
+    check_target(rt, &target);
+    Ok(())
+}
+
 #[test]
 fn implied_orders(rt: HostRuntime) -> Result<(), Fail> {
-    let query = query(
-        rt.alloc(),
-        compared(rt.alloc(), Operator::GreaterThan, number(1))?,
-    )?;
-    let target = query.target(rt.alloc())?;
-    check_target(&rt, &target);
-    Ok(())
+    let filter = compared(rt.alloc(), Operator::GreaterThan, number(1))?;
+    let query = query(rt.alloc(), filter)?;
+    check_implied(&rt, &query)
 }

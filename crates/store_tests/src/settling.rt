@@ -1,10 +1,9 @@
 //! What the backend's side commits to a store: batches that are settled, points, and what is dropped.
 
 use crate::journal::host_of;
-use crate::stores::{number_of, payload, room};
+use crate::stores::{is_made, number_of, payload, room};
 use host_api::MemHost;
 use local_store::LocalStore;
-use record_codec::decode;
 use std::alloc::Global;
 use std::process::Abort;
 use std::test::Fail;
@@ -46,13 +45,8 @@ static DROPPED: [u8; 52] = [
 
 /// Opens the store and makes the commit that the bytes spell; whether it fits.
 fn reopened_and_made(alloc: Global, host: &mut MemHost, bytes: &[u8]) -> Result<bool, Fail> {
-    let commit = decode(alloc, bytes)?.ok_or("a commit")?;
     let mut store = LocalStore::open(alloc, host)?;
-    if !store.fits(&commit) {
-        return Ok(false);
-    }
-    store.commit(alloc, host, commit)?;
-    Ok(true)
+    is_made(alloc, host, &mut store, bytes)
 }
 
 /// What an opened store shows of `rooms/a`: its field, how it stands, and whether an unfinished write touches it.

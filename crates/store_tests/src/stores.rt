@@ -36,15 +36,43 @@ pub(crate) fn payload(alloc: Global, id: u8) -> Result<Vec<u8>, Fail> {
     Ok(bytes)
 }
 
-/// Opens the store and makes the commit whose batch has this id, which is the next one.
-fn open_and_commit(alloc: Global, host: &mut MemHost, id: u8) -> Result<LocalStore, Fail> {
-    let payload = payload(alloc, id)?;
-    let commit = decode(alloc, payload.as_slice())?.ok_or("a commit")?;
-    let mut store = LocalStore::open(alloc, host)?;
+/// Makes the commit that the payload spells; whether it fits.
+pub(crate) fn is_made<H: Host>(
+    alloc: Global,
+    host: &mut H,
+    store: &mut LocalStore,
+    payload: &[u8],
+) -> Result<bool, Fail>
+    requires { IsTrue H.tells_files → IsStored store.old (H.view host.old) }
+{
+    let commit = decode(alloc, payload)?.ok_or("a commit")?;
     if !store.fits(&commit) {
-        return Err("it doesn't fit".into());
+        return Ok(false);
     }
     store.commit(alloc, host, commit)?;
+    Ok(true)
+}
+
+/// Makes the commit whose batch has this id, which is the next one.
+fn make_batch<H: Host>(
+    alloc: Global,
+    host: &mut H,
+    store: &mut LocalStore,
+    id: u8,
+) -> Result<(), Fail>
+    requires { IsTrue H.tells_files → IsStored store.old (H.view host.old) }
+{
+    let payload = payload(alloc, id)?;
+    if !is_made(alloc, host, store, payload.as_slice())? {
+        return Err("it doesn't fit".into());
+    }
+    Ok(())
+}
+
+/// Opens the store and makes the commit whose batch has this id, which is the next one.
+fn open_and_commit(alloc: Global, host: &mut MemHost, id: u8) -> Result<LocalStore, Fail> {
+    let mut store = LocalStore::open(alloc, host)?;
+    make_batch(alloc, host, &mut store, id)?;
     Ok(store)
 }
 
@@ -75,19 +103,17 @@ fn check_numbers(rt: &impl Abort, store: &LocalStore, number: u64) {
     assert!(rt; store.pending().len() == number);
 }
 
-fn check_reopened(rt: &(impl Abort + AllocGlobal), host: &mut MemHost) -> Result<(), Fail> {
-    let store = open_and_commit(rt.alloc(), host, 1)?;
-    check_numbers(rt, &store, 1);
-    check_documents(rt, &store)?;
-    let store = open_and_commit(rt.alloc(), host, 2)?;
-    check_numbers(rt, &store, 2);
+fn check_reopened(rt: &(impl Abort + AllocGlobal), host: &mut MemHost, id: u8) -> Result<(), Fail> {
+    let store = open_and_commit(rt.alloc(), host, id)?;
+    check_numbers(rt, &store, id as u64);
     check_documents(rt, &store)
 }
 
 #[test]
 fn commits_are_found_again(rt: HostRuntime) -> Result<(), Fail> {
     let mut host = host_of(rt.alloc(), &[], &[])?;
-    check_reopened(&rt, &mut host)
+    check_reopened(&rt, &mut host, 1)?;
+    check_reopened(&rt, &mut host, 2)
 }
 
 /// A batch of so many deletes of one document.
@@ -109,10 +135,19 @@ fn deletes(alloc: Global, id: u64, count: usize) -> Result<Commit, Fail> {
     }))
 }
 
-#[test]
-fn commits_that_fit(rt: HostRuntime) -> Result<(), Fail> {
-    let mut host = host_of(rt.alloc(), &[], &[])?;
-    let store = LocalStore::open(rt.alloc(), &mut host)?;
+fn check_fits(
+    rt: &(impl Abort + AllocGlobal),
+    store: &LocalStore,
+    id: u64,
+    count: usize,
+    fits: bool,
+) -> Result<(), Fail> {
+    let commit = deletes(rt.alloc(), id, count)?;
+    assert!(rt; store.fits(&commit) == fits, "{id} and {count}");
+    Ok(())
+}
+
+fn check_batches(rt: &(impl Abort + AllocGlobal), store: &LocalStore) -> Result<(), Fail> {
     for (id, count, fits) in [
         (1, 1, true),
         (1, 500, true),
@@ -121,10 +156,16 @@ fn commits_that_fit(rt: HostRuntime) -> Result<(), Fail> {
         (0, 1, false),
         (2, 1, false),
     ] {
-        let commit = deletes(rt.alloc(), id, count)?;
-        assert!(rt; store.fits(&commit) == fits, "{id} and {count}");
+        check_fits(rt, store, id, count, fits)?;
     }
     Ok(())
+}
+
+#[test]
+fn commits_that_fit(rt: HostRuntime) -> Result<(), Fail> {
+    let mut host = host_of(rt.alloc(), &[], &[])?;
+    let store = LocalStore::open(rt.alloc(), &mut host)?;
+    check_batches(&rt, &store)
 }
 
 /// A host of blank files whose call of this number fails.
