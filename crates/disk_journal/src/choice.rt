@@ -19,7 +19,8 @@ pub(crate) enum Choice {
 
 /// The file of the higher generation counts, and file 0 on a tie.
 pub(crate) fn choose(zero: Reading, one: Reading) -> Choice
-    ensures choice { (files : Files) → IsReading zero (files Zero) → IsReading one (files One) → IsChoice result files }
+    ensures choice { (files : Files) → IsReading zero (files Zero) → IsReading one (files One)
+        → IsChoice result files }
     ensures within { IsWithin zero → IsWithin one → IsChoiceWithin result }
 {
     match (zero, one) {

@@ -20,7 +20,8 @@ const FRESH_REST: [u8; 16] = [
 /// # Errors
 /// `Failed` only where the count of disk faults rose.
 fn close_gate<H: Host>(host: &mut H, blank: Blank) -> Result<(), Failed>
-    requires { IsTrue H.tells_files → IsBlankAs blank ((H.view host.old).bytes Zero) × IsOnDisk Zero (H.view host.old) }
+    requires { IsTrue H.tells_files → IsBlankAs blank ((H.view host.old).bytes Zero)
+        × IsOnDisk Zero (H.view host.old) }
     ensures files { IsTrue H.tells_files → Closes result (H.view host.old) (H.view host.new) }
     ensures out { KeepsOut (H.view host.old) (H.view host.new) }
     ensures cause { Counts result (H.view host.old).disk_faults (H.view host.new).disk_faults }

@@ -61,15 +61,19 @@ impl Journal {
         ensures found { IfOk result (λ o. IsTrue H.tells_files
             → Gives (H.view host.old).bytes o.0.generation o.2) }
         ensures goes_on { IfOk result (λ o. IsTrue H.tells_files → GoesOn (H.view host.old).bytes o.1) }
-        ensures first { IfOk result (λ o. IsTrue H.tells_files → AreBlank (H.view host.old).bytes → o.0 ≡ record { file = Zero; generation = 1; end = 16 }) }
+        ensures first { IfOk result (λ o. IsTrue H.tells_files → AreBlank (H.view host.old).bytes
+            → o.0 ≡ record { file = Zero; generation = 1; end = 16 }) }
         ensures open { IfOk result (λ o. IsTrue H.tells_files → IsOpen o.0 o.2 (H.view host.new)) }
         ensures small { IfOk result (λ o. (length o.2 ≤ o.0.end) × (o.0.end ≤ 2 ^ 62)) }
         ensures place { IfOk result (λ o. o.1 ≡ o.0.file) }
         ensures files { IsTrue H.tells_files → Opens (H.view host.old) (H.view host.new) }
-        ensures settled { IsTrue H.tells_files → SettlesFirst H.view result (H.view host.old) (H.view host.new) }
+        ensures settled { IsTrue H.tells_files
+            → SettlesFirst H.view result (H.view host.old) (H.view host.new) }
         ensures out { KeepsOut (H.view host.old) (H.view host.new) }
-        ensures counts { RisesAt (IsErrOf result OpenFault.DiskFault) (H.view host.old).disk_faults (H.view host.new).disk_faults }
-        ensures cause { IfErr result (λ fault. IsCause H.tells_files fault (H.view host.old) (H.view host.new)) }
+        ensures counts { RisesAt (IsErrOf result OpenFault.DiskFault) (H.view host.old).disk_faults
+            (H.view host.new).disk_faults }
+        ensures cause { IfErr result (λ fault. IsCause H.tells_files fault (H.view host.old)
+            (H.view host.new)) }
     {
         let (zero, one) = look(alloc, host)?;
         match choose(zero, one) {
@@ -100,10 +104,15 @@ impl Journal {
     /// `Failed` only where the count of disk faults rose. There is no journal then, so that nothing is written behind
     /// what may have been torn: open the files again, which finds the payloads with the new one or without it.
     pub fn append<H: Host>(self, host: &mut H, frame: &Frame) -> Result<Journal, Failed>
-        requires { IsTrue H.tells_files → (payloads : List (List ℕ)) × IsOpen self payloads (H.view host.old) }
-        ensures files { IsTrue H.tells_files → (payloads : List (List ℕ)) → IsOpen self payloads (H.view host.old) → Appends self.generation payloads frame.now result (H.view host.old) (H.view host.new) }
-        ensures other_file { IsTrue H.tells_files → (H.view host.new).bytes (other self.file) ≡ (H.view host.old).bytes (other self.file) }
-        ensures grows { IfOk result (λ next. (self.end < next.end) × (next.end ≤ 2 ^ 62) × (next.file ≡ self.file) × (next.generation ≡ self.generation)) }
+        requires { IsTrue H.tells_files → (payloads : List (List ℕ))
+            × IsOpen self payloads (H.view host.old) }
+        ensures files { IsTrue H.tells_files → (payloads : List (List ℕ)) →
+            IsOpen self payloads (H.view host.old)
+            → Appends self.generation payloads frame.now result (H.view host.old) (H.view host.new) }
+        ensures other_file { IsTrue H.tells_files
+            → (H.view host.new).bytes (other self.file) ≡ (H.view host.old).bytes (other self.file) }
+        ensures grows { IfOk result (λ next. (self.end < next.end) × (next.end ≤ 2 ^ 62)
+            × (next.file ≡ self.file) × (next.generation ≡ self.generation)) }
         ensures out { KeepsOut (H.view host.old) (H.view host.new) }
         ensures cause { Counts result (H.view host.old).disk_faults (H.view host.new).disk_faults }
     {

@@ -16,7 +16,8 @@ pub(crate) fn put_down<H: Host>(
     piece: &[u8],
 ) -> Result<(), Failed>
     requires { IsTrue H.tells_files → at ≤ length ((H.view host.old).bytes file) }
-    ensures files { IsTrue H.tells_files → Lands file at piece.now result (H.view host.old) (H.view host.new) }
+    ensures files { IsTrue H.tells_files
+        → Lands file at piece.now result (H.view host.old) (H.view host.new) }
     ensures small { OnOk result (at + length piece.now ≤ 2 ^ 62) }
     ensures out { KeepsOut (H.view host.old) (H.view host.new) }
     ensures cause { Counts result (H.view host.old).disk_faults (H.view host.new).disk_faults }

@@ -26,7 +26,8 @@ fn read_whole<H: Host>(alloc: Global, host: &mut H, file: FileId) -> Result<Vec<
     ensures small { IfOk result (λ bytes. length bytes.items ≤ 2 ^ 62) }
     ensures files { IsTrue H.tells_files → Stays (H.view host.old) (H.view host.new) }
     ensures out { KeepsOut (H.view host.old) (H.view host.new) }
-    ensures counts { RisesAt (IsErrOf result OpenFault.DiskFault) (H.view host.old).disk_faults (H.view host.new).disk_faults }
+    ensures counts { RisesAt (IsErrOf result OpenFault.DiskFault) (H.view host.old).disk_faults
+        (H.view host.new).disk_faults }
     ensures cause { IfErr result (λ fault. IsReadCause fault (H.view host.old) (H.view host.new)) }
 {
     let len = host.file_len(file)?;
@@ -36,11 +37,13 @@ fn read_whole<H: Host>(alloc: Global, host: &mut H, file: FileId) -> Result<Vec<
 }
 
 fn look_at<H: Host>(alloc: Global, host: &mut H, file: FileId) -> Result<Reading, OpenFault>
-    ensures reading { IfOk result (λ reading. IsTrue H.tells_files → IsReading reading ((H.view host.old).bytes file)) }
+    ensures reading { IfOk result (λ reading. IsTrue H.tells_files
+        → IsReading reading ((H.view host.old).bytes file)) }
     ensures within { IfOk result IsWithin }
     ensures files { IsTrue H.tells_files → Stays (H.view host.old) (H.view host.new) }
     ensures out { KeepsOut (H.view host.old) (H.view host.new) }
-    ensures counts { RisesAt (IsErrOf result OpenFault.DiskFault) (H.view host.old).disk_faults (H.view host.new).disk_faults }
+    ensures counts { RisesAt (IsErrOf result OpenFault.DiskFault) (H.view host.old).disk_faults
+        (H.view host.new).disk_faults }
     ensures cause { IfErr result (λ fault. IsReadCause fault (H.view host.old) (H.view host.new)) }
 {
     let bytes = read_whole(alloc, host, file)?;
@@ -48,11 +51,13 @@ fn look_at<H: Host>(alloc: Global, host: &mut H, file: FileId) -> Result<Reading
 }
 
 fn look_at_each<H: Host>(alloc: Global, host: &mut H) -> Result<(Reading, Reading), OpenFault>
-    ensures readings { IfOk result (λ r. IsTrue H.tells_files → ((file : FileId) → IsOnDisk file (H.view host.old)) → Seen r.0 r.1 (H.view host.new)) }
+    ensures readings { IfOk result (λ r. IsTrue H.tells_files
+        → ((file : FileId) → IsOnDisk file (H.view host.old)) → Seen r.0 r.1 (H.view host.new)) }
     ensures within { IfOk result (λ r. IsWithin r.0 × IsWithin r.1) }
     ensures files { IsTrue H.tells_files → Stays (H.view host.old) (H.view host.new) }
     ensures out { KeepsOut (H.view host.old) (H.view host.new) }
-    ensures counts { RisesAt (IsErrOf result OpenFault.DiskFault) (H.view host.old).disk_faults (H.view host.new).disk_faults }
+    ensures counts { RisesAt (IsErrOf result OpenFault.DiskFault) (H.view host.old).disk_faults
+        (H.view host.new).disk_faults }
     ensures cause { IfErr result (λ fault. IsReadCause fault (H.view host.old) (H.view host.new)) }
 {
     let zero = look_at(alloc, host, FileId::Zero)?;
@@ -67,7 +72,8 @@ pub(crate) fn look<H: Host>(alloc: Global, host: &mut H) -> Result<(Reading, Rea
     ensures files { IsTrue H.tells_files → Stays (H.view host.old) (H.view host.new) }
     ensures settled { IsTrue H.tells_files → SettlesFirst H.view result (H.view host.old) (H.view host.new) }
     ensures out { KeepsOut (H.view host.old) (H.view host.new) }
-    ensures counts { RisesAt (IsErrOf result OpenFault.DiskFault) (H.view host.old).disk_faults (H.view host.new).disk_faults }
+    ensures counts { RisesAt (IsErrOf result OpenFault.DiskFault) (H.view host.old).disk_faults
+        (H.view host.new).disk_faults }
     ensures cause { IfErr result (λ fault. IsReadCause fault (H.view host.old) (H.view host.new)) }
 {
     settle(host)?;

@@ -106,7 +106,8 @@ impl DurableState {
 
     /// The entry of the key and its seal, lent; `None` exactly where there is no entry.
     pub fn entry(&self, key: &DocumentKey) -> Option<(&Entry, &Seal)>
-        ensures { option_map (λ pair. (pair.0.now, pair.1.now)) result ≡ sealed_entry_of (state_in self.now) key.now }
+        ensures { option_map (λ pair. (pair.0.now, pair.1.now)) result
+            ≡ sealed_entry_of (state_in self.now) key.now }
     {
         self.entries.entry(key)
     }

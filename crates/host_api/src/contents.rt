@@ -43,7 +43,9 @@ impl Contents {
         piece: &[u8],
         done: bool,
     ) -> Result<(), AllocError>
-        ensures ok { OnOk result (OnFile file (λ old new. new ≡ (if done then over old at piece.now else old)) (held self.old) (held self.new)) }
+        ensures ok { OnOk result (OnFile file
+            (λ old new. new ≡ (if done then over old at piece.now else old)) (held self.old)
+            (held self.new)) }
         ensures err { OnErr result (SameContents self.old self.new) }
     {
         if !done {
@@ -57,7 +59,8 @@ impl Contents {
 
     // cuts a file where it is to be done
     pub(crate) fn truncate(&mut self, file: FileId, len: usize, done: bool)
-        ensures { OnFile file (λ old new. new ≡ (if done then take len old else old)) (held self.old) (held self.new) }
+        ensures { OnFile file (λ old new. new ≡ (if done then take len old else old))
+            (held self.old) (held self.new) }
     {
         if !done {
             return;

@@ -57,7 +57,8 @@ pub trait Host {
     /// # Errors
     /// `Failed` only where the count of sink faults rose. A front of the piece may then stand in the output.
     fn emit(&mut self, piece: &[u8]) -> Result<(), Failed>
-        ensures done { IsTrue tells_out → OnOk result ((view self.new).out ≡ (view self.old).out ++ piece.now) }
+        ensures done { IsTrue tells_out → OnOk result
+            ((view self.new).out ≡ (view self.old).out ++ piece.now) }
         ensures out { IsTrue tells_out → IsPart piece.now (view self.old).out (view self.new).out }
         ensures files { IsTrue tells_files → Emits piece.now (view self.old) (view self.new) }
         ensures disk_faults { (view self.new).disk_faults ≡ (view self.old).disk_faults }
@@ -80,7 +81,8 @@ pub trait Host {
     /// `Failed` only where the count of disk faults rose. Nothing is then said of the buffer.
     fn read(&mut self, file: FileId, at: u64, into: &mut [u8]) -> Result<(), Failed>
         requires { IsTrue tells_files → at + length into.old ≤ length ((view self.old).bytes file) }
-        ensures done { OnOk result (IsTrue tells_files → into.new ≡ slice_range ((view self.old).bytes file) at (at + length into.old)) }
+        ensures done { OnOk result (IsTrue tells_files
+            → into.new ≡ slice_range ((view self.old).bytes file) at (at + length into.old)) }
         ensures files { IsTrue tells_files → Stays (view self.old) (view self.new) }
         ensures out { KeepsOut (view self.old) (view self.new) }
         ensures cause { Counts result (view self.old).disk_faults (view self.new).disk_faults };

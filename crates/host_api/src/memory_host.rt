@@ -121,10 +121,17 @@ impl MemHost {
     /// # Errors
     /// There was no memory for the files.
     pub fn crash(&self, alloc: Global, pick: &CrashPick) -> Result<MemHost, NoMemory>
-        ensures left { IfOk result (λ crashed. (t : ℕ) → t ≤ taken_calls pick.now self.now → (host_view self.now).left_since t (output_at (taken_calls pick.now self.now) self.now.past) (host_view crashed).bytes) }
-        ensures zero { IfOk result (λ crashed. IsPicked (disk_at FileId.Zero (taken_calls pick.now self.now) self.now.past) pick.now.len0 pick.now.fill ((host_view crashed).bytes FileId.Zero)) }
-        ensures one { IfOk result (λ crashed. IsPicked (disk_at FileId.One (taken_calls pick.now self.now) self.now.past) pick.now.len1 pick.now.fill ((host_view crashed).bytes FileId.One)) }
-        ensures fresh { IfOk result (λ crashed. IsFresh ((host_view crashed).bytes FileId.Zero) ((host_view crashed).bytes FileId.One) [] crashed) }
+        ensures left { IfOk result (λ crashed. (t : ℕ) → t ≤ taken_calls pick.now self.now
+            → (host_view self.now).left_since t
+            (output_at (taken_calls pick.now self.now) self.now.past) (host_view crashed).bytes) }
+        ensures zero { IfOk result (λ crashed. IsPicked
+            (disk_at FileId.Zero (taken_calls pick.now self.now) self.now.past) pick.now.len0
+            pick.now.fill ((host_view crashed).bytes FileId.Zero)) }
+        ensures one { IfOk result (λ crashed. IsPicked
+            (disk_at FileId.One (taken_calls pick.now self.now) self.now.past) pick.now.len1
+            pick.now.fill ((host_view crashed).bytes FileId.One)) }
+        ensures fresh { IfOk result (λ crashed. IsFresh ((host_view crashed).bytes FileId.Zero)
+            ((host_view crashed).bytes FileId.One) [] crashed) }
     {
         let calls = pick.calls.min(self.log.calls());
         let zero = self.log.replay(alloc, FileId::Zero, calls)?;
@@ -174,7 +181,8 @@ impl MemHost {
     }
 
     fn try_emit(&mut self, piece: &[u8]) -> Outcome
-        ensures tried { Tried (λ done. if done then past.emit piece.now ∷ [] else []) ⊥ result self.old self.new }
+        ensures tried { Tried (λ done. if done then past.emit piece.now ∷ [] else []) ⊥ result
+            self.old self.new }
         ensures counted { Counted self.old self.new }
     {
         if self.is_full() || self.is_listed() {
@@ -192,7 +200,8 @@ impl MemHost {
 
     fn try_write(&mut self, file: FileId, at: u64, piece: &[u8]) -> Outcome
         requires { at ≤ length ((host_view self.old).bytes file) }
-        ensures tried { Tried (λ done. past.write file at piece.now done ∷ []) (2 ^ 62 < at + length piece.now) result self.old self.new }
+        ensures tried { Tried (λ done. past.write file at piece.now done ∷ [])
+            (2 ^ 62 < at + length piece.now) result self.old self.new }
         ensures counted { Counted self.old self.new }
     {
         let fits = at <= FILE_LIMIT && piece.len() as u64 <= FILE_LIMIT - at;
@@ -296,7 +305,8 @@ impl Host for MemHost {
         ensures files { Emits piece.now (host_view self.old) (host_view self.new) }
         ensures disk_faults { (host_view self.new).disk_faults ≡ (host_view self.old).disk_faults }
         ensures cause { Counts result (host_view self.old).sink_faults (host_view self.new).sink_faults }
-        ensures explains { Explains (λ done. if done then past.emit piece.now ∷ [] else []) ⊥ result self.old self.new }
+        ensures explains { Explains (λ done.
+            if done then past.emit piece.now ∷ [] else []) ⊥ result self.old self.new }
     {
         let outcome = self.try_emit(piece);
         self.settle_sink(outcome)
@@ -308,7 +318,8 @@ impl Host for MemHost {
         ensures files { Stays (host_view self.old) (host_view self.new) }
         ensures out { KeepsOut (host_view self.old) (host_view self.new) }
         ensures cause { Counts result (host_view self.old).disk_faults (host_view self.new).disk_faults }
-        ensures explains { Explains (λ _. []) (2 ^ 62 < length ((host_view self.old).bytes file)) result self.old self.new }
+        ensures explains { Explains (λ _. [])
+            (2 ^ 62 < length ((host_view self.old).bytes file)) result self.old self.new }
     {
         let len = self.file(file).len() as u64;
         let outcome = self.look(len > FILE_LIMIT);
@@ -318,7 +329,8 @@ impl Host for MemHost {
 
     fn read(&mut self, file: FileId, at: u64, into: &mut [u8]) -> Result<(), Failed>
         requires { at + length into.old ≤ length ((host_view self.old).bytes file) }
-        ensures done { OnOk result (into.new ≡ slice_range ((host_view self.old).bytes file) at (at + length into.old)) }
+        ensures done { OnOk result (into.new
+            ≡ slice_range ((host_view self.old).bytes file) at (at + length into.old)) }
         ensures files { Stays (host_view self.old) (host_view self.new) }
         ensures out { KeepsOut (host_view self.old) (host_view self.new) }
         ensures cause { Counts result (host_view self.old).disk_faults (host_view self.new).disk_faults }
@@ -336,7 +348,8 @@ impl Host for MemHost {
         ensures small { OnOk result (at + length piece.now ≤ 2 ^ 62) }
         ensures out { KeepsOut (host_view self.old) (host_view self.new) }
         ensures cause { Counts result (host_view self.old).disk_faults (host_view self.new).disk_faults }
-        ensures explains { Explains (λ done. past.write file at piece.now done ∷ []) (2 ^ 62 < at + length piece.now) result self.old self.new }
+        ensures explains { Explains (λ done. past.write file at piece.now done ∷ [])
+            (2 ^ 62 < at + length piece.now) result self.old self.new }
     {
         let outcome = self.try_write(file, at, piece);
         self.settle_disk(outcome)
@@ -357,7 +370,8 @@ impl Host for MemHost {
         ensures files { Syncs file result (host_view self.old) (host_view self.new) }
         ensures out { KeepsOut (host_view self.old) (host_view self.new) }
         ensures cause { Counts result (host_view self.old).disk_faults (host_view self.new).disk_faults }
-        ensures explains { Explains (λ done. if done then past.sync file ∷ [] else []) ⊥ result self.old self.new }
+        ensures explains { Explains (λ done.
+            if done then past.sync file ∷ [] else []) ⊥ result self.old self.new }
     {
         let outcome = self.try_sync(file);
         self.settle_disk(outcome)

@@ -77,7 +77,13 @@ fn rest_of_line(rest: &[u8]) -> Option<usize>
 impl MemSource {
     /// A source before the text. The calls with these numbers, from 1, answer `Failed`.
     pub fn new(text: Vec<u8>, failing: Vec<u64>) -> MemSource
-        ensures { result ≡ record { text = text.items; skipping = false; failing = failing.items; calls = 0; faults = 0 } }
+        ensures { result ≡ record {
+          text = text.items;
+          skipping = false;
+          failing = failing.items;
+          calls = 0;
+          faults = 0;
+        } }
     {
         MemSource {
             text,
@@ -136,7 +142,8 @@ impl MemSource {
     fn take_line(&mut self, out: &mut Vec<u8>) -> Result<Line, AllocError>
         requires start { self.old.skipping ≡ false }
         requires empty { out.old.items ≡ [] }
-        ensures takes { IfOk result (λ line. Next (item_of line out.new.items) (split (left_of self.old)) (split (left_of self.new))) }
+        ensures takes { IfOk result (λ line. Next (item_of line out.new.items)
+            (split (left_of self.old)) (split (left_of self.new))) }
         ensures leaves { IfOk result (λ line. Leaves line self.old self.new) }
         ensures stays { OnErr result (self.new ≡ self.old) }
         ensures counts { SameCounts self.old self.new }
@@ -168,12 +175,14 @@ impl Source for MemSource {
     ghost faults = { λ s. s.faults };
 
     fn line(&mut self, _alloc: Global, out: &mut Vec<u8>) -> Result<Line, SourceFault>
-        ensures takes { IfOk result (λ line. Next (item_of line out.new.items) (split (left_of self.old)) (split (left_of self.new))) }
+        ensures takes { IfOk result (λ line. Next (item_of line out.new.items)
+            (split (left_of self.old)) (split (left_of self.new))) }
         ensures stays { OnErr result (left_of self.new ≡ left_of self.old) }
         ensures suffix { OnErr result (IsSuffix (left_of self.old) (left_of self.new)) }
         ensures cause { SourceCounts result self.old.faults self.new.faults }
         ensures leaves { IfOk result (λ line. Leaves line self.old self.new) }
-        ensures failed { IsErrOf result SourceFault.Failed → Refuses self.old self.new ⊎ Skips self.old self.new }
+        ensures failed { IsErrOf result SourceFault.Failed → Refuses self.old self.new
+            ⊎ Skips self.old self.new }
         ensures fails { IsListed self.old ⊎ SkipsAll self.old → IsErrOf result SourceFault.Failed }
         ensures number { self.new.calls ≡ next_number self.old }
         ensures failing { self.new.failing ≡ self.old.failing }

@@ -98,8 +98,10 @@ impl Replay {
 
     // the byte that a crash leaves here
     fn picked(&self, i: usize, fill: Option<u8>) -> u8
-        ensures stable { i < self.now.least → (IsLoose i self.now.loose.items → ⊥) → result ≡ slice_index self.now.bytes.items i }
-        ensures loose { IsLoose i self.now.loose.items ⊎ self.now.least ≤ i → result ≡ unwrap_or fill (slice_index self.now.bytes.items i) }
+        ensures stable { i < self.now.least → (IsLoose i self.now.loose.items → ⊥)
+            → result ≡ slice_index self.now.bytes.items i }
+        ensures loose { IsLoose i self.now.loose.items ⊎ self.now.least ≤ i
+            → result ≡ unwrap_or fill (slice_index self.now.bytes.items i) }
     {
         let read = self.bytes.get(i).copied().unwrap_or(0);
         if i < self.least && !self.is_loose(i) {

@@ -12,7 +12,8 @@ pub(crate) const SKIP_LIMIT: usize = 4_294_967_296;
 
 // where the first newline is
 pub(crate) fn newline_in(text: &[u8]) -> Option<usize>
-    ensures { MatchOption result (IsLine text.now) (λ i. (i < length text.now) × IsLine (take i text.now) × (slice_index text.now i ≡ 10)) }
+    ensures { MatchOption result (IsLine text.now)
+        (λ i. (i < length text.now) × IsLine (take i text.now) × (slice_index text.now i ≡ 10)) }
 {
     text.iter().position(|byte| *byte == b'\n')
 }
@@ -64,7 +65,9 @@ pub trait Source {
     /// `Failed` only where the count of faults rose, `NoMemory` where the line found no room. After either, no line
     /// was taken, the bytes left are a suffix of those before, and nothing is said of `out`.
     fn line(&mut self, alloc: Global, out: &mut Vec<u8>) -> Result<Line, SourceFault>
-        ensures takes { IsTrue tells → IfOk result (λ line. Next (item_of line out.new.items) (split (left self.old)) (split (left self.new))) }
+        ensures takes { IsTrue tells → IfOk result
+            (λ line. Next (item_of line out.new.items) (split (left self.old))
+            (split (left self.new))) }
         ensures suffix { IsTrue tells → OnErr result (IsSuffix (left self.old) (left self.new)) }
         ensures cause { SourceCounts result (faults self.old) (faults self.new) };
 }

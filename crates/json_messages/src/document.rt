@@ -34,7 +34,9 @@ fn clean_key(
     members: &Map<String, Json>,
 ) -> Result<DocumentKey, NoMemory>
     requires { AreClean setting.now objects.Document (members_view members.now.entries) }
-    ensures key { IfOk result (λ key. IsGiven (given (codes "name") (members_view members.now.entries)) (λ d. SpellsName setting.now.root d key)) }
+    ensures key { IfOk result (λ key. IsGiven
+        (given (codes "name") (members_view members.now.entries))
+        (λ d. SpellsName setting.now.root d key)) }
     ensures storable { IfOk result IsStorableKey }
 {
     match clean_member(setting, Object::Document, members, "name") {
@@ -69,7 +71,8 @@ fn clean_fields_in(
 #[tactic(auto, unfolding(json_model::specs::Places::document_rows))]
 fn clean_update_time(setting: &Setting<'_>, members: &Map<String, Json>) -> Timestamp
     requires { AreClean setting.now objects.Document (members_view members.now.entries) }
-    ensures time { IsGiven (given (codes "updateTime") (members_view members.now.entries)) (λ d. SpellsTime d result) }
+    ensures time { IsGiven (given (codes "updateTime") (members_view members.now.entries))
+        (λ d. SpellsTime d result) }
     ensures moment { IsMoment result }
 {
     match clean_member(setting, Object::Document, members, "updateTime") {
@@ -88,7 +91,8 @@ fn clean_document(
     json: &Json,
 ) -> Result<DocumentChange, NoMemory>
     requires { IsClean setting.now (places.Object objects.Document) (view json.now) }
-    ensures document { IfOk result (λ change. InObject (view json.now) (λ ms. SpellsDocumentIn setting.now.root ms change)) }
+    ensures document { IfOk result (λ change. InObject (view json.now)
+        (λ ms. SpellsDocumentIn setting.now.root ms change)) }
     ensures targets { IfOk result (λ change. change.target_ids ≡ target_ids) }
     ensures removed { IfOk result (λ change. change.removed_target_ids ≡ removed_target_ids) }
     ensures storable { IfOk result IsStorableDocument }
@@ -112,7 +116,8 @@ pub(crate) fn clean_document_change(
     json: &Json,
 ) -> Result<DocumentChange, NoMemory>
     requires { IsClean setting.now (places.Object objects.DocumentChange) (view json.now) }
-    ensures change { IfOk result (λ change. InObject (view json.now) (λ ms. SpellsDocumentChange setting.now.root ms change)) }
+    ensures change { IfOk result (λ change. InObject (view json.now)
+        (λ ms. SpellsDocumentChange setting.now.root ms change)) }
     ensures storable { IfOk result IsStorableDocument }
 {
     let object = Object::DocumentChange;
@@ -133,7 +138,9 @@ fn clean_gone_key(
     members: &Map<String, Json>,
 ) -> Result<DocumentKey, NoMemory>
     requires { AreClean setting.now objects.DocumentDelete (members_view members.now.entries) }
-    ensures key { IfOk result (λ key. IsGiven (given (codes "document") (members_view members.now.entries)) (λ d. SpellsName setting.now.root d key)) }
+    ensures key { IfOk result (λ key. IsGiven
+        (given (codes "document") (members_view members.now.entries))
+        (λ d. SpellsName setting.now.root d key)) }
     ensures storable { IfOk result IsStorableKey }
 {
     match clean_member(setting, Object::DocumentDelete, members, "document") {
@@ -150,7 +157,9 @@ pub(crate) fn clean_document_delete(
     json: &Json,
 ) -> Result<DocumentDelete, NoMemory>
     requires { IsClean setting.now (places.Object objects.DocumentDelete) (view json.now) }
-    ensures gone { IfOk result (λ gone. InObject (view json.now) (λ ms. SpellsDocumentGone setting.now.root ms gone.key gone.removed_target_ids gone.read_time)) }
+    ensures gone { IfOk result (λ gone. InObject (view json.now)
+        (λ ms. SpellsDocumentGone setting.now.root ms gone.key gone.removed_target_ids
+        gone.read_time)) }
     ensures storable { IfOk result (λ gone. IsStorableGone gone.key gone.read_time) }
 {
     let object = Object::DocumentDelete;
@@ -169,7 +178,9 @@ pub(crate) fn clean_document_remove(
     json: &Json,
 ) -> Result<DocumentRemove, NoMemory>
     requires { IsClean setting.now (places.Object objects.DocumentDelete) (view json.now) }
-    ensures gone { IfOk result (λ gone. InObject (view json.now) (λ ms. SpellsDocumentGone setting.now.root ms gone.key gone.removed_target_ids gone.read_time)) }
+    ensures gone { IfOk result (λ gone. InObject (view json.now)
+        (λ ms. SpellsDocumentGone setting.now.root ms gone.key gone.removed_target_ids
+        gone.read_time)) }
     ensures storable { IfOk result (λ gone. IsStorableGone gone.key gone.read_time) }
 {
     let gone = clean_document_delete(alloc, setting, json)?;

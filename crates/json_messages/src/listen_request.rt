@@ -68,7 +68,8 @@ fn print_target_members(
     root: &Database,
     target: &Target,
 ) -> Result<Map<String, Json>, NoMemory>
-    ensures { IfOk result (λ members. object (members_view members.entries) ≡ target_tree root.now target.now) }
+    ensures { IfOk result (λ members. object (members_view members.entries)
+        ≡ target_tree root.now target.now) }
 {
     match print_target(alloc, root, target)? {
         Json::Object(members) => Ok(members),
@@ -102,7 +103,9 @@ fn print_added_target(
 
 /// An object of the database and a request.
 fn request_tree(alloc: Global, root: &Database, name: &str, request: Json) -> Result<Json, NoMemory>
-    ensures { IfOk result (λ json. view json ≡ object (put name.now (view request) (member (codes "database") (string (root_text root.now)) no_members))) }
+    ensures { IfOk result (λ json. view json
+        ≡ object (put name.now (view request)
+        (member (codes "database") (string (root_text root.now)) no_members))) }
 {
     let mut members = Map::new(alloc);
     put_member(

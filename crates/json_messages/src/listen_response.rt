@@ -31,7 +31,8 @@ fn clean_listen_under(
 ) -> Result<ListenResponse, NoMemory>
     requires choice { is_choice objects.ListenResponse name.now ≡ true }
     requires clean { IsClean setting.now (member_place objects.ListenResponse name.now) (view json.now) }
-    ensures response { IfOk result (λ response. SpellsListenUnder setting.now.root name.now (view json.now) response) }
+    ensures response { IfOk result (λ response. SpellsListenUnder setting.now.root name.now
+        (view json.now) response) }
     ensures storable { IfOk result IsStorableResponse }
 {
     match name {
@@ -69,7 +70,8 @@ pub fn clean_listen_response(
     json: &Json,
 ) -> Result<ListenResponse, NoMemory>
     requires { IsClean setting.now (places.Object objects.ListenResponse) (view json.now) }
-    ensures response { IfOk result (λ response. SpellsListenResponse setting.now.root (view json.now) response) }
+    ensures response { IfOk result (λ response. SpellsListenResponse setting.now.root
+        (view json.now) response) }
     ensures storable { IfOk result IsStorableResponse }
 {
     let members = clean_object(setting, Object::ListenResponse, json);

@@ -87,8 +87,11 @@ pub(crate) fn clean_cause_in(
 /// The status that the tree spells, of that side and under that root.
 fn read_under(alloc: Global, setting: &Setting<'_>, json: &Json) -> Result<RpcStatus, JsonFault>
     ensures status { IfOk result (λ status. SpellsStatus (view json.now) status) }
-    ensures clean { IfOk result (λ _. FaultsAt setting.now max_nesting (places.Object objects.Status) (codes "status") (view json.now) []) }
-    ensures fault { IfErr result (λ fault. IsFault (FaultsAt setting.now max_nesting (places.Object objects.Status) (codes "status") (view json.now)) fault) }
+    ensures clean { IfOk result (λ _. FaultsAt setting.now max_nesting
+        (places.Object objects.Status) (codes "status") (view json.now) []) }
+    ensures fault { IfErr result (λ fault. IsFault
+        (FaultsAt setting.now max_nesting (places.Object objects.Status) (codes "status")
+        (view json.now)) fault) }
 {
     let place = Place::Object(Object::Status);
     if let Err(fault) = check(alloc, setting, MAX_NESTING, place, "status", json) {
@@ -136,7 +139,9 @@ fn text_unless_empty(alloc: Global, text: &str) -> Result<Option<Json>, NoMemory
 
 /// The members of a status.
 fn print_members(alloc: Global, status: &RpcStatus) -> Result<Map<String, Json>, NoMemory>
-    ensures { IfOk result (λ members. members_view members.entries ≡ present ((codes "code", unless_zero_of status.now.code) ∷ (codes "message", text_unless_empty_of status.now.message) ∷ [])) }
+    ensures { IfOk result (λ members. members_view members.entries
+        ≡ present ((codes "code", unless_zero_of status.now.code) ∷
+        (codes "message", text_unless_empty_of status.now.message) ∷ [])) }
 {
     let mut members = Map::new(alloc);
     let message = text_unless_empty(alloc, status.message.as_str())?;

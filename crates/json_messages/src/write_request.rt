@@ -21,7 +21,8 @@ use std::alloc::{AllocError, Global};
 
 /// The trees of writes.
 fn print_writes(alloc: Global, root: &Database, writes: &[Write]) -> Result<Vec<Json>, NoMemory>
-    ensures { IfOk result (λ trees. items_view trees.items ≡ printed_each (printed_write root.now) writes.now) }
+    ensures { IfOk result (λ trees. items_view trees.items
+        ≡ printed_each (printed_write root.now) writes.now) }
 {
     let mut trees = Vec::new(alloc);
     for write in writes {
@@ -37,7 +38,9 @@ fn print_batch(
     token: &[u8],
     writes: &[Write],
 ) -> Result<Map<String, Json>, NoMemory>
-    ensures { IfOk result (λ members. members_view members.entries ≡ present ((codes "streamToken", printed_token token.now) ∷ (codes "writes", unless_empty_of (printed_each (printed_write root.now) writes.now)) ∷ [])) }
+    ensures { IfOk result (λ members. members_view members.entries
+        ≡ present ((codes "streamToken", printed_token token.now) ∷
+        (codes "writes", unless_empty_of (printed_each (printed_write root.now) writes.now)) ∷ [])) }
 {
     let trees = print_writes(alloc, root, writes)?;
     let mut members = Map::new(alloc);

@@ -73,7 +73,8 @@ fn clean_result_items(
     json: &Json,
 ) -> Result<Vec<WriteResult>, NoMemory>
     requires { IsClean setting.now (places.Series serieses.Results) (view json.now) }
-    ensures results { IfOk result (λ results. SpellsEach SpellsWriteResult (Some (view json.now)) results.items) }
+    ensures results { IfOk result (λ results. SpellsEach SpellsWriteResult
+        (Some (view json.now)) results.items) }
     ensures storable { IfOk result (λ results. AreAllStorable IsStorableResult results.items) }
 {
     let items = clean_list(setting, Series::Results, json);

@@ -33,7 +33,8 @@ pub fn check(
     json: &Json,
 ) -> Result<(), JsonFault>
     ensures clean { OnOk result (FaultsAt setting.now limit place name.now (view json.now) []) }
-    ensures fault { IfErr result (λ fault. IsFault (FaultsAt setting.now limit place name.now (view json.now)) fault) }
+    ensures fault { IfErr result (λ fault. IsFault
+        (FaultsAt setting.now limit place name.now (view json.now)) fault) }
 {
     match find_fault(alloc, setting, limit, place, name, json) {
         Ok(Some(fault)) => Err(fault),
@@ -84,9 +85,13 @@ pub fn clean_member<'a>(
 ) -> Option<&'a Json>
     requires { AreClean _setting.now _object (members_view members.now.entries) }
     ensures is { option_map (λ v. view v.now) result ≡ given_of name.now (members_view members.now.entries) }
-    ensures clean { IfSome result (λ v. IsClean _setting.now (member_place_of (refined_of _object (members_view members.now.entries)) name.now) (view v.now)) }
-    ensures there { is_among name.now (required (refined_of _object (members_view members.now.entries))) ≡ true → IsSome result }
-    ensures depth { IfSome result (λ v. depth (view v.now) ≤ members_depth (members_view members.now.entries)) }
+    ensures clean { IfSome result (λ v. IsClean _setting.now
+        (member_place_of (refined_of _object (members_view members.now.entries)) name.now)
+        (view v.now)) }
+    ensures there { is_among name.now (required
+        (refined_of _object (members_view members.now.entries))) ≡ true → IsSome result }
+    ensures depth { IfSome result (λ v. depth (view v.now) ≤ members_depth
+        (members_view members.now.entries)) }
 {
     given(members, name)
 }
@@ -103,7 +108,9 @@ pub fn clean_choice<'a>(
     ensures known { is_unknown (member_place_of object result.0.now) ≡ false }
     ensures choice { is_choice object result.0.now ≡ true }
     ensures only { chosen object (members_view members.now.entries) ≡ (result.0.now, view result.1.now) ∷ [] }
-    ensures clean { IsClean _setting.now (member_place_of (refined_of object (members_view members.now.entries)) result.0.now) (view result.1.now) }
+    ensures clean { IsClean _setting.now
+        (member_place_of (refined_of object (members_view members.now.entries)) result.0.now)
+        (view result.1.now) }
     ensures depth { depth (view result.1.now) ≤ members_depth (members_view members.now.entries) }
 {
     match only_choice(object, members) {

@@ -52,33 +52,38 @@ pub(crate) fn is_null_tree(json: &Json) -> bool
 }
 
 fn find_in_null(alloc: Global, name: &str, json: &Json) -> Result<Option<JsonFault>, NoMemory>
-    ensures { IfOk result (λ found. FirstOf (Unless (IsNullTree (view json.now)) (json_fault.BadShape name.now)) found) }
+    ensures { IfOk result (λ found. FirstOf
+        (Unless (IsNullTree (view json.now)) (json_fault.BadShape name.now)) found) }
 {
     bad_shape_unless(alloc, is_null_tree(json), name)
 }
 
 fn find_in_boolean(alloc: Global, name: &str, json: &Json) -> Result<Option<JsonFault>, NoMemory>
-    ensures { IfOk result (λ found. FirstOf (Unless ((is : Bool) × (view json.now ≡ boolean is)) (json_fault.BadShape name.now)) found) }
+    ensures { IfOk result (λ found. FirstOf
+        (Unless ((is : Bool) × (view json.now ≡ boolean is)) (json_fault.BadShape name.now)) found) }
 {
     bad_shape_unless(alloc, json.is_boolean(), name)
 }
 
 fn find_in_integer(alloc: Global, name: &str, json: &Json) -> Result<Option<JsonFault>, NoMemory>
-    ensures { IfOk result (λ found. FirstOf (Unless ((z : ℤ) × SpellsWhole (view json.now) z) (json_fault.BadShape name.now)) found) }
+    ensures { IfOk result (λ found. FirstOf
+        (Unless ((z : ℤ) × SpellsWhole (view json.now) z) (json_fault.BadShape name.now)) found) }
 {
     let number = read_whole(alloc, json)?;
     bad_shape_unless(alloc, number.is_some(), name)
 }
 
 fn find_in_text(alloc: Global, name: &str, json: &Json) -> Result<Option<JsonFault>, NoMemory>
-    ensures { IfOk result (λ found. FirstOf (Unless (IsText (view json.now)) (json_fault.BadShape name.now)) found) }
+    ensures { IfOk result (λ found. FirstOf
+        (Unless (IsText (view json.now)) (json_fault.BadShape name.now)) found) }
 {
     bad_shape_unless(alloc, json.is_string(), name)
 }
 
 #[tactic(auto, using(crate::proofs::Kinded::unless_some, crate::proofs::Kinded::no_time))]
 fn find_in_time_text(alloc: Global, name: &str, text: &str) -> Result<Option<JsonFault>, NoMemory>
-    ensures { IfOk result (λ found. FirstOf (Unless (IsTimeText text.now) (json_fault.BadTime name.now)) found) }
+    ensures { IfOk result (λ found. FirstOf
+        (Unless (IsTimeText text.now) (json_fault.BadTime name.now)) found) }
 {
     if Timestamp::read(text).is_some() {
         return Ok(None);
@@ -88,7 +93,8 @@ fn find_in_time_text(alloc: Global, name: &str, text: &str) -> Result<Option<Jso
 
 #[tactic(auto, using(crate::proofs::Kinded::unless_none, crate::proofs::Kinded::unless_some, crate::proofs::Kinded::bytes_then, crate::proofs::Kinded::no_bytes))]
 fn find_in_bytes_text(alloc: Global, name: &str, text: &str) -> Result<Option<JsonFault>, NoMemory>
-    ensures { IfOk result (λ found. FirstOf (Unless (IsBytesText text.now) (json_fault.BadBytes name.now)) found) }
+    ensures { IfOk result (λ found. FirstOf
+        (Unless (IsBytesText text.now) (json_fault.BadBytes name.now)) found) }
 {
     if read_bytes(alloc, text)?.is_some() {
         return Ok(None);
@@ -152,7 +158,8 @@ fn find_in_server_time(
     name: &str,
     json: &Json,
 ) -> Result<Option<JsonFault>, NoMemory>
-    ensures { IfOk result (λ found. FirstOf (Unless (view json.now ≡ string (codes "REQUEST_TIME")) (json_fault.BadShape name.now)) found) }
+    ensures { IfOk result (λ found. FirstOf
+        (Unless (view json.now ≡ string (codes "REQUEST_TIME")) (json_fault.BadShape name.now)) found) }
 {
     bad_shape_unless(alloc, is_server_time(json), name)
 }
@@ -189,7 +196,8 @@ fn find_in_query_path_text(alloc: Global, text: &str) -> Result<Option<JsonFault
 }
 
 fn find_in_limit(alloc: Global, name: &str, json: &Json) -> Result<Option<JsonFault>, NoMemory>
-    ensures { IfOk result (λ found. FirstOf (Unless ((z : ℤ) × SpellsShort (view json.now) z) (json_fault.BadShape name.now)) found) }
+    ensures { IfOk result (λ found. FirstOf
+        (Unless ((z : ℤ) × SpellsShort (view json.now) z) (json_fault.BadShape name.now)) found) }
 {
     let number = read_short(alloc, json)?;
     bad_shape_unless(alloc, number.is_some(), name)
@@ -201,7 +209,8 @@ fn find_up_to(
     name: &str,
     json: &Json,
 ) -> Result<Option<JsonFault>, NoMemory>
-    ensures { IfOk result (λ found. FirstOf (Unless ((n : ℕ) × SpellsUpTo most (view json.now) n) (json_fault.BadShape name.now)) found) }
+    ensures { IfOk result (λ found. FirstOf
+        (Unless ((n : ℕ) × SpellsUpTo most (view json.now) n) (json_fault.BadShape name.now)) found) }
 {
     let number = read_up_to(alloc, most, json)?;
     bad_shape_unless(alloc, number.is_some(), name)
@@ -270,7 +279,8 @@ fn find_by_text(
     name: &str,
     json: &Json,
 ) -> Result<Option<JsonFault>, NoMemory>
-    ensures { IfOk result (λ found. FirstOf (InText (view json.now) name.now (TextFaults root.now leaf name.now)) found) }
+    ensures { IfOk result (λ found. FirstOf
+        (InText (view json.now) name.now (TextFaults root.now leaf name.now)) found) }
 {
     match json.as_str() {
         Some(text) => find_in_leaf_text(alloc, root, leaf, name, text),

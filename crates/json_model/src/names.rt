@@ -43,7 +43,8 @@ pub(crate) fn read_key(alloc: Global, root: &Database, text: &str) -> Result<Doc
 
 /// What follows the front in the text, if the text begins with it.
 fn after<'a>(text: &'a str, front: &str) -> Option<&'a str>
-    ensures { MatchOption result ((rest : List ℕ) → text.now ≢ front.now ++ rest) (λ rest. text.now ≡ front.now ++ rest.now) }
+    ensures { MatchOption result ((rest : List ℕ) → text.now ≢ front.now ++ rest)
+        (λ rest. text.now ≡ front.now ++ rest.now) }
 {
     text.strip_prefix(front)
 }
@@ -80,7 +81,8 @@ fn cut_root(text: &str) -> Option<(&str, &str)>
 
 /// The segment that the text is.
 pub(crate) fn read_segment(alloc: Global, text: &str) -> Result<Option<Segment>, NoMemory>
-    ensures { IfOk result (λ found. MatchOption found (¬ (IsSegment text.now)) (λ segment. (segment ≡ text.now) × IsSegment text.now)) }
+    ensures { IfOk result (λ found. MatchOption found (¬ (IsSegment text.now))
+        (λ segment. (segment ≡ text.now) × IsSegment text.now)) }
 {
     match Segment::read(alloc, text) {
         Ok(segment) => Ok(Some(segment)),

@@ -11,7 +11,8 @@ use std::alloc::Global;
 /// # Errors
 /// `NoMemory`
 pub fn read_integer(alloc: Global, text: &str) -> Result<Option<i64>, NoMemory>
-    ensures { IfOk result (λ found. MatchOption found ((z : ℤ) → SpellsInteger text.now z → ⊥) (λ z. SpellsInteger text.now z)) }
+    ensures { IfOk result (λ found. MatchOption found ((z : ℤ) → SpellsInteger text.now z → ⊥)
+        (λ z. SpellsInteger text.now z)) }
 {
     if text == "-0" {
         return Ok(Some(0));
@@ -34,7 +35,8 @@ pub fn read_integer(alloc: Global, text: &str) -> Result<Option<i64>, NoMemory>
 /// `NoMemory`
 #[tactic(auto, using(crate::proofs::Wholes::no_whole))]
 pub fn read_whole(alloc: Global, json: &Json) -> Result<Option<i64>, NoMemory>
-    ensures { IfOk result (λ found. MatchOption found ((z : ℤ) → SpellsWhole (view json.now) z → ⊥) (λ z. SpellsWhole (view json.now) z)) }
+    ensures { IfOk result (λ found. MatchOption found ((z : ℤ) → SpellsWhole (view json.now) z → ⊥)
+        (λ z. SpellsWhole (view json.now) z)) }
 {
     if let Some(text) = json.as_str() {
         return read_integer(alloc, text);
@@ -59,7 +61,8 @@ pub(crate) const MAX_LISTENER_ID: u32 = 4_294_967_295;
 /// # Errors
 /// `NoMemory`
 pub(crate) fn read_up_to(alloc: Global, most: u32, json: &Json) -> Result<Option<u32>, NoMemory>
-    ensures { IfOk result (λ found. MatchOption found ((n : ℕ) → SpellsUpTo most (view json.now) n → ⊥) (λ n. SpellsUpTo most (view json.now) n)) }
+    ensures { IfOk result (λ found. MatchOption found
+        ((n : ℕ) → SpellsUpTo most (view json.now) n → ⊥) (λ n. SpellsUpTo most (view json.now) n)) }
 {
     let Some(number) = read_whole(alloc, json)? else {
         return Ok(None);
@@ -78,7 +81,8 @@ pub(crate) fn read_up_to(alloc: Global, most: u32, json: &Json) -> Result<Option
 /// # Errors
 /// `NoMemory`
 pub(crate) fn read_short(alloc: Global, json: &Json) -> Result<Option<i32>, NoMemory>
-    ensures { IfOk result (λ found. MatchOption found ((z : ℤ) → SpellsShort (view json.now) z → ⊥) (λ z. SpellsShort (view json.now) z)) }
+    ensures { IfOk result (λ found. MatchOption found ((z : ℤ) → SpellsShort (view json.now) z → ⊥)
+        (λ z. SpellsShort (view json.now) z)) }
 {
     let Some(number) = read_whole(alloc, json)? else {
         return Ok(None);

@@ -20,7 +20,8 @@ pub fn put_member(
     name: &str,
     json: Json,
 ) -> Result<(), NoMemory>
-    ensures { OnOk result (members_view members.new.entries ≡ put name.now (view json) (members_view members.old.entries)) }
+    ensures { OnOk result (members_view members.new.entries
+        ≡ put name.now (view json) (members_view members.old.entries)) }
 {
     let name = String::from_str(alloc, name)?;
     members.insert(name, json)?;
@@ -37,7 +38,8 @@ pub fn put_given(
     name: &str,
     json: Option<Json>,
 ) -> Result<(), NoMemory>
-    ensures { OnOk result (members_view members.new.entries ≡ with_given name.now (option_map view json) (members_view members.old.entries)) }
+    ensures { OnOk result (members_view members.new.entries
+        ≡ with_given name.now (option_map view json) (members_view members.old.entries)) }
 {
     match json {
         Some(json) => put_member(alloc, members, name, json),

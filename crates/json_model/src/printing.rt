@@ -67,14 +67,16 @@ fn empty_array_json(alloc: Global) -> Result<Json, AllocError>
 }
 
 fn full_array_json(alloc: Global, values: Json) -> Result<Json, AllocError>
-    ensures { IfOk result (λ json. view json ≡ one (codes "arrayValue") (one (codes "values") (view values))) }
+    ensures { IfOk result (λ json. view json
+        ≡ one (codes "arrayValue") (one (codes "values") (view values))) }
 {
     json!(in alloc; {"arrayValue": {"values": values}})
 }
 
 #[tactic(auto, using(crate::proofs::Shown::full_array))]
 fn array_json(alloc: Global, values: Vec<Json>) -> Result<Json, AllocError>
-    ensures { IfOk result (λ json. view json ≡ one (codes "arrayValue") (values_tree (items_view values.items))) }
+    ensures { IfOk result (λ json. view json
+        ≡ one (codes "arrayValue") (values_tree (items_view values.items))) }
 {
     if values.is_empty() {
         return empty_array_json(alloc);
@@ -96,7 +98,8 @@ fn full_map_json(alloc: Global, fields: Json) -> Result<Json, AllocError>
 
 #[tactic(auto, using(crate::proofs::Shown::full_map))]
 fn map_json(alloc: Global, fields: Map<String, Json>) -> Result<Json, AllocError>
-    ensures { IfOk result (λ json. view json ≡ one (codes "mapValue") (fields_tree (members_view fields.entries))) }
+    ensures { IfOk result (λ json. view json
+        ≡ one (codes "mapValue") (fields_tree (members_view fields.entries))) }
 {
     if fields.is_empty() {
         return empty_map_json(alloc);
@@ -172,7 +175,8 @@ fn print_values(alloc: Global, values: &[Value]) -> Result<Vec<Json>, NoMemory>
 #[tactic(auto, using(crate::proofs::Shown::members_more, crate::proofs::Shown::field_below))]
 #[cycle(print)]
 fn print_members(alloc: Global, fields: &Fields) -> Result<Map<String, Json>, NoMemory>
-    ensures { IfOk result (λ members. members_view members.entries ≡ printed_members (members_of fields.now)) }
+    ensures { IfOk result (λ members. members_view members.entries
+        ≡ printed_members (members_of fields.now)) }
 {
     let mut members = Map::new(alloc);
     for field in fields.as_slice() {

@@ -292,9 +292,13 @@ pub fn read_fields(
     ensures fields { IfOk result (λ fields. SpellsFields (view json.now) fields) }
     ensures storable { IfOk result AreStorable }
     ensures deep { IfOk result (λ fields. entries_depth fields ≤ max_nesting) }
-    ensures clean { IfOk result (λ _. FieldsFaults (record { side = side; root = root.now }) (view json.now) []) }
-    ensures fault { IfErr result (λ fault. IsFault (FieldsFaults (record { side = side; root = root.now }) (view json.now)) fault) }
-    ensures printed { (fields : Entries) → AreStorable fields → entries_depth fields ≤ max_nesting → view json.now ≡ printed_fields fields → (result ≡ Ok fields) ⊎ (result ≡ Err json_fault.NoMemory) }
+    ensures clean { IfOk result (λ _. FieldsFaults (record { side = side; root = root.now })
+        (view json.now) []) }
+    ensures fault { IfErr result (λ fault. IsFault
+        (FieldsFaults (record { side = side; root = root.now }) (view json.now)) fault) }
+    ensures printed { (fields : Entries) → AreStorable fields → entries_depth fields ≤ max_nesting
+        → view json.now ≡ printed_fields fields → (result ≡ Ok fields)
+        ⊎ (result ≡ Err json_fault.NoMemory) }
 {
     let setting = Setting { side, root };
     let place = Place::Object(Object::Fields);
@@ -322,7 +326,8 @@ pub fn read_name(
     ensures storable { IfOk result IsStorableKey }
     ensures fault { IfErr result (λ fault. IsFault (NameFaults root.now (view json.now)) fault) }
     ensures clean { IfOk result (λ _. NameFaults root.now (view json.now) []) }
-    ensures names_none { IfErr result (λ fault. fault ≢ json_fault.NoMemory → (key : List (List ℕ)) → ¬ (SpellsName root.now (view json.now) key)) }
+    ensures names_none { IfErr result (λ fault. fault ≢ json_fault.NoMemory
+        → (key : List (List ℕ)) → ¬ (SpellsName root.now (view json.now) key)) }
 {
     let setting = Setting { side, root };
     if let Err(fault) = check(alloc, &setting, 0, Place::Leaf(Leaf::Name), "name", json) {

@@ -32,7 +32,8 @@ pub(crate) fn find_missing(
     object: Object,
     names: &[&'static str],
 ) -> Result<Option<JsonFault>, NoMemory>
-    ensures { IfOk result (λ found. found ≡ first_of_least (missing_of object (map (λ name. name.now) names.now))) }
+    ensures { IfOk result (λ found. found
+        ≡ first_of_least (missing_of object (map (λ name. name.now) names.now))) }
 {
     match names {
         [] => Ok(None),
@@ -49,7 +50,9 @@ pub(crate) fn find_missed(
     name: &str,
     json: &Json,
 ) -> Result<Option<JsonFault>, NoMemory>
-    ensures { IfOk result (λ found. found ≡ first_of_least (missing_of object (missed name.now (view json.now) (map (λ name. name.now) names.now)))) }
+    ensures { IfOk result (λ found. found
+        ≡ first_of_least (missing_of object
+        (missed name.now (view json.now) (map (λ name. name.now) names.now)))) }
 {
     let [first, ..] = names else {
         return Ok(None);

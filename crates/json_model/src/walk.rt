@@ -27,7 +27,8 @@ fn own_fault(
     name: &str,
     members: &Map<String, Json>,
 ) -> Result<Option<JsonFault>, NoMemory>
-    ensures { IfOk result (λ found. found ≡ first_of_least (own_faults object name.now (members_view members.now.entries))) }
+    ensures { IfOk result (λ found. found
+        ≡ first_of_least (own_faults object name.now (members_view members.now.entries))) }
 {
     if lacks_choice(object, members) {
         return bad_shape_unless(alloc, false, name);
@@ -56,7 +57,8 @@ fn own_list_fault(
     name: &str,
     items: &Vec<Json>,
 ) -> Result<Option<JsonFault>, NoMemory>
-    ensures { IfOk result (λ found. found ≡ first_of_least (own_list_faults series name.now (items_view items.now.items))) }
+    ensures { IfOk result (λ found. found
+        ≡ first_of_least (own_list_faults series name.now (items_view items.now.items))) }
 {
     bad_shape_unless(alloc, !lacks_only(series, items), name)
 }
@@ -64,7 +66,8 @@ fn own_list_fault(
 /// How many names the path under `fieldPath` has; none where it isn't a path.
 #[tactic(auto, using(crate::proofs::Walked::no_given, crate::proofs::Walked::no_text_path, crate::proofs::Walked::counted, crate::proofs::Walked::no_names))]
 fn count_path(alloc: Global, members: &Map<String, Json>) -> Result<u64, NoMemory>
-    ensures { IfOk result (λ count. CountsPath (given_of (codes "fieldPath") (members_view members.now.entries)) count) }
+    ensures { IfOk result (λ count. CountsPath
+        (given_of (codes "fieldPath") (members_view members.now.entries)) count) }
 {
     let Some(json) = given(members, "fieldPath") else {
         return Ok(0);
@@ -124,7 +127,8 @@ pub fn find_fault(
     name: &str,
     json: &Json,
 ) -> Result<Option<JsonFault>, NoMemory>
-    ensures { IfOk result (λ found. FirstOf (FaultsAt setting.now limit place name.now (view json.now)) found) }
+    ensures { IfOk result (λ found. FirstOf
+        (FaultsAt setting.now limit place name.now (view json.now)) found) }
 {
     match json {
         Json::Object(members) => {
@@ -177,7 +181,8 @@ fn find_in_items(
     name: &str,
     items: &Vec<Json>,
 ) -> Result<Option<JsonFault>, NoMemory>
-    ensures { IfOk result (λ found. FirstOf (ItemsFaults setting.now limit series name.now (items_view items.now.items)) found) }
+    ensures { IfOk result (λ found. FirstOf
+        (ItemsFaults setting.now limit series name.now (items_view items.now.items)) found) }
 {
     let mut first = None;
     for item in items {
@@ -206,7 +211,9 @@ fn find_in_members(
     object: Object,
     members: &Map<String, Json>,
 ) -> Result<Option<JsonFault>, NoMemory>
-    ensures { IfOk result (λ found. FirstOf (MembersFaults setting.now limit object (required_of object) (members_view members.now.entries)) found) }
+    ensures { IfOk result (λ found. FirstOf
+        (MembersFaults setting.now limit object (required_of object)
+        (members_view members.now.entries)) found) }
 {
     let mut first = None;
     let mut names = required(object);

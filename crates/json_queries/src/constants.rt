@@ -64,7 +64,8 @@ pub(crate) fn clean_test(setting: &Setting<'_>, json: &Json) -> UnaryOp
 /// Whether an order descends; where its direction is left out it ascends.
 #[tactic(auto, unfolding(json_model::specs::Constants::is_direction))]
 pub(crate) fn clean_direction(setting: &Setting<'_>, found: Option<&Json>) -> bool
-    requires { IfSome found (λ json. IsClean setting.now (places.Leaf (leaves.Constant constants.Direction)) (view json.now)) }
+    requires { IfSome found (λ json. IsClean setting.now
+        (places.Leaf (leaves.Constant constants.Direction)) (view json.now)) }
     ensures { SpellsDirection (option_map (λ json. view json.now) found.entry) result }
 {
     let Some(json) = found else {

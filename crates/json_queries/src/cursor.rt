@@ -33,7 +33,8 @@ fn clean_cursor_values(
     members: &Map<String, Json>,
 ) -> Result<Sequence<Value>, NoMemory>
     requires { AreClean setting.now objects.Cursor (members_view members.now.entries) }
-    ensures values { IfOk result (λ values. SpellsList (given (codes "values") (members_view members.now.entries)) values) }
+    ensures values { IfOk result (λ values. SpellsList
+        (given (codes "values") (members_view members.now.entries)) values) }
     ensures count { IfOk result (λ values. IsCountable values) }
     ensures storable { IfOk result (λ values. All IsStorableOperand values) }
 {
@@ -71,7 +72,8 @@ pub(crate) fn clean_cursor(
     found: Option<&Json>,
 ) -> Result<Option<Cursor>, NoMemory>
     requires { IfSome found (λ json. IsClean setting.now (places.Object objects.Cursor) (view json.now)) }
-    ensures cursor { IfOk result (λ cursor. SpellsCursor (option_map (λ json. view json.now) found.entry) cursor) }
+    ensures cursor { IfOk result (λ cursor. SpellsCursor
+        (option_map (λ json. view json.now) found.entry) cursor) }
     ensures storable { IfOk result (λ cursor. IfSome cursor IsStorableCursor) }
 {
     let Some(json) = found else {

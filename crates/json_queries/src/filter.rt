@@ -36,7 +36,8 @@ use value_model::Value;
 #[tactic(auto, unfolding(json_model::specs::Places::field_filter_rows, json_model::specs::Places::list_filter_rows))]
 fn clean_operator_in(setting: &Setting<'_>, members: &Map<String, Json>) -> Operator
     requires { AreClean setting.now objects.FieldFilter (members_view members.now.entries) }
-    ensures { IsGiven (given (codes "op") (members_view members.now.entries)) (λ d. d ≡ string (operator_text_of result)) }
+    ensures { IsGiven (given (codes "op") (members_view members.now.entries))
+        (λ d. d ≡ string (operator_text_of result)) }
 {
     match clean_member(setting, Object::FieldFilter, members, "op") {
         Some(op) => clean_operator(setting, op),
@@ -52,7 +53,8 @@ fn clean_path_in(
     members: &Map<String, Json>,
 ) -> Result<FieldPath, NoMemory>
     requires { AreClean setting.now objects.FieldFilter (members_view members.now.entries) }
-    ensures path { IfOk result (λ path. IsGiven (given (codes "field") (members_view members.now.entries)) (λ d. SpellsField d path)) }
+    ensures path { IfOk result (λ path. IsGiven
+        (given (codes "field") (members_view members.now.entries)) (λ d. SpellsField d path)) }
     ensures storable { IfOk result IsStorableQueryPath }
 {
     match clean_member(setting, Object::FieldFilter, members, "field") {
@@ -69,7 +71,8 @@ fn clean_operand_in(
     members: &Map<String, Json>,
 ) -> Result<Value, NoMemory>
     requires { AreClean setting.now objects.FieldFilter (members_view members.now.entries) }
-    ensures operand { IfOk result (λ operand. IsGiven (given (codes "value") (members_view members.now.entries)) (λ d. SpellsValue d operand)) }
+    ensures operand { IfOk result (λ operand. IsGiven
+        (given (codes "value") (members_view members.now.entries)) (λ d. SpellsValue d operand)) }
     ensures storable { IfOk result IsStorableOperand }
 {
     match clean_member(setting, Object::FieldFilter, members, "value") {
@@ -118,7 +121,8 @@ fn clean_unary_filter(alloc: Global, setting: &Setting<'_>, json: &Json) -> Resu
 #[tactic(auto, unfolding(json_model::specs::Places::composite_filter_rows))]
 fn clean_junction_in(setting: &Setting<'_>, members: &Map<String, Json>) -> Junction
     requires { AreClean setting.now objects.CompositeFilter (members_view members.now.entries) }
-    ensures { IsGiven (given (codes "op") (members_view members.now.entries)) (λ d. d ≡ string (junction_text_of result)) }
+    ensures { IsGiven (given (codes "op") (members_view members.now.entries))
+        (λ d. d ≡ string (junction_text_of result)) }
 {
     match clean_member(setting, Object::CompositeFilter, members, "op") {
         Some(op) => clean_junction(setting, op),
@@ -130,7 +134,8 @@ fn clean_junction_in(setting: &Setting<'_>, members: &Map<String, Json>) -> Junc
 #[cycle(build)]
 fn clean_items(alloc: Global, setting: &Setting<'_>, json: &Json) -> Result<Vec<Filter>, NoMemory>
     requires { IsClean setting.now (places.Series serieses.Filters) (view json.now) }
-    ensures filters { IfOk result (λ filters. SpellsFilters (Some (view json.now)) (filters_of filters.items)) }
+    ensures filters { IfOk result (λ filters. SpellsFilters (Some (view json.now))
+        (filters_of filters.items)) }
     ensures storable { IfOk result (λ filters. HaveCountedParts (filters_of filters.items)) }
 {
     let items = clean_list(setting, Series::Filters, json);
@@ -150,7 +155,8 @@ fn clean_filters_in(
     members: &Map<String, Json>,
 ) -> Result<Vec<Filter>, NoMemory>
     requires { AreClean setting.now objects.CompositeFilter (members_view members.now.entries) }
-    ensures filters { IfOk result (λ filters. SpellsFilters (given (codes "filters") (members_view members.now.entries)) (filters_of filters.items)) }
+    ensures filters { IfOk result (λ filters. SpellsFilters
+        (given (codes "filters") (members_view members.now.entries)) (filters_of filters.items)) }
     ensures storable { IfOk result (λ filters. HaveCountedParts (filters_of filters.items)) }
 {
     match clean_member(setting, Object::CompositeFilter, members, "filters") {
@@ -167,7 +173,8 @@ fn clean_composite_filter(
     json: &Json,
 ) -> Result<Filter, NoMemory>
     requires { IsClean setting.now (places.Object objects.CompositeFilter) (view json.now) }
-    ensures filter { IfOk result (λ filter. SpellsFilterUnder (codes "compositeFilter") (view json.now) filter) }
+    ensures filter { IfOk result (λ filter. SpellsFilterUnder (codes "compositeFilter")
+        (view json.now) filter) }
     ensures storable { IfOk result HasCountedParts }
 {
     let members = clean_object(setting, Object::CompositeFilter, json);
@@ -204,7 +211,8 @@ pub(crate) fn clean_where(
     found: Option<&Json>,
 ) -> Result<Option<Filter>, NoMemory>
     requires { IfSome found (λ json. IsClean setting.now (places.Object objects.Filter) (view json.now)) }
-    ensures filter { IfOk result (λ filter. SpellsWhere (option_map (λ json. view json.now) found.entry) filter) }
+    ensures filter { IfOk result (λ filter. SpellsWhere
+        (option_map (λ json. view json.now) found.entry) filter) }
     ensures storable { IfOk result (λ filter. IfSome filter IsStorableRawFilter) }
 {
     match found {
@@ -214,7 +222,8 @@ pub(crate) fn clean_where(
 }
 
 fn unary_filter_json(alloc: Global, field: Json, op: &str) -> Result<Json, AllocError>
-    ensures { IfOk result (λ json. view json ≡ one (codes "unaryFilter") (two (codes "field") (view field) (codes "op") (string op.now))) }
+    ensures { IfOk result (λ json. view json
+        ≡ one (codes "unaryFilter") (two (codes "field") (view field) (codes "op") (string op.now))) }
 {
     json!(in alloc; {"unaryFilter": {"field": field, "op": op}})
 }
@@ -225,7 +234,8 @@ fn field_filter_json(
     op: &str,
     operand: Json,
 ) -> Result<Json, AllocError>
-    ensures { IfOk result (λ json. view json ≡ one (codes "fieldFilter") (field_filter_tree (view field) op.now (view operand))) }
+    ensures { IfOk result (λ json. view json
+        ≡ one (codes "fieldFilter") (field_filter_tree (view field) op.now (view operand))) }
 {
     json!(in alloc; {"fieldFilter": {"field": field, "op": op, "value": operand}})
 }
@@ -260,7 +270,8 @@ fn print_comparison(
 
 /// Filters that are joined, of their trees.
 fn composite_tree(alloc: Global, filters: Vec<Json>, op: &str) -> Result<Json, NoMemory>
-    ensures { IfOk result (λ json. view json ≡ one (codes "compositeFilter") (composite_filter_tree (items_view filters.items) op.now)) }
+    ensures { IfOk result (λ json. view json
+        ≡ one (codes "compositeFilter") (composite_filter_tree (items_view filters.items) op.now)) }
 {
     let mut members = Map::new(alloc);
     put_member(alloc, &mut members, "op", text_tree(alloc, op)?)?;

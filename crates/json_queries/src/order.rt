@@ -63,7 +63,8 @@ pub(crate) fn clean_orders(
     found: Option<&Json>,
 ) -> Result<Sequence<Order>, NoMemory>
     requires { IfSome found (λ json. IsClean setting.now (places.Series serieses.Orders) (view json.now)) }
-    ensures orders { IfOk result (λ orders. SpellsEach SpellsOrder (option_map (λ json. view json.now) found.entry) orders) }
+    ensures orders { IfOk result (λ orders. SpellsEach SpellsOrder
+        (option_map (λ json. view json.now) found.entry) orders) }
     ensures storable { IfOk result AreStorableOrders }
 {
     match found {
@@ -73,7 +74,8 @@ pub(crate) fn clean_orders(
 }
 
 fn order_json(alloc: Global, direction: &str, field: Json) -> Result<Json, AllocError>
-    ensures { IfOk result (λ json. view json ≡ two (codes "direction") (string direction.now) (codes "field") (view field)) }
+    ensures { IfOk result (λ json. view json
+        ≡ two (codes "direction") (string direction.now) (codes "field") (view field)) }
 {
     json!(in alloc; {"direction": direction, "field": field})
 }
@@ -102,7 +104,8 @@ pub(crate) fn print_orders(
     alloc: Global,
     orders: &Sequence<Order>,
 ) -> Result<Option<Json>, NoMemory>
-    ensures { IfOk result (λ found. option_map view found ≡ unless_empty_of (printed_each printed_order orders.now)) }
+    ensures { IfOk result (λ found. option_map view found
+        ≡ unless_empty_of (printed_each printed_order orders.now)) }
 {
     let trees = print_items(alloc, orders.as_slice())?;
     Ok(unless_empty(trees))

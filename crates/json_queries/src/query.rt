@@ -69,7 +69,8 @@ fn clean_from(
     found: Option<&Json>,
 ) -> Result<Sequence<Segment>, NoMemory>
     requires { IfSome found (λ json. IsClean setting.now (places.Series serieses.Selectors) (view json.now)) }
-    ensures ids { IfOk result (λ ids. SpellsEach SpellsSelector (option_map (λ json. view json.now) found.entry) ids) }
+    ensures ids { IfOk result (λ ids. SpellsEach SpellsSelector
+        (option_map (λ json. view json.now) found.entry) ids) }
     ensures storable { IfOk result (λ ids. All IsStorableSegment ids) }
 {
     match found {
@@ -85,7 +86,8 @@ fn clean_limit_in(
     found: Option<&Json>,
 ) -> Result<Option<i32>, NoMemory>
     requires { IfSome found (λ json. IsClean setting.now (places.Leaf leaves.Limit) (view json.now)) }
-    ensures limit { IfOk result (λ limit. SpellsLimit (option_map (λ json. view json.now) found.entry) limit) }
+    ensures limit { IfOk result (λ limit. SpellsLimit
+        (option_map (λ json. view json.now) found.entry) limit) }
     ensures storable { IfOk result (λ limit. IfSome limit (FitsSigned w32)) }
 {
     match found {
@@ -103,7 +105,8 @@ fn clean_structured(
     json: &Json,
 ) -> Result<RawCollection, NoMemory>
     requires { IsClean setting.now (places.Object objects.StructuredQuery) (view json.now) }
-    ensures query { IfOk result (λ query. InObject (view json.now) (λ inside. SpellsStructured inside query)) }
+    ensures query { IfOk result (λ query. InObject (view json.now)
+        (λ inside. SpellsStructured inside query)) }
     ensures parent { IfOk result (λ query. query.parent ≡ parent) }
     ensures storable { IfSome parent IsStorableKey → IfOk result IsStorableRawCollection }
 {
@@ -154,7 +157,9 @@ fn clean_parent_in(
     members: &Map<String, Json>,
 ) -> Result<Option<DocumentKey>, NoMemory>
     requires { AreClean setting.now objects.Query (members_view members.now.entries) }
-    ensures parent { IfOk result (λ parent. IsGiven (given (codes "parent") (members_view members.now.entries)) (λ d. SpellsParent setting.now.root d parent)) }
+    ensures parent { IfOk result (λ parent. IsGiven
+        (given (codes "parent") (members_view members.now.entries))
+        (λ d. SpellsParent setting.now.root d parent)) }
     ensures storable { IfOk result (λ parent. IfSome parent IsStorableKey) }
 {
     match clean_member(setting, Object::Query, members, "parent") {
@@ -171,7 +176,8 @@ fn clean_collection(
     json: &Json,
 ) -> Result<RawCollection, NoMemory>
     requires { IsClean setting.now (places.Object objects.Query) (view json.now) }
-    ensures query { IfOk result (λ query. InObject (view json.now) (λ ms. SpellsCollectionIn setting.now.root ms query)) }
+    ensures query { IfOk result (λ query. InObject (view json.now)
+        (λ ms. SpellsCollectionIn setting.now.root ms query)) }
     ensures storable { IfOk result IsStorableRawCollection }
 {
     let members = clean_object(setting, Object::Query, json);
@@ -249,9 +255,13 @@ pub fn read_query(
 ) -> Result<RawQuery, JsonFault>
     ensures query { IfOk result (λ query. SpellsQuery root.now (view json.now) query) }
     ensures storable { IfOk result IsStorableRawQuery }
-    ensures clean { IfOk result (λ _. QueryFaults (record { side = side; root = root.now }) (view json.now) []) }
-    ensures fault { IfErr result (λ fault. IsFault (QueryFaults (record { side = side; root = root.now }) (view json.now)) fault) }
-    ensures printed { (target : ATarget) → IsStorableTarget target → view json.now ≡ target_tree root.now target → (result ≡ Ok (target_read target)) ⊎ (result ≡ Err json_fault.NoMemory) }
+    ensures clean { IfOk result (λ _. QueryFaults (record { side = side; root = root.now })
+        (view json.now) []) }
+    ensures fault { IfErr result (λ fault. IsFault
+        (QueryFaults (record { side = side; root = root.now }) (view json.now)) fault) }
+    ensures printed { (target : ATarget) → IsStorableTarget target
+        → view json.now ≡ target_tree root.now target → (result ≡ Ok (target_read target))
+        ⊎ (result ≡ Err json_fault.NoMemory) }
 {
     let setting = Setting { side, root };
     let place = Place::Object(Object::Target);

@@ -19,13 +19,16 @@ use serde_json::{Map, Number, Value as Json, json};
 use std::alloc::{AllocError, Global};
 
 fn documents_json(alloc: Global, name: &str) -> Result<Json, AllocError>
-    ensures { IfOk result (λ json. view json ≡ one (codes "documents") (one (codes "documents") (only (string name.now)))) }
+    ensures { IfOk result (λ json. view json
+        ≡ one (codes "documents") (one (codes "documents") (only (string name.now)))) }
 {
     json!(in alloc; {"documents": {"documents": [name]}})
 }
 
 fn query_json(alloc: Global, parent: &str, structured: Json) -> Result<Json, AllocError>
-    ensures { IfOk result (λ json. view json ≡ one (codes "query") (two (codes "parent") (string parent.now) (codes "structuredQuery") (view structured))) }
+    ensures { IfOk result (λ json. view json
+        ≡ one (codes "query") (two (codes "parent") (string parent.now) (codes "structuredQuery")
+        (view structured))) }
 {
     json!(in alloc; {"query": {"parent": parent, "structuredQuery": structured}})
 }

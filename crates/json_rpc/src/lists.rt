@@ -12,7 +12,8 @@ use std::alloc::Global;
 
 /// An object of a list, which is left out where it is empty.
 pub(crate) fn list_object(alloc: Global, name: &str, trees: Vec<Json>) -> Result<Json, NoMemory>
-    ensures { IfOk result (λ json. view json ≡ object (present ((name.now, unless_empty_of (items_view trees.items)) ∷ []))) }
+    ensures { IfOk result (λ json. view json
+        ≡ object (present ((name.now, unless_empty_of (items_view trees.items)) ∷ []))) }
 {
     let mut members = Map::new(alloc);
     put_given(alloc, &mut members, name, unless_empty(trees))?;

@@ -120,7 +120,8 @@ fn clean_items(
     json: &Json,
 ) -> Result<Vec<Transform>, NoMemory>
     requires { IsClean setting.now (places.Series serieses.Transforms) (view json.now) }
-    ensures transforms { IfOk result (λ transforms. SpellsEach SpellsTransform (Some (view json.now)) transforms.items) }
+    ensures transforms { IfOk result (λ transforms. SpellsEach SpellsTransform
+        (Some (view json.now)) transforms.items) }
     ensures storable { IfOk result (λ transforms. AreAllStorable IsStorableTransform transforms.items) }
 {
     let items = clean_list(setting, Series::Transforms, json);
@@ -138,8 +139,10 @@ pub(crate) fn clean_transforms(
     setting: &Setting<'_>,
     found: Option<&Json>,
 ) -> Result<Transforms, NoMemory>
-    requires { IfSome found (λ json. IsClean setting.now (places.Series serieses.Transforms) (view json.now)) }
-    ensures transforms { IfOk result (λ transforms. SpellsEach SpellsTransform (option_map (λ json. view json.now) found.entry) transforms) }
+    requires { IfSome found (λ json. IsClean setting.now (places.Series serieses.Transforms)
+        (view json.now)) }
+    ensures transforms { IfOk result (λ transforms. SpellsEach SpellsTransform
+        (option_map (λ json. view json.now) found.entry) transforms) }
     ensures storable { IfOk result (λ transforms. AreAllStorable IsStorableTransform transforms) }
 {
     let Some(json) = found else {
@@ -181,7 +184,8 @@ fn print_elements(alloc: Global, values: &Values) -> Result<Json, NoMemory>
 
 /// A change under its name, at the path of this text.
 fn change_object(alloc: Global, path: &str, name: &str, change: Json) -> Result<Json, NoMemory>
-    ensures { IfOk result (λ json. view json ≡ object (put name.now (view change) (put (codes "fieldPath") (string path.now) no_members))) }
+    ensures { IfOk result (λ json. view json
+        ≡ object (put name.now (view change) (put (codes "fieldPath") (string path.now) no_members))) }
 {
     let mut members = Map::new(alloc);
     put_member(alloc, &mut members, "fieldPath", text_tree(alloc, path)?)?;
@@ -243,7 +247,8 @@ pub(crate) fn print_transforms(
     alloc: Global,
     transforms: &Transforms,
 ) -> Result<Option<Json>, NoMemory>
-    ensures { IfOk result (λ found. option_map view found ≡ unless_empty_of (printed_each printed_transform transforms.now)) }
+    ensures { IfOk result (λ found. option_map view found
+        ≡ unless_empty_of (printed_each printed_transform transforms.now)) }
 {
     let trees = print_items(alloc, transforms.as_slice())?;
     Ok(unless_empty(trees))

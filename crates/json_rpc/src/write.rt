@@ -47,7 +47,9 @@ fn clean_key(
     members: &Map<String, Json>,
 ) -> Result<DocumentKey, NoMemory>
     requires { AreClean setting.now objects.Update (members_view members.now.entries) }
-    ensures key { IfOk result (λ key. IsGiven (given (codes "name") (members_view members.now.entries)) (λ d. SpellsName setting.now.root d key)) }
+    ensures key { IfOk result (λ key. IsGiven
+        (given (codes "name") (members_view members.now.entries))
+        (λ d. SpellsName setting.now.root d key)) }
     ensures storable { IfOk result IsStorableKey }
 {
     match clean_member(setting, Object::Update, members, "name") {
@@ -64,7 +66,8 @@ fn clean_given_fields(
     members: &Map<String, Json>,
 ) -> Result<Fields, NoMemory>
     requires { AreClean setting.now objects.Update (members_view members.now.entries) }
-    ensures fields { IfOk result (λ fields. SpellsFieldsIn (given (codes "fields") (members_view members.now.entries)) fields) }
+    ensures fields { IfOk result (λ fields. SpellsFieldsIn
+        (given (codes "fields") (members_view members.now.entries)) fields) }
     ensures storable { IfOk result AreStorable }
     ensures deep { IfOk result (λ fields. entries_depth fields ≤ max_nesting) }
 {
@@ -81,7 +84,8 @@ fn clean_shared_fields(
     members: &Map<String, Json>,
 ) -> Result<SharedFields, NoMemory>
     requires { AreClean setting.now objects.Update (members_view members.now.entries) }
-    ensures fields { IfOk result (λ fields. SpellsFieldsIn (given (codes "fields") (members_view members.now.entries)) fields) }
+    ensures fields { IfOk result (λ fields. SpellsFieldsIn
+        (given (codes "fields") (members_view members.now.entries)) fields) }
     ensures storable { IfOk result AreStorable }
     ensures deep { IfOk result (λ fields. entries_depth fields ≤ max_nesting) }
 {
@@ -100,7 +104,8 @@ fn clean_update(
     requires refined { refined objects.Write (members_view members.now.entries) ≡ objects.Write }
     requires beside { AreClean setting.now objects.Write (members_view members.now.entries) }
     requires clean { IsClean setting.now (places.Object objects.Update) (view update.now) }
-    ensures write { IfOk result (λ write. SpellsWriteUnder setting.now.root (members_view members.now.entries) (codes "update") (view update.now) write) }
+    ensures write { IfOk result (λ write. SpellsWriteUnder setting.now.root
+        (members_view members.now.entries) (codes "update") (view update.now) write) }
     ensures storable { IfOk result IsStorableWrite }
 {
     let inside = clean_object(setting, Object::Update, update);
@@ -132,7 +137,8 @@ fn clean_delete(
     requires refined { refined objects.Write (members_view members.now.entries) ≡ objects.DeleteWrite }
     requires beside { AreClean setting.now objects.Write (members_view members.now.entries) }
     requires clean { IsClean setting.now (places.Leaf leaves.Name) (view name.now) }
-    ensures write { IfOk result (λ write. SpellsWriteUnder setting.now.root (members_view members.now.entries) (codes "delete") (view name.now) write) }
+    ensures write { IfOk result (λ write. SpellsWriteUnder setting.now.root
+        (members_view members.now.entries) (codes "delete") (view name.now) write) }
     ensures storable { IfOk result IsStorableWrite }
 {
     let key = clean_name(alloc, setting, name)?;
@@ -170,7 +176,8 @@ pub fn clean_writes(
     json: &Json,
 ) -> Result<Vec<Write>, NoMemory>
     requires { IsClean setting.now (places.Series serieses.Writes) (view json.now) }
-    ensures writes { IfOk result (λ writes. SpellsEach (SpellsWrite setting.now.root) (Some (view json.now)) writes.items) }
+    ensures writes { IfOk result (λ writes. SpellsEach (SpellsWrite setting.now.root)
+        (Some (view json.now)) writes.items) }
     ensures storable { IfOk result (λ writes. All IsStorableWrite writes.items) }
 {
     let items = clean_list(setting, Series::Writes, json);
@@ -189,9 +196,13 @@ pub fn clean_writes(
 pub fn read_write(alloc: Global, root: &Database, json: &Json) -> Result<Write, JsonFault>
     ensures write { IfOk result (λ write. SpellsWrite root.now (view json.now) write) }
     ensures storable { IfOk result IsStorableWrite }
-    ensures clean { IfOk result (λ _. WriteFaults (record { side = Caller; root = root.now }) (view json.now) []) }
-    ensures fault { IfErr result (λ fault. IsFault (WriteFaults (record { side = Caller; root = root.now }) (view json.now)) fault) }
-    ensures printed { (write : AWrite) → IsStorableWrite write → view json.now ≡ printed_write root.now write → (result ≡ Ok write) ⊎ (result ≡ Err json_fault.NoMemory) }
+    ensures clean { IfOk result (λ _. WriteFaults (record { side = Caller; root = root.now })
+        (view json.now) []) }
+    ensures fault { IfErr result (λ fault. IsFault
+        (WriteFaults (record { side = Caller; root = root.now }) (view json.now)) fault) }
+    ensures printed { (write : AWrite) → IsStorableWrite write
+        → view json.now ≡ printed_write root.now write → (result ≡ Ok write)
+        ⊎ (result ≡ Err json_fault.NoMemory) }
 {
     let setting = Setting {
         side: Side::Caller,
@@ -247,7 +258,10 @@ fn print_beside(
     mask: &Option<Mask>,
     transforms: &Transforms,
 ) -> Result<Map<String, Json>, NoMemory>
-    ensures { IfOk result (λ members. members_view members.entries ≡ present ((codes "updateMask", option_map printed_mask mask.now) ∷ (codes "updateTransforms", unless_empty (printed_each printed_transform transforms.now)) ∷ [])) }
+    ensures { IfOk result (λ members. members_view members.entries
+        ≡ present ((codes "updateMask", option_map printed_mask mask.now) ∷
+        (codes "updateTransforms", unless_empty (printed_each printed_transform transforms.now))
+        ∷ [])) }
 {
     let mut members = Map::new(alloc);
     put_given(
@@ -266,7 +280,9 @@ fn put_condition(
     members: &mut Map<String, Json>,
     condition: Precondition,
 ) -> Result<(), NoMemory>
-    ensures { OnOk result (members_view members.new.entries ≡ with_given (codes "currentDocument") (printed_condition condition) (members_view members.old.entries)) }
+    ensures { OnOk result (members_view members.new.entries
+        ≡ with_given (codes "currentDocument") (printed_condition condition)
+        (members_view members.old.entries)) }
 {
     put_given(
         alloc,
@@ -294,7 +310,8 @@ fn print_members(
     root: &Database,
     write: &Write,
 ) -> Result<Map<String, Json>, NoMemory>
-    ensures { IfOk result (λ members. object (members_view members.entries) ≡ printed_write root.now write.now) }
+    ensures { IfOk result (λ members. object (members_view members.entries)
+        ≡ printed_write root.now write.now) }
 {
     match write {
         Write::Update {

@@ -61,7 +61,8 @@ fn prepare(
     requires { length ids.now ≤ length keys.old.keys }
     ensures keys { OnOk result (keys.new.keys ≡ joined keys.old.keys wanted.now) }
     ensures front { take (length keys.old.keys) keys.new.keys ≡ keys.old.keys }
-    ensures ended { IfOk result (λ outcome. outcome.change.ended.items ≡ ended wanted.now (zip ids.now keys.new.keys)) }
+    ensures ended { IfOk result (λ outcome. outcome.change.ended.items
+        ≡ ended wanted.now (zip ids.now keys.new.keys)) }
     ensures started { IfOk result (λ outcome. outcome.change.started.items
         ≡ firsts (100 - length (kept wanted.now (zip ids.now keys.new.keys))) next
         (filter (has wanted.now) (drop (length ids.now) keys.new.keys))) }
@@ -110,7 +111,8 @@ impl LimboResolver {
         ensures ended { IfOk result (λ change. change.ended.items ≡ ended wanted.now self.old.running) }
         ensures started { IfOk result (λ change. change.started.items ≡ started wanted.now self.old) }
         ensures held { OnOk result ((key : Key) → has (held self.new) key ≡ has wanted.now key) }
-        ensures full { OnOk result (0 < length self.new.waiting → has_place (length self.new.running) self.new.next ≡ false) }
+        ensures full { OnOk result (0 < length self.new.waiting
+            → has_place (length self.new.running) self.new.next ≡ false) }
         ensures undone { OnErr result (self.new ≡ self.old) }
     {
         // the set's order, which a proof learns from a call of the set

@@ -189,11 +189,42 @@ impl LocalStore {
             return Err(StoreFault::Spent);
         }
         let frame = frame_of(alloc, &commit)?;
+        self.make(alloc, host, &frame, commit)
+    }
+
+    /// Makes the commit, of which the frame is given, where the store is whole.
+    fn make<H: Host>(
+        &mut self,
+        alloc: Global,
+        host: &mut H,
+        frame: &Frame,
+        commit: Commit,
+    ) -> Result<u64, StoreFault>
+        requires whole { ¬ (IsSpent self.old) }
+        requires framed { frame.now ≡ spelling commit }
+        requires stored { IsTrue H.tells_files → IsStored self.old (H.view host.old) }
+        requires fits { Fits self.old.state commit }
+        requires has_spelling { HasSpelling commit }
+        ensures made { IfOk result (λ number. (self.new.state ≡ committed self.old.state commit)
+            × (number ≡ self.new.state.number)) }
+        ensures unmade { OnErr result (self.new.state ≡ self.old.state) }
+        ensures unspent { IsErrOf result StoreFault.Spent → ⊥ }
+        ensures spends { IsSpent self.new ↔ IsErrOf result StoreFault.DiskFault }
+        ensures untouched { IfErr result (λ fault. fault ≢ StoreFault.DiskFault → host.new ≡ host.old) }
+        ensures stored { IsTrue H.tells_files → IsStored self.new (H.view host.new) }
+        ensures kept { OnOk result (IsTrue H.tells_files → IsFoundIn self.new.state (H.view host.new)) }
+        ensures files { IsTrue H.tells_files
+            → Moves self.old.state (committed self.old.state commit)
+            (H.view host.old) (H.view host.new) }
+        ensures out { KeepsOut (H.view host.old) (H.view host.new) }
+        ensures counts { RisesAt (IsErrOf result StoreFault.DiskFault)
+            (H.view host.old).disk_faults (H.view host.new).disk_faults }
+    {
         let ready = self.tables.ready(alloc, commit)?;
         let Some(journal) = self.journal.take() else {
             unreachable!();
         };
-        self.journal = Some(journal.append(host, &frame)?);
+        self.journal = Some(journal.append(host, frame)?);
         self.tables.apply(ready);
         Ok(self.tables.number())
     }

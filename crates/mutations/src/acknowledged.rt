@@ -52,7 +52,8 @@ fn masked_known(
     mask: &Mask,
 ) -> Result<Fields, NoMemory>
     requires { HasMaskOfFields (Some mask.now) }
-    ensures { IfOk result (λ fields. fields ≡ masked_fields (fields_of (document_in entry.now)) input.now mask.now) }
+    ensures { IfOk result (λ fields. fields
+        ≡ masked_fields (fields_of (document_in entry.now)) input.now mask.now) }
 {
     let known = known_fields(alloc, entry)?;
     masked(alloc, known, input, mask.as_slice())
@@ -68,7 +69,8 @@ fn found(
 ) -> Result<Entry, NoMemory>
     requires paths { HavePathsOfFields transforms.now }
     requires results { FitsTransforms transforms.now returned.now.transforms }
-    ensures { IfOk result (λ entry. entry ≡ entries.Found (settled_by fields transforms.now returned.now.transforms) version) }
+    ensures { IfOk result (λ entry. entry
+        ≡ entries.Found (settled_by fields transforms.now returned.now.transforms) version) }
 {
     let results = returned.transforms.as_slice();
     let fields = settled_fields(alloc, fields, transforms.as_slice(), results)?;

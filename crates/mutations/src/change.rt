@@ -163,7 +163,8 @@ fn settled(
     change: &Change,
     returned: &Value,
 ) -> Result<Value, NoMemory>
-    ensures { IfOk result (λ value. value ≡ settled_value (option_map (λ v. v.now) found.entry) change.now returned.now) }
+    ensures { IfOk result (λ value. value
+        ≡ settled_value (option_map (λ v. v.now) found.entry) change.now returned.now) }
 {
     match change {
         Change::Append(values) => {

@@ -67,7 +67,8 @@ fn made(
     requires mask { HasMaskOfFields mask.now }
     requires transforms { HavePathsOfFields transforms.now }
     ensures sets { OnOk result (function.SetsRight [] input.now mask.now) }
-    ensures exact { IfOk result (λ fields. fields ≡ function.updated at [] input.now mask.now transforms.now) }
+    ensures exact { IfOk result (λ fields. fields
+        ≡ function.updated at [] input.now mask.now transforms.now) }
 {
     if mask.is_none() && transforms.as_slice().is_empty() {
         return input.share();
@@ -92,7 +93,8 @@ fn update_shared(
     requires mask { All IsOfFields mask.now }
     requires transforms { HavePathsOfFields transforms.now }
     ensures sets { OnOk result (function.SetsRight fields.old input.now (Some mask.now)) }
-    ensures exact { OnOk result (fields.new ≡ function.updated at fields.old input.now (Some mask.now) transforms.now) }
+    ensures exact { OnOk result (fields.new
+        ≡ function.updated at fields.old input.now (Some mask.now) transforms.now) }
     ensures undone { OnErr result (fields.new ≡ fields.old) }
 {
     if let Some(own) = fields.alone() {
@@ -116,7 +118,8 @@ fn update_fields(
     requires mask { HasMaskOfFields mask.now }
     requires transforms { HavePathsOfFields transforms.now }
     ensures sets { OnOk result (function.SetsRight fields.old input.now mask.now) }
-    ensures exact { OnOk result (fields.new ≡ function.updated at fields.old input.now mask.now transforms.now) }
+    ensures exact { OnOk result (fields.new
+        ≡ function.updated at fields.old input.now mask.now transforms.now) }
     ensures undone { OnErr result (fields.new ≡ fields.old) }
 {
     match mask {

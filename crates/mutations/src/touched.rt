@@ -200,7 +200,8 @@ fn masked_part(
 ) -> Result<Fields, NoMemory>
     requires mask { All IsOfFields mask.now }
     requires names { All (IsTouched names.now) mask.now }
-    ensures part { IfOk result (λ part. StandsFor names.now part (function.masked fields.now input.now mask.now)) }
+    ensures part { IfOk result (λ part. StandsFor names.now part
+        (function.masked fields.now input.now mask.now)) }
     ensures says { OnOk result (function.MasksRight fields.now input.now mask.now) }
 {
     let _count = names.len();
@@ -219,7 +220,8 @@ fn put_in_place(
     part: Fields,
     names: &Fields,
 ) -> Result<(), NoMemory>
-    ensures done { (whole : _) → Completes names.now part fields.old whole → OnOk result (fields.new ≡ whole) }
+    ensures done { (whole : _) → Completes names.now part fields.old whole
+        → OnOk result (fields.new ≡ whole) }
     ensures undone { OnErr result (fields.new ≡ fields.old) }
 {
     make_room(alloc, fields, names)?;
@@ -242,7 +244,8 @@ pub(crate) fn update_touched(
     requires mask { All IsOfFields mask.now }
     requires transforms { HavePathsOfFields transforms.now }
     ensures says { OnOk result (function.MasksRight fields.old input.now mask.now) }
-    ensures exact { OnOk result (fields.new ≡ function.updated at fields.old input.now (Some mask.now) transforms.now) }
+    ensures exact { OnOk result (fields.new
+        ≡ function.updated at fields.old input.now (Some mask.now) transforms.now) }
     ensures undone { OnErr result (fields.new ≡ fields.old) }
 {
     let names = touched_names(alloc, mask, transforms)?;

@@ -55,3 +55,7 @@ KeepsPlaces old new = (key : List (List ℕ)) → IsTrue (has_place old key) →
 abbrev pub KeepsOtherPlaces : List (List ℕ) → Table → Table → Type 0
 KeepsOtherPlaces key old new = (q : List (List ℕ)) → is_key key q ≡ false
     → IsTrue (has_place old q) → IsTrue (has_place new q)
+
+-- no other key gets a place, and none loses it
+abbrev pub SameOtherPlaces : List (List ℕ) → Table → Table → Type 0
+SameOtherPlaces key old new = (q : List (List ℕ)) → is_key key q ≡ false → has_place new q ≡ has_place old q

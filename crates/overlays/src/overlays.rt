@@ -6,7 +6,7 @@ ghost use Rattle.mutations.specs.Effect.{IsOfFieldsOnly};
 ghost use Rattle.value_model.specs.Documents.{IsIn};
 ghost use Rattle.overlays.specs.Lent.{known, lent_document, with_more};
 ghost use Rattle.overlays.specs.LocalDocument.{after_writes, local_document};
-ghost use Rattle.overlays.specs.Table.{Changes, IsBatchOfFields, KeepsOtherPlaces, KeepsPlaces, SameOverlays};
+ghost use Rattle.overlays.specs.Table.{Changes, IsBatchOfFields, KeepsOtherPlaces, KeepsPlaces, SameOtherPlaces, SameOverlays};
 ghost use Rattle.overlays.specs.Table.{has_place, overlay_of, shown};
 
 use crate::laying::{all_laid_on, base, keyed_laid_on, laid_on, lent_laid_on};
@@ -169,6 +169,7 @@ impl Overlays {
         ensures room { OnOk result (IsTrue (has_place self.new key.now)) }
         ensures kept { IsTrue (has_place self.old key.now) → IsOk result }
         ensures places { KeepsPlaces self.old self.new }
+        ensures others { SameOtherPlaces key.now self.old self.new }
     {
         if !self.slots.has(key) {
             let key = key.copy(self.alloc)?;

@@ -180,7 +180,8 @@ impl Query {
 
     /// The order of two documents in the order of the query, where null stands for a value that is missing.
     fn compare(&self, a: DocRef<'_>, b: DocRef<'_>) -> Ordering
-        ensures { RanksInOrder self.now a.entry.key.now a.entry.fields.now b.entry.key.now b.entry.fields.now result }
+        ensures { RanksInOrder self.now a.entry.key.now a.entry.fields.now b.entry.key.now
+            b.entry.fields.now result }
     {
         match &self.target {
             Target::Document(_) => Ordering::Equal,
@@ -190,7 +191,8 @@ impl Query {
 
     /// Whether one of two documents that match the query comes before the other. It takes no memory.
     pub fn before(&self, a: DocRef<'_>, b: DocRef<'_>) -> bool
-        ensures { TellsBefore self.now a.entry.key.now a.entry.fields.now b.entry.key.now b.entry.fields.now result }
+        ensures { TellsBefore self.now a.entry.key.now a.entry.fields.now b.entry.key.now
+            b.entry.fields.now result }
     {
         self.compare(a, b).is_lt()
     }

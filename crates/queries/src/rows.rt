@@ -61,7 +61,8 @@ fn or_null<'a>(found: Option<&'a Value>, null: &'a Value) -> &'a Value
 
 /// The order of the values of two documents at a path, where null stands for a value that is missing.
 fn compare_at(path: &FieldPath, left: DocRef<'_>, right: DocRef<'_>) -> Ordering
-    ensures { RanksAt path.now left.entry.key.now left.entry.fields.now right.entry.key.now right.entry.fields.now result }
+    ensures { RanksAt path.now left.entry.key.now left.entry.fields.now right.entry.key.now
+        right.entry.fields.now result }
 {
     if path.is_document_name() {
         return left.key.compare(right.key);
@@ -72,7 +73,8 @@ fn compare_at(path: &FieldPath, left: DocRef<'_>, right: DocRef<'_>) -> Ordering
 
 /// The order of two documents by their values for the orders, where null stands for a value that is missing.
 pub(crate) fn compare_rows(orders: &[Order], left: DocRef<'_>, right: DocRef<'_>) -> Ordering
-    ensures { RanksDocuments orders.now left.entry.key.now left.entry.fields.now right.entry.key.now right.entry.fields.now result }
+    ensures { RanksDocuments orders.now left.entry.key.now left.entry.fields.now
+        right.entry.key.now right.entry.fields.now result }
 {
     for order in orders {
         let ranked = directed(compare_at(&order.path, left, right), order.descending);

@@ -35,7 +35,8 @@ fn last_direction(orders: &[Order]) -> bool
 
 /// The field that the filter makes an order by itself.
 fn inequality(filter: &Filter) -> Option<&FieldPath>
-    ensures { MatchOption result (is_inequality filter.now ≡ false) (λ path. IsInequalityBy filter.now path.now) }
+    ensures { MatchOption result (is_inequality filter.now ≡ false)
+        (λ path. IsInequalityBy filter.now path.now) }
 {
     match &filter.kind {
         FilterKind::Field { path, op, .. } => match op {
@@ -97,7 +98,8 @@ fn gather_all(
     explicit: &[Order],
     paths: &mut PathSet,
 ) -> Result<(), NoMemory>
-    ensures { OnOk result (Gathers explicit.now (nodes_in (filters_of filters.now.items)) paths.old paths.new) }
+    ensures { OnOk result (Gathers explicit.now
+        (nodes_in (filters_of filters.now.items)) paths.old paths.new) }
 {
     for filter in filters {
         gather(alloc, filter, explicit, paths)?;

@@ -38,7 +38,8 @@ fn document_rows<D: Documents>(
     docs: &D,
     key: &DocumentKey,
 ) -> Result<Vec<DocumentKey>, NoMemory>
-    ensures { (root : Root) → IfOk result (λ keys. IsAnswer (Document key.now) root (D.documents docs.now) keys.items) }
+    ensures { (root : Root) → IfOk result
+        (λ keys. IsAnswer (Document key.now) root (D.documents docs.now) keys.items) }
 {
     let mut keys = Vec::new(alloc);
     if has_document(docs, key) {

@@ -79,7 +79,8 @@ pub(crate) fn first_rows<'a, D: Documents>(
 ) -> Result<Vec<DocRef<'a>>, NoMemory>
     requires checked { IsChecked query.now }
     requires distinct { AllPairs ◌≢◌ keys.now }
-    ensures { IfOk result (λ rows. KeepsFirst query.now root.now (D.documents docs.entry.now) limit keys.entry.now rows.items) }
+    ensures { IfOk result (λ rows. KeepsFirst query.now root.now
+        (D.documents docs.entry.now) limit keys.entry.now rows.items) }
 {
     let mut rows = Vec::new(alloc);
     for key in keys {

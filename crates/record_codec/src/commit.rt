@@ -65,8 +65,10 @@ pub fn encode(alloc: Global, commit: &Commit) -> Result<Vec<u8>, NoMemory>
 /// # Errors
 /// `NoMemory`
 pub fn decode(alloc: Global, bytes: &[u8]) -> Result<Option<Commit>, NoMemory>
-    ensures found { IfOk result (λ found. IfSome found (λ commit. HasSpelling commit × (bytes.now ≡ spelling commit))) }
-    ensures none { IfOk result (λ found. IfNone found ((commit : CommitData) → HasSpelling commit → bytes.now ≡ spelling commit → ⊥)) }
+    ensures found { IfOk result (λ found. IfSome found
+        (λ commit. HasSpelling commit × (bytes.now ≡ spelling commit))) }
+    ensures none { IfOk result (λ found. IfNone found
+        ((commit : CommitData) → HasSpelling commit → bytes.now ≡ spelling commit → ⊥)) }
 {
     match commit_of(alloc, bytes) {
         Ok((commit, rest)) => {

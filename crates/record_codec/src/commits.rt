@@ -158,7 +158,8 @@ fn put_acknowledgement(
     at: Timestamp,
     results: &WriteResults,
 ) -> Result<(), NoMemory>
-    ensures { OnOk result (out.new.items ≡ out.old.items ++ (2 ∷ (number batch ++ (time at ++ many spelled results.now)))) }
+    ensures { OnOk result (out.new.items
+        ≡ out.old.items ++ (2 ∷ (number batch ++ (time at ++ many spelled results.now)))) }
 {
     out.push(ACKNOWLEDGE)?;
     put_number(out, batch)?;
@@ -172,7 +173,8 @@ fn put_point(
     entries: &Sequence<KeyedEntry>,
     rows: &Sequence<PointRow>,
 ) -> Result<(), NoMemory>
-    ensures { OnOk result (out.new.items ≡ out.old.items ++ (5 ∷ (time at ++ (many keyed entries.now ++ many row rows.now)))) }
+    ensures { OnOk result (out.new.items
+        ≡ out.old.items ++ (5 ∷ (time at ++ (many keyed entries.now ++ many row rows.now)))) }
 {
     out.push(POINT)?;
     put_time(out, at)?;

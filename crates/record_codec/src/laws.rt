@@ -9,5 +9,6 @@ pub fn one_commit()
 
 /// No commit's spelling begins another's, whatever follows either. Nothing is done when it runs.
 pub fn no_front()
-    ensures { (a b : CommitData) (x y : List ℕ) → HasSpelling a → HasSpelling b → spelling a ++ x ≡ spelling b ++ y → (a ≡ b) × (x ≡ y) }
+    ensures { (a b : CommitData) (x y : List ℕ) → HasSpelling a → HasSpelling b
+        → spelling a ++ x ≡ spelling b ++ y → (a ≡ b) × (x ≡ y) }
 {}

@@ -43,7 +43,8 @@ pub fn value_of(alloc: Global, limit: u32, bytes: &[u8]) -> Result<(Value, &[u8]
 /// Values that are nested at most so deep, as many as the number before them says, and what follows them.
 #[cycle(values)]
 pub fn values_of(alloc: Global, limit: u32, bytes: &[u8]) -> Result<(Vec<Value>, &[u8]), ReadError>
-    ensures { Reads (many value) (AreSpelled (IsSpelledValue limit)) bytes.now (λ x. (x.0.items, x.1.now)) result }
+    ensures { Reads (many value) (AreSpelled (IsSpelledValue limit)) bytes.now
+        (λ x. (x.0.items, x.1.now)) result }
 {
     let (count, start) = u64_of(bytes)?;
     let mut values = Vec::with_capacity(alloc, room_for(count, start, VALUE))?;
@@ -93,7 +94,8 @@ fn field_of(alloc: Global, limit: u32, bytes: &[u8]) -> Result<(Field, &[u8]), R
 /// Such fields in whatever order, as many as the number before them says, and what follows them.
 #[cycle(values)]
 fn entries_of(alloc: Global, limit: u32, bytes: &[u8]) -> Result<(Vec<Field>, &[u8]), ReadError>
-    ensures { Reads (many field) (AreSpelled (IsSpelledField limit)) bytes.now (λ x. (x.0.items, x.1.now)) result }
+    ensures { Reads (many field) (AreSpelled (IsSpelledField limit)) bytes.now
+        (λ x. (x.0.items, x.1.now)) result }
 {
     let (count, start) = u64_of(bytes)?;
     let mut entries = Vec::with_capacity(alloc, room_for(count, start, FIELD))?;

@@ -7,7 +7,8 @@ use crate::fault::ReadError;
 
 /// What follows the front, if the bytes begin with it.
 pub fn after<'a>(bytes: &'a [u8], front: &[u8]) -> Result<&'a [u8], ReadError>
-    ensures { MatchResult result (λ rest. bytes.now ≡ front.now ++ rest.now) (λ _. (rest : List ℕ) → bytes.now ≢ front.now ++ rest) }
+    ensures { MatchResult result (λ rest. bytes.now ≡ front.now ++ rest.now)
+        (λ _. (rest : List ℕ) → bytes.now ≢ front.now ++ rest) }
 {
     match bytes.strip_prefix(front) {
         Some(rest) => Ok(rest),

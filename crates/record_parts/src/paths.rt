@@ -68,7 +68,8 @@ fn paths_of(alloc: Global, bytes: &[u8]) -> Result<(Vec<FieldPath>, &[u8]), Read
 
 /// A mask or none, and what follows it.
 pub fn mask_of(alloc: Global, bytes: &[u8]) -> Result<(Option<Mask>, &[u8]), ReadError>
-    ensures { Reads (opt (many path)) (λ mask. IfSome mask (AreSpelled IsSpelledPath)) bytes.now (λ x. (x.0, x.1.now)) result }
+    ensures { Reads (opt (many path)) (λ mask. IfSome mask (AreSpelled IsSpelledPath)) bytes.now
+        (λ x. (x.0, x.1.now)) result }
 {
     let (byte, rest) = byte_of(bytes)?;
     match byte {

@@ -144,7 +144,8 @@ pub fn put_value(out: &mut Vec<u8>, content: &Value) -> Result<(), NoMemory>
 
 #[cycle(putting)]
 fn put_values(out: &mut Vec<u8>, values: &[Value]) -> Result<(), NoMemory>
-    ensures { OnOk result (out.new.items ≡ out.old.items ++ (number (length values.now) ++ flat_map value values.now)) }
+    ensures { OnOk result (out.new.items
+        ≡ out.old.items ++ (number (length values.now) ++ flat_map value values.now)) }
 {
     put_number(out, values.len() as u64)?;
     for value in values {

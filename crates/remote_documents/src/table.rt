@@ -3,7 +3,7 @@ ghost use Rattle.std.specs.List.{AllPairs, Contains};
 ghost use Rattle.std.specs.Option.{IsSome};
 ghost use Rattle.document_keys.specs.Order.{PathBefore};
 ghost use Rattle.value_model.specs.Documents.{IsIn};
-ghost use Rattle.remote_documents.specs.Table.{Changes, IsMapOf, KeepsOtherPlaces, KeepsPlaces, SameEntries};
+ghost use Rattle.remote_documents.specs.Table.{Changes, IsMapOf, KeepsOtherPlaces, KeepsPlaces, SameEntries, SameOtherPlaces};
 ghost use Rattle.remote_documents.specs.Table.{entry_of, has_place};
 
 use crate::slot::Slot;
@@ -68,6 +68,7 @@ impl RemoteDocuments {
         ensures room { OnOk result (IsTrue (has_place self.new key.now)) }
         ensures kept { IsTrue (has_place self.old key.now) → IsOk result }
         ensures places { KeepsPlaces self.old self.new }
+        ensures others { SameOtherPlaces key.now self.old self.new }
     {
         if !self.slots.has(key) {
             let key = key.copy(self.alloc)?;
@@ -155,7 +156,8 @@ impl RemoteDocuments {
     /// # Errors
     /// `NoMemory`
     pub fn keys(&self, alloc: Global) -> Result<KeySet, NoMemory>
-        ensures { IfOk result (λ keys. (key : List (List ℕ)) → Contains keys key ↔ IsSome (entry_of self.now key)) }
+        ensures { IfOk result (λ keys. (key : List (List ℕ)) → Contains keys key
+            ↔ IsSome (entry_of self.now key)) }
     {
         let places = self.slots.keys(alloc)?;
         let mut keys = KeySet::new(alloc);

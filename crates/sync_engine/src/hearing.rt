@@ -212,21 +212,21 @@ impl Client {
         &mut self,
         alloc: Global,
         host: &mut H,
-        response: ListenResponse,
+        response: &ListenResponse,
     ) -> Result<Outcome, ClientFault>
         requires stored { IsTrue H.tells_files → IsStored self.old.store (H.view host.old) }
         requires whole { ¬ (IsStoreSpent self.old.store) }
         requires poised { self.old.spent ≡ true }
         requires heard { (h : Calls) × (AggregatorStandsFor self.old.watch.aggregator h × AreSpelledCalls h) }
         requires idle { self.old.watch.due ≡ Nothing }
-        requires spelled { IsSpelledMessage response }
+        requires spelled { IsSpelledMessage response.now }
         ensures turn { IfOk result (λ outcome. (s : State) (past : Past) → StandsFor self.old s past
-            → HandsSettled s past (event.Watch response) outcome self.new) }
+            → HandsSettled s past (event.Watch response.now) outcome self.new) }
         ensures whole { OnOk result (¬ (IsStoreSpent self.new.store)) }
         ensures root { (self.new.root ≡ self.old.root) × (self.new.spent ≡ self.old.spent) }
         ensures stored { IsTrue H.tells_files → IsStored self.new.store (H.view host.new) }
         ensures files { IsTrue H.tells_files → (s : State) (past : Past) → StandsFor self.old s past
-            → MovesBy s past (event.Watch response) (H.view host.old) (H.view host.new) }
+            → MovesBy s past (event.Watch response.now) (H.view host.old) (H.view host.new) }
         ensures out { KeepsOut (H.view host.old) (H.view host.new) }
         ensures unspent { IsErrOf result ClientFault.Spent → ⊥ }
         ensures counts { RisesAt (IsErrOf result ClientFault.DiskFault)
@@ -235,9 +235,9 @@ impl Client {
         if !self.watch.is_open {
             return Ok(refused(alloc, false));
         }
-        match self.watch.aggregator.effect(alloc, &response) {
-            Ok(asked) => self.follow(alloc, host, &response, &asked),
-            Err(WatchFault::BadMessage(member)) => self.unheard(alloc, &response, member),
+        match self.watch.aggregator.effect(alloc, response) {
+            Ok(asked) => self.follow(alloc, host, response, &asked),
+            Err(WatchFault::BadMessage(member)) => self.unheard(alloc, response, member),
             Err(WatchFault::NoMemory) => Err(ClientFault::NoMemory),
         }
     }

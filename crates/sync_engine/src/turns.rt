@@ -225,7 +225,7 @@ impl Client {
             Event::Unlisten(id) => self.unlisten(alloc, id),
             Event::Opened(name) => self.open_stream(alloc, name),
             Event::Closed(name, status) => self.close_stream(alloc, host, name, status),
-            Event::Watch(response) => self.watched(alloc, host, response),
+            Event::Watch(response) => self.watched(alloc, host, &response),
             Event::Written(response) => self.written(alloc, host, response),
             Event::BadMessage(name, member) => self.bad_message(alloc, name, member),
             Event::Timer => self.ring(alloc),

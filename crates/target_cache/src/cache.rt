@@ -63,7 +63,8 @@ impl Model for TargetCache {
 
 /// The place of the row of the id, if it is an id.
 fn place_at(id: i32) -> Option<usize>
-    ensures { MatchOption result ((place : ℕ) → id ≡ pos (id_at place) → ⊥) (λ place. id ≡ pos (id_at place)) }
+    ensures { MatchOption result ((place : ℕ) → id ≡ pos (id_at place) → ⊥)
+        (λ place. id ≡ pos (id_at place)) }
 {
     if id < 2 || id % 2 != 0 {
         return None;
@@ -82,7 +83,9 @@ fn id_of(place: u64) -> i32
 /// Puts what is held into the row at the place.
 fn hold(rows: &mut Vec<Row>, place: usize, held: Option<Held>)
     requires { place < length rows.old.items }
-    ensures row { (d : Row) → rows.new.items ≡ slice_set rows.old.items place (record { target = (slice_index_or rows.old.items place d).target; held = held }) }
+    ensures row { (d : Row) → rows.new.items
+        ≡ slice_set rows.old.items place
+        (record { target = (slice_index_or rows.old.items place d).target; held = held }) }
     ensures len { vec_len rows.new ≡ vec_len rows.old }
     ensures room { vec_capacity rows.old ≤ vec_capacity rows.new }
 {
@@ -171,7 +174,8 @@ impl TargetCache {
     /// Puts a token, a version and keys into the row of the id, which is there.
     pub fn set_row(&mut self, id: i32, token: Bytes, version: Timestamp, keys: KeySet)
         requires { (row : Row) × IsRow self.old.rows id row }
-        ensures done { Holds id (Some (record { token = token; version = version; keys = keys })) self.old.rows self.new.rows }
+        ensures done { Holds id (Some (record { token = token; version = version; keys = keys }))
+            self.old.rows self.new.rows }
         ensures room { self.old.spare ≤ self.new.spare }
     {
         self.set_held(
@@ -204,7 +208,8 @@ impl TargetCache {
         ensures done { OnOk result (self.new.rows ≡ self.old.rows ++ blank target ∷ []) }
         ensures undone { OnErr result (self.new.rows ≡ self.old.rows) }
         ensures few { OnOk result (id_at (length self.old.rows) ≤ 2147483646) }
-        ensures spent { IfErr result (λ fault. (fault ≡ TargetsSpent) ↔ (2147483646 < id_at (length self.old.rows))) }
+        ensures spent { IfErr result (λ fault. (fault ≡ TargetsSpent)
+            ↔ (2147483646 < id_at (length self.old.rows))) }
         ensures held { self.old.spare ≤ self.new.spare + 1 }
         ensures kept { 0 < self.old.spare → id_at (length self.old.rows) ≤ 2147483646 → IsOk result }
     {

@@ -53,7 +53,8 @@ pub(crate) fn lower(rows: &[Row], order: &[u64], target: &Target) -> usize
 fn place_from(rows: &[Row], order: &[u64], target: &Target, from: usize) -> Option<u64>
     requires order { IsOrder rows.now order.now }
     requires from { IsLower (targets_in rows.now order.now) target.now from }
-    ensures { MatchOption result (All (λ t. t ≢ target.now) (targets_in rows.now order.now)) (IsPlaceOf rows.now target.now) }
+    ensures { MatchOption result (All (λ t. t ≢ target.now) (targets_in rows.now order.now))
+        (IsPlaceOf rows.now target.now) }
 {
     for i in from..order.len() {
         let other = target_at(rows, order, i);
@@ -70,7 +71,8 @@ fn place_from(rows: &[Row], order: &[u64], target: &Target, from: usize) -> Opti
 /// The place of a row of the target, where there is one.
 pub(crate) fn place_of(rows: &[Row], order: &[u64], target: &Target) -> Option<u64>
     requires { IsOrder rows.now order.now }
-    ensures { MatchOption result (All (λ t. t ≢ target.now) (targets_in rows.now order.now)) (IsPlaceOf rows.now target.now) }
+    ensures { MatchOption result (All (λ t. t ≢ target.now) (targets_in rows.now order.now))
+        (IsPlaceOf rows.now target.now) }
 {
     place_from(rows, order, target, lower(rows, order, target))
 }

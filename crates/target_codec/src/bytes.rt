@@ -57,7 +57,8 @@ pub(crate) fn direction_byte(descending: bool) -> u8
 
 /// The operator of a byte.
 fn operator_from(byte: u8) -> Option<Operator>
-    ensures { MatchOption result ((op : AnOperator) → operator_number op ≢ byte) (λ op. operator_number op ≡ byte) }
+    ensures { MatchOption result ((op : AnOperator) → operator_number op ≢ byte)
+        (λ op. operator_number op ≡ byte) }
 {
     match byte {
         1 => Some(Operator::Equal),
@@ -76,7 +77,8 @@ fn operator_from(byte: u8) -> Option<Operator>
 
 /// The junction of a byte.
 fn junction_from(byte: u8) -> Option<Junction>
-    ensures { MatchOption result ((op : AJunction) → junction_number op ≢ byte) (λ op. junction_number op ≡ byte) }
+    ensures { MatchOption result ((op : AJunction) → junction_number op ≢ byte)
+        (λ op. junction_number op ≡ byte) }
 {
     match byte {
         1 => Some(Junction::And),
@@ -98,7 +100,8 @@ fn test_from(byte: u8) -> Option<UnaryOp>
 
 /// Whether a byte is that of descending order.
 fn direction_from(byte: u8) -> Option<bool>
-    ensures { MatchOption result ((descending : _) → direction_number descending ≢ byte) (λ descending. direction_number descending ≡ byte) }
+    ensures { MatchOption result ((descending : _) → direction_number descending ≢ byte)
+        (λ descending. direction_number descending ≡ byte) }
 {
     match byte {
         1 => Some(false),

@@ -26,7 +26,8 @@ pub(crate) fn given_cursor_of(
     alloc: Global,
     bytes: &[u8],
 ) -> Result<(Option<Cursor>, &[u8]), ReadError>
-    ensures { Reads (opt cursor) (λ given. IfSome given IsSpelledCursor) bytes.now (λ x. (x.0, x.1.now)) result }
+    ensures { Reads (opt cursor) (λ given. IfSome given IsSpelledCursor) bytes.now
+        (λ x. (x.0, x.1.now)) result }
 {
     let (byte, rest) = byte_of(bytes)?;
     match byte {

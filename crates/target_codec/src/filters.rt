@@ -35,7 +35,8 @@ fn filter_of(alloc: Global, most: u32, bytes: &[u8]) -> Result<(Filter, &[u8]), 
 /// Filters that nest at most so deep, as many as the number before them says, and what follows them.
 #[cycle(filters)]
 fn filters_of(alloc: Global, most: u32, bytes: &[u8]) -> Result<(Vec<Filter>, &[u8]), ReadError>
-    ensures { Reads (many filter) (AreSpelled (IsSpelledFilter most)) bytes.now (λ x. (x.0.items, x.1.now)) result }
+    ensures { Reads (many filter) (AreSpelled (IsSpelledFilter most)) bytes.now
+        (λ x. (x.0.items, x.1.now)) result }
 {
     let (count, start) = u64_of(bytes)?;
     let mut filters = Vec::new(alloc);
@@ -61,7 +62,8 @@ fn composite_of(alloc: Global, most: u32, bytes: &[u8]) -> Result<(Filter, &[u8]
 
 /// What follows the byte of a comparison, and what follows that.
 fn comparison_of(alloc: Global, bytes: &[u8]) -> Result<(Filter, &[u8]), ReadError>
-    ensures { (most : _) → Reads filter (IsSpelledFilter (most + 1)) (2 ∷ bytes.now) (λ x. (x.0, x.1.now)) result }
+    ensures { (most : _) → Reads filter (IsSpelledFilter (most + 1)) (2 ∷ bytes.now)
+        (λ x. (x.0, x.1.now)) result }
 {
     let (path, rest) = query_path_of(alloc, bytes)?;
     let (op, rest) = operator_of(rest)?;
@@ -72,7 +74,8 @@ fn comparison_of(alloc: Global, bytes: &[u8]) -> Result<(Filter, &[u8]), ReadErr
 
 /// What follows the byte of a test, and what follows that.
 fn unary_of(alloc: Global, bytes: &[u8]) -> Result<(Filter, &[u8]), ReadError>
-    ensures { (most : _) → Reads filter (IsSpelledFilter (most + 1)) (3 ∷ bytes.now) (λ x. (x.0, x.1.now)) result }
+    ensures { (most : _) → Reads filter (IsSpelledFilter (most + 1)) (3 ∷ bytes.now)
+        (λ x. (x.0, x.1.now)) result }
 {
     let (op, rest) = test_of(bytes)?;
     let (path, rest) = query_path_of(alloc, rest)?;
@@ -85,7 +88,8 @@ pub(crate) fn given_filter_of(
     alloc: Global,
     bytes: &[u8],
 ) -> Result<(Option<Filter>, &[u8]), ReadError>
-    ensures { Reads (opt filter) (λ given. IfSome given (IsSpelledFilter 20)) bytes.now (λ x. (x.0, x.1.now)) result }
+    ensures { Reads (opt filter) (λ given. IfSome given (IsSpelledFilter 20)) bytes.now
+        (λ x. (x.0, x.1.now)) result }
 {
     let (byte, rest) = byte_of(bytes)?;
     match byte {

@@ -5,5 +5,6 @@ ghost use Rattle.target_codec.specs.Spelling.{target, IsSpelledTarget};
 /// No target's spelling begins another's, whatever follows either; so targets of one spelling are one. Nothing is done when it
 /// runs.
 pub fn no_front()
-    ensures { (a b : ATarget) (x y : List ℕ) → IsSpelledTarget a → IsSpelledTarget b → target a ++ x ≡ target b ++ y → (a ≡ b) × (x ≡ y) }
+    ensures { (a b : ATarget) (x y : List ℕ) → IsSpelledTarget a → IsSpelledTarget b
+        → target a ++ x ≡ target b ++ y → (a ≡ b) × (x ≡ y) }
 {}

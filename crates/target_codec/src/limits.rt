@@ -24,7 +24,8 @@ fn limit_of(bytes: &[u8]) -> Result<(u32, &[u8]), ReadError>
 
 /// A limit or none, and what follows it.
 pub(crate) fn given_limit_of(bytes: &[u8]) -> Result<(Option<u32>, &[u8]), ReadError>
-    ensures { Reads (opt limit) (λ given. IfSome given IsSpelledLimit) bytes.now (λ x. (x.0, x.1.now)) result }
+    ensures { Reads (opt limit) (λ given. IfSome given IsSpelledLimit) bytes.now
+        (λ x. (x.0, x.1.now)) result }
 {
     let (byte, rest) = byte_of(bytes)?;
     match byte {

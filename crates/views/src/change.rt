@@ -32,7 +32,8 @@ fn is_modified(old: &Rows, row: &Row) -> bool
 
 /// Puts a change of this kind for the row's key to the others.
 fn tell(alloc: Global, kind: Kind, row: &Row, changes: &mut Vec<Change>) -> Result<(), NoMemory>
-    ensures { OnOk result (changes.new.items ≡ changes.old.items ++ record { kind = kind; key = row.now.key } ∷ []) }
+    ensures { OnOk result (changes.new.items
+        ≡ changes.old.items ++ record { kind = kind; key = row.now.key } ∷ []) }
 {
     let key = row.key.copy(alloc)?;
     changes.push(Change { kind, key })?;
@@ -64,7 +65,8 @@ fn tell_modified(
     old: &Rows,
     changes: &mut Vec<Change>,
 ) -> Result<(), NoMemory>
-    ensures { OnOk result (Tells Kind.Modified (IsModified old.now) rows.now changes.old.items changes.new.items) }
+    ensures { OnOk result (Tells Kind.Modified
+        (IsModified old.now) rows.now changes.old.items changes.new.items) }
 {
     for row in rows {
         if is_modified(old, row) {

@@ -64,7 +64,8 @@ fn are_printed_as(values: &[Value], others: &[Value]) -> bool
 /// Whether two lists of fields are printed the same.
 #[cycle(printing)]
 pub(crate) fn fields_are_printed_as(fields: &[Field], others: &[Field]) -> bool
-    ensures { IsTrue result ↔ (printed_fields (fields_data fields.now) ≡ printed_fields (fields_data others.now)) }
+    ensures { IsTrue result ↔ (printed_fields (fields_data fields.now)
+        ≡ printed_fields (fields_data others.now)) }
 {
     if fields.len() != others.len() {
         return false;

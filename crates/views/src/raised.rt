@@ -68,7 +68,8 @@ fn shown<D: Documents>(
     key: &DocumentKey,
 ) -> Result<Rc<Shown>, NoMemory>
     requires { IsSome (map.get (D.documents docs.now) key.now) }
-    ensures { IfOk result (λ document. PrintsAt (D.documents docs.now) key.now (record { key = key.now; document = document.value })) }
+    ensures { IfOk result (λ document. PrintsAt (D.documents docs.now) key.now
+        (record { key = key.now; document = document.value })) }
 {
     let Some(document) = docs.document(key) else {
         unreachable!();

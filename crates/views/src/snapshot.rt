@@ -42,7 +42,8 @@ impl<'a, D: Documents> Snapshot<'a, D> {
 
     /// The document at the index, from 0, lent by the store; `None` exactly past the last.
     pub fn document(&self, index: u64) -> Option<DocRef<'a>>
-        ensures { MatchOption result (length self.now.raised.rows ≤ index) (λ document. LendsAt self.now index document) }
+        ensures { MatchOption result (length self.now.raised.rows ≤ index)
+            (λ document. LendsAt self.now index document) }
     {
         let row = self.raised.rows.as_slice().get(index as usize)?;
         self.docs.document(&row.key)

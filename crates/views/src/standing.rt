@@ -33,7 +33,8 @@ impl Standing {
         docs: &D,
         shown: &[DocumentKey],
     ) -> Result<Vec<DocumentKey>, NoMemory>
-        ensures { IfOk result (λ limbo. Picks (IsInLimbo self.now (D.touched_keys docs.now)) shown.now limbo.items) }
+        ensures { IfOk result (λ limbo. Picks
+            (IsInLimbo self.now (D.touched_keys docs.now)) shown.now limbo.items) }
     {
         let mut limbo = Vec::new(alloc);
         for key in shown {

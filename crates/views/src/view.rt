@@ -48,7 +48,8 @@ fn answer_of<D: Documents>(
     query: &Query,
 ) -> Result<Vec<DocumentKey>, NoMemory>
     ensures answer { IfOk result (λ keys. IsAnswer query.now root.now (D.documents docs.now) keys.items) }
-    ensures there { IfOk result (λ keys. All (λ key. IsSome (map.get (D.documents docs.now) key)) keys.items) }
+    ensures there { IfOk result (λ keys. All
+        (λ key. IsSome (map.get (D.documents docs.now) key)) keys.items) }
     ensures distinct { IfOk result (λ keys. AllPairs ◌≢◌ keys.items) }
 {
     rows(alloc, root, docs, query)
@@ -134,8 +135,9 @@ impl View {
         standing: &Standing,
         may_start: bool,
     ) -> Result<Refresh, NoMemory>
-        ensures done { IfOk result (λ refresh. Refreshes root.now (D.documents docs.now) (D.touched_keys docs.now)
-            standing.now may_start self.old self.new refresh) }
+        ensures done { IfOk result (λ refresh. Refreshes root.now
+            (D.documents docs.now) (D.touched_keys docs.now) standing.now may_start
+            self.old self.new refresh) }
         ensures over { OnOk result (IsOver self.new (D.documents docs.now)) }
         ensures undone { OnErr result (self.new ≡ self.old) }
     {

@@ -211,8 +211,10 @@ impl Aggregator {
     /// `BadMessage(TargetIds)` at a REMOVE without ids, `BadMessage(Cause)` at one without cause for a live incarnation,
     /// `NoMemory`.
     pub fn effect(&self, alloc: Global, message: &ListenResponse) -> Result<Effect, WatchFault>
-        ensures gives { IfOk result (λ effect. (h : Calls) → StandsFor self.now h → Gives h message.now effect) }
-        ensures refuses { IfErr result (λ fault. (h : Calls) → StandsFor self.now h → Refuses h message.now fault) }
+        ensures gives { IfOk result (λ effect. (h : Calls) → StandsFor self.now h
+            → Gives h message.now effect) }
+        ensures refuses { IfErr result (λ fault. (h : Calls) → StandsFor self.now h
+            → Refuses h message.now fault) }
     {
         match message {
             ListenResponse::Target(change) => effect_of(alloc, self.watched.as_slice(), change),
@@ -249,8 +251,10 @@ impl Aggregator {
     /// `BadMessage(TargetIds)` at a REMOVE without ids, `BadMessage(Cause)` at one without cause for a live incarnation,
     /// `NoMemory`. Then it stands for the same lists as before.
     pub fn message(&mut self, alloc: Global, message: &ListenResponse) -> Result<Effect, WatchFault>
-        ensures done { IfOk result (λ effect. (h : Calls) → StandsFor self.old h → Gives h message.now effect × StandsFor self.new (call.came message.now ∷ h)) }
-        ensures undone { IfErr result (λ fault. (h : Calls) → StandsFor self.old h → Refuses h message.now fault × StandsFor self.new h) }
+        ensures done { IfOk result (λ effect. (h : Calls) → StandsFor self.old h
+            → Gives h message.now effect × StandsFor self.new (call.came message.now ∷ h)) }
+        ensures undone { IfErr result (λ fault. (h : Calls) → StandsFor self.old h
+            → Refuses h message.now fault × StandsFor self.new h) }
     {
         let effect = match self.effect(alloc, message) {
             Ok(effect) => effect,
@@ -267,7 +271,8 @@ impl Aggregator {
     /// # Errors
     /// `NoMemory`: it stands for the same lists as before.
     pub fn apply_point(&mut self, alloc: Global) -> Result<WatchPoint, NoMemory>
-        ensures done { IfOk result (λ point. (h : Calls) → StandsFor self.old h → IsPointOf h point × StandsFor self.new (call.applied ∷ h)) }
+        ensures done { IfOk result (λ point. (h : Calls) → StandsFor self.old h → IsPointOf h point
+            × StandsFor self.new (call.applied ∷ h)) }
         ensures emptied { OnOk result (HasNoTokens self.new) }
         ensures undone { OnErr result (Stays self.old self.new) }
     {
@@ -291,7 +296,9 @@ impl Aggregator {
 
     /// The told keys of the id, or `None` exactly where it has no counting incarnation.
     pub fn told(&self, id: i32) -> Option<&KeySet>
-        ensures { (h : Calls) → StandsFor self.now h → option_map (λ keys. keys.now) result ≡ (if counts id h then Some (told_keys id h) else None) }
+        ensures { (h : Calls) → StandsFor self.now h
+            → option_map (λ keys. keys.now) result
+            ≡ (if counts id h then Some (told_keys id h) else None) }
     {
         match place(self.watched.as_slice(), &id) {
             Ok(at) => {

@@ -85,7 +85,9 @@ fn counting(watched: &[Watched], ids: &[i32]) -> bool
 
 /// Whether any of the ids of either list counts.
 fn either_counting(watched: &[Watched], ids: &[i32], removed: &[i32]) -> bool
-    ensures { AreAscending watched.now → result ≡ (list_any (counts_in watched.now) ids.now || list_any (counts_in watched.now) removed.now) }
+    ensures { AreAscending watched.now
+        → result ≡ (list_any (counts_in watched.now) ids.now || list_any
+        (counts_in watched.now) removed.now) }
 {
     counting(watched, ids) || counting(watched, removed)
 }

@@ -88,7 +88,8 @@ pub(crate) fn targets_of(
     tokens: &[Bytes],
     watched: &[Watched],
 ) -> Result<Vec<WatchTarget>, NoMemory>
-    ensures { IfOk result (λ targets. targets.items ≡ map (target_from tokens.now) (filter (λ w. w.counts) watched.now)) }
+    ensures { IfOk result (λ targets. targets.items
+        ≡ map (target_from tokens.now) (filter (λ w. w.counts) watched.now)) }
 {
     let mut targets = Vec::new(alloc);
     for one in watched {

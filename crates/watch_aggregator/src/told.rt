@@ -43,7 +43,8 @@ fn put_at(
     id: &i32,
     change: &DocumentChange,
 ) -> Result<(), NoMemory>
-    ensures done { OnOk result (AreAscending watched.old.items → watched.new.items ≡ map (for_id id.now (put change.now)) watched.old.items) }
+    ensures done { OnOk result (AreAscending watched.old.items
+        → watched.new.items ≡ map (for_id id.now (put change.now)) watched.old.items) }
     ensures undone { OnErr result (watched.new.items ≡ watched.old.items) }
 {
     match place(watched.as_slice(), id) {
@@ -62,8 +63,10 @@ pub(crate) fn put_all(
     watched: &mut Vec<Watched>,
     change: &DocumentChange,
 ) -> Result<(), NoMemory>
-    ensures done { OnOk result (AreAscending watched.old.items → watched.new.items ≡ map (for_ids change.now.target_ids (put change.now)) watched.old.items) }
-    ensures undone { OnErr result (AreAscending watched.old.items → (ids : List ℤ) × (watched.new.items ≡ map (for_ids ids (put change.now)) watched.old.items)) }
+    ensures done { OnOk result (AreAscending watched.old.items
+        → watched.new.items ≡ map (for_ids change.now.target_ids (put change.now)) watched.old.items) }
+    ensures undone { OnErr result (AreAscending watched.old.items → (ids : List ℤ)
+        × (watched.new.items ≡ map (for_ids ids (put change.now)) watched.old.items)) }
 {
     for id in change.target_ids.as_slice() {
         match put_at(alloc, watched, id, change) {
@@ -76,7 +79,8 @@ pub(crate) fn put_all(
 
 /// Takes the key out of the told keys of the id where the message at hand put it in.
 fn take_back_at(watched: &mut Vec<Watched>, id: &i32, key: &DocumentKey)
-    ensures { AreAscending watched.old.items → watched.new.items ≡ map (for_id id.now (take_back key.now)) watched.old.items }
+    ensures { AreAscending watched.old.items
+        → watched.new.items ≡ map (for_id id.now (take_back key.now)) watched.old.items }
 {
     match place(watched.as_slice(), id) {
         Ok(at) => {
@@ -92,7 +96,8 @@ fn take_back_at(watched: &mut Vec<Watched>, id: &i32, key: &DocumentKey)
 
 /// The same of each of the ids.
 pub(crate) fn take_back(watched: &mut Vec<Watched>, ids: &[i32], key: &DocumentKey)
-    ensures { AreAscending watched.old.items → watched.new.items ≡ map (for_ids ids.now (take_back key.now)) watched.old.items }
+    ensures { AreAscending watched.old.items
+        → watched.new.items ≡ map (for_ids ids.now (take_back key.now)) watched.old.items }
 {
     for id in ids {
         take_back_at(watched, id, key);
@@ -101,7 +106,8 @@ pub(crate) fn take_back(watched: &mut Vec<Watched>, ids: &[i32], key: &DocumentK
 
 /// What the message at hand put into the told keys of the id stays there.
 fn settle_at(watched: &mut Vec<Watched>, id: &i32)
-    ensures { AreAscending watched.old.items → watched.new.items ≡ map (for_id id.now settle) watched.old.items }
+    ensures { AreAscending watched.old.items
+        → watched.new.items ≡ map (for_id id.now settle) watched.old.items }
 {
     match place(watched.as_slice(), id) {
         Ok(at) => {
@@ -114,7 +120,8 @@ fn settle_at(watched: &mut Vec<Watched>, id: &i32)
 
 /// The same of each of the ids.
 pub(crate) fn settle(watched: &mut Vec<Watched>, ids: &[i32])
-    ensures { AreAscending watched.old.items → watched.new.items ≡ map (for_ids ids.now settle) watched.old.items }
+    ensures { AreAscending watched.old.items
+        → watched.new.items ≡ map (for_ids ids.now settle) watched.old.items }
 {
     for id in ids {
         settle_at(watched, id);
@@ -123,7 +130,8 @@ pub(crate) fn settle(watched: &mut Vec<Watched>, ids: &[i32])
 
 /// Takes the key out of the told keys of the id, if it counts.
 fn take_out_at(watched: &mut Vec<Watched>, id: &i32, key: &DocumentKey)
-    ensures { AreAscending watched.old.items → watched.new.items ≡ map (for_id id.now (take_out key.now)) watched.old.items }
+    ensures { AreAscending watched.old.items
+        → watched.new.items ≡ map (for_id id.now (take_out key.now)) watched.old.items }
 {
     match place(watched.as_slice(), id) {
         Ok(at) => {
@@ -138,7 +146,8 @@ fn take_out_at(watched: &mut Vec<Watched>, id: &i32, key: &DocumentKey)
 
 /// The same of each of the ids.
 pub(crate) fn take_out(watched: &mut Vec<Watched>, ids: &[i32], key: &DocumentKey)
-    ensures { AreAscending watched.old.items → watched.new.items ≡ map (for_ids ids.now (take_out key.now)) watched.old.items }
+    ensures { AreAscending watched.old.items
+        → watched.new.items ≡ map (for_ids ids.now (take_out key.now)) watched.old.items }
 {
     for id in ids {
         take_out_at(watched, id, key);

@@ -172,8 +172,10 @@ pub(crate) fn end_of(
     change: &TargetChange,
 ) -> Result<Effect, WatchFault>
     requires { is_remove change.now.kind ≡ true }
-    ensures gives { IfOk result (λ effect. (tokens : List (List ℕ)) (h : Calls) → AreWatched tokens watched.now h → GivesTarget h change.now effect) }
-    ensures refuses { IfErr result (λ fault. (tokens : List (List ℕ)) (h : Calls) → AreWatched tokens watched.now h → RefusesTarget h change.now fault) }
+    ensures gives { IfOk result (λ effect. (tokens : List (List ℕ)) (h : Calls) →
+        AreWatched tokens watched.now h → GivesTarget h change.now effect) }
+    ensures refuses { IfErr result (λ fault. (tokens : List (List ℕ)) (h : Calls) →
+        AreWatched tokens watched.now h → RefusesTarget h change.now fault) }
 {
     if change.target_ids.as_slice().is_empty() {
         return Err(WatchFault::BadMessage(WatchMember::TargetIds));
@@ -200,8 +202,10 @@ pub(crate) fn effect_of(
     watched: &[Watched],
     change: &TargetChange,
 ) -> Result<Effect, WatchFault>
-    ensures gives { IfOk result (λ effect. (tokens : List (List ℕ)) (h : Calls) → AreWatched tokens watched.now h → GivesTarget h change.now effect) }
-    ensures refuses { IfErr result (λ fault. (tokens : List (List ℕ)) (h : Calls) → AreWatched tokens watched.now h → RefusesTarget h change.now fault) }
+    ensures gives { IfOk result (λ effect. (tokens : List (List ℕ)) (h : Calls) →
+        AreWatched tokens watched.now h → GivesTarget h change.now effect) }
+    ensures refuses { IfErr result (λ fault. (tokens : List (List ℕ)) (h : Calls) →
+        AreWatched tokens watched.now h → RefusesTarget h change.now fault) }
 {
     match change.kind {
         ChangeKind::Remove => end_of(alloc, watched, change),
@@ -211,7 +215,8 @@ pub(crate) fn effect_of(
 
 /// Forgets the ids without open incarnations, which only a REMOVE leaves.
 pub(crate) fn sweep(watched: &mut Vec<Watched>, kind: ChangeKind)
-    ensures { watched.new.items ≡ (if is_remove kind then filter (λ w. not (w.opened == 0)) watched.old.items else watched.old.items) }
+    ensures { watched.new.items ≡ (if is_remove kind then filter
+        (λ w. not (w.opened == 0)) watched.old.items else watched.old.items) }
 {
     match kind {
         ChangeKind::Remove => watched.retain(|one| one.opened != 0),

@@ -1,6 +1,7 @@
-use Rattle.std.proofs.Common.{◌≡◌, ◌∙◌, IsTrue, false, refl, sym, ap, subst}
+use Rattle.std.proofs.Common.{◌≡◌, ◌∙◌, Some, IsTrue, cond, false, refl, sym, ap, subst}
 use Rattle.std.specs.Option.{is_some, option_and_then}
-use Rattle.key_table.specs.Table.{has_key}
+use Rattle.document_keys.specs.KeySet.{is_key}
+use Rattle.key_table.specs.Table.{has_key, value_at}
 use Rattle.key_table.proofs.Tables.{keys_stay, put_there, shows_nothing}
 use Rattle.overlays.specs.declared.slot.Slot.TheVariants.{Reserved}
 use Rattle.overlays.specs.Table.{has_place, laid}
@@ -22,3 +23,10 @@ returns-in_ok-insert-clause-room c = subst (λ k. IsTrue (has_place c.insert.new
 
 pub returns-in_ok-insert-clause-places : goal.returns-in_ok-insert-clause-places
 returns-in_ok-insert-clause-places c = λ q. rw (← c.self.view_is) (keys_stay c.self.inside.slots c.insert.new.self c.in_ok-key.key Reserved c.in_ok-insert.ensures.done q)
+
+pub returns-in_err-insert-clause-others : goal.returns-in_err-insert-clause-others
+returns-in_err-insert-clause-others c = λ q other. rw (← c.self.view_is) (ap is_some (c.in_err-insert.ensures.undone q))
+
+pub returns-in_ok-insert-clause-others : goal.returns-in_ok-insert-clause-others
+returns-in_ok-insert-clause-others c = λ q other. rw (← c.self.view_is) (ap is_some (c.in_ok-insert.ensures.done q
+    ∙ ap (λ b. cond b (Some Reserved) (value_at c.self.inside.slots q)) (ap (λ k. is_key k q) c.in_ok-key.ensures ∙ other)))
