@@ -8,7 +8,8 @@ use Rattle.value_model.specs.declared.timestamp.Timestamp.{Timestamp}
 use Rattle.mutations.specs.Acknowledged.{acknowledged, version_in}
 use Rattle.mutations.specs.declared.results.WriteResult.{WriteResult}
 use Rattle.mutations.specs.declared.write.Write.{Write}
-use Rattle.acknowledgements.specs.Acked.{IsVersion, Leaves, answered, key_of_write, left_after, versions}
+use Rattle.acknowledgements.specs.Acked.{IsVersion, Leaves, answered, left_after, versions}
+use Rattle.mutations.specs.Written.{written_key}
 use Rattle.acknowledgements.specs.Acked.Leaves.{all_done, applied, passed}
 use Rattle.acknowledgements.proofs.Times.{contains_cases, contains_here, contains_none, contains_there}
 
@@ -16,7 +17,7 @@ abbrev Pair : Type 0
 Pair = Write × WriteResult
 
 abbrev of_key : List (List ℕ) → List Pair → List Pair
-of_key key pairs = filter (λ pair. is_key (key_of_write pair.0) key) pairs
+of_key key pairs = filter (λ pair. is_key (written_key pair.0) key) pairs
 
 false_apart : false ≡ true → ⊥
 false_apart e = cc
@@ -26,18 +27,18 @@ not_key own key not same = false_apart (sym not ∙ key_same own key same)
 
 -- a version of the key's writes, by the pairs
 abbrev Named : List (List ℕ) → Timestamp → List Pair → Timestamp → Type 0
-Named key commit pairs version = (pair : Pair) × Contains pairs pair × (key_of_write pair.0 ≡ key) × (version ≡ version_in pair.1 commit)
+Named key commit pairs version = (pair : Pair) × Contains pairs pair × (written_key pair.0 ≡ key) × (version ≡ version_in pair.1 commit)
 
 named_there : (key : List (List ℕ)) (commit version : Timestamp) (pair : Pair) (pairs : List Pair) → Named key commit pairs version → Named key commit (pair ∷ pairs) version
 named_there key commit version pair pairs (other, has, of, is) = (other, contains_there pair pairs other has, of, is)
 
 named_from : (key : List (List ℕ)) (commit version : Timestamp) (pairs : List Pair) → Contains (versions commit (of_key key pairs)) version → Named key commit pairs version
 named_from key commit version [] has = absurd (contains_none version has)
-named_from key commit version (pair ∷ pairs) has = by (is_key (key_of_write pair.0) key) refl (named_from key commit version pairs) has
+named_from key commit version (pair ∷ pairs) has = by (is_key (written_key pair.0) key) refl (named_from key commit version pairs) has
   where
-    by : (b : Bool) → is_key (key_of_write pair.0) key ≡ b → (Contains (versions commit (of_key key pairs)) version → Named key commit pairs version) → Contains (versions commit (cond b (pair ∷ of_key key pairs) (of_key key pairs))) version → Named key commit (pair ∷ pairs) version
+    by : (b : Bool) → is_key (written_key pair.0) key ≡ b → (Contains (versions commit (of_key key pairs)) version → Named key commit pairs version) → Contains (versions commit (cond b (pair ∷ of_key key pairs) (of_key key pairs))) version → Named key commit (pair ∷ pairs) version
     by true is rest has = elim (contains_cases (version_in pair.1 commit) (versions commit (of_key key pairs)) version has) [
-      | inl e ↦ (pair, contains_here pair pairs, key_is (key_of_write pair.0) key is, sym e)
+      | inl e ↦ (pair, contains_here pair pairs, key_is (written_key pair.0) key is, sym e)
       | inr later ↦ named_there key commit version pair pairs (rest later)
     ]
     by false is rest has = named_there key commit version pair pairs (rest has)
@@ -45,8 +46,8 @@ named_from key commit version (pair ∷ pairs) has = by (is_key (key_of_write pa
 from_named : (key : List (List ℕ)) (commit version : Timestamp) (pairs : List Pair) → Named key commit pairs version → Contains (versions commit (of_key key pairs)) version
 from_named key commit version [] named = absurd (contains_none named.0 named.1)
 from_named key commit version (pair ∷ pairs) (other, has, of, is) = elim (contains_cases pair pairs other has) [
-  | inl e ↦ here (is_key (key_of_write pair.0) key) (key_same (key_of_write pair.0) key (ap (λ (p : Pair). key_of_write p.0) e ∙ of)) (is ∙ ap (λ (p : Pair). version_in p.1 commit) (sym e))
-  | inr later ↦ there (is_key (key_of_write pair.0) key) (from_named key commit version pairs (other, later, of, is))
+  | inl e ↦ here (is_key (written_key pair.0) key) (key_same (written_key pair.0) key (ap (λ (p : Pair). written_key p.0) e ∙ of)) (is ∙ ap (λ (p : Pair). version_in p.1 commit) (sym e))
+  | inr later ↦ there (is_key (written_key pair.0) key) (from_named key commit version pairs (other, later, of, is))
 ]
   where
     here : (b : Bool) → b ≡ true → version ≡ version_in pair.1 commit → Contains (versions commit (cond b (pair ∷ of_key key pairs) (of_key key pairs))) version
@@ -69,12 +70,12 @@ from_version key writes results commit version of = from_named key commit versio
 
 leaves_by : (key : List (List ℕ)) (version : Timestamp) (entry : Option Entry) (pairs : List Pair) → Leaves key version entry pairs (fold (left_after version) entry (of_key key pairs))
 leaves_by key version entry [] = all_done entry
-leaves_by key version entry ((write, result) ∷ pairs) = by (is_key (key_of_write write) key) refl (leaves_by key version (Some (acknowledged entry write result version)) pairs) (leaves_by key version entry pairs)
+leaves_by key version entry ((write, result) ∷ pairs) = by (is_key (written_key write) key) refl (leaves_by key version (Some (acknowledged entry write result version)) pairs) (leaves_by key version entry pairs)
   where
-    by : (b : Bool) → is_key (key_of_write write) key ≡ b → Leaves key version (Some (acknowledged entry write result version)) pairs (fold (left_after version) (Some (acknowledged entry write result version)) (of_key key pairs)) → Leaves key version entry pairs (fold (left_after version) entry (of_key key pairs))
+    by : (b : Bool) → is_key (written_key write) key ≡ b → Leaves key version (Some (acknowledged entry write result version)) pairs (fold (left_after version) (Some (acknowledged entry write result version)) (of_key key pairs)) → Leaves key version entry pairs (fold (left_after version) entry (of_key key pairs))
         → Leaves key version entry ((write, result) ∷ pairs) (fold (left_after version) entry (cond b ((write, result) ∷ of_key key pairs) (of_key key pairs)))
-    by true is made left = applied entry _ write result pairs (key_is (key_of_write write) key is) made
-    by false is made left = passed entry _ write result pairs (not_key (key_of_write write) key is) left
+    by true is made left = applied entry _ write result pairs (key_is (written_key write) key is) made
+    by false is made left = passed entry _ write result pairs (not_key (written_key write) key is) left
 
 pub leaves_right : (key : List (List ℕ)) (version : Timestamp) (entry : Option Entry) (writes : List Write) (results : List WriteResult) → Leaves key version entry (zip writes results) (fold (left_after version) entry (answered key writes results))
 leaves_right key version entry writes results = leaves_by key version entry (zip writes results)
@@ -83,11 +84,11 @@ leaves_is : (key : List (List ℕ)) (version : Timestamp) (entry new : Option En
 leaves_is key version entry new pairs (all_done _) = refl
 leaves_is key version entry new pairs (applied _ _ write result rest of next) =
     leaves_is key version (Some (acknowledged entry write result version)) new rest next
-    ∙ sym (ap (λ b. fold (left_after version) entry (cond b ((write, result) ∷ of_key key rest) (of_key key rest))) (key_same (key_of_write write) key of))
-leaves_is key version entry new pairs (passed _ _ write result rest not next) = by (is_key (key_of_write write) key) refl (leaves_is key version entry new rest next)
+    ∙ sym (ap (λ b. fold (left_after version) entry (cond b ((write, result) ∷ of_key key rest) (of_key key rest))) (key_same (written_key write) key of))
+leaves_is key version entry new pairs (passed _ _ write result rest not next) = by (is_key (written_key write) key) refl (leaves_is key version entry new rest next)
   where
-    by : (b : Bool) → is_key (key_of_write write) key ≡ b → new ≡ fold (left_after version) entry (of_key key rest) → new ≡ fold (left_after version) entry (cond b ((write, result) ∷ of_key key rest) (of_key key rest))
-    by true is left = absurd (not (key_is (key_of_write write) key is))
+    by : (b : Bool) → is_key (written_key write) key ≡ b → new ≡ fold (left_after version) entry (of_key key rest) → new ≡ fold (left_after version) entry (cond b ((write, result) ∷ of_key key rest) (of_key key rest))
+    by true is left = absurd (not (key_is (written_key write) key is))
     by false is left = left
 
 pub leaves_one : (key : List (List ℕ)) (version : Timestamp) (entry new : Option Entry) (writes : List Write) (results : List WriteResult) → Leaves key version entry (zip writes results) new → new ≡ fold (left_after version) entry (answered key writes results)

@@ -5,18 +5,14 @@ use Rattle.std.specs.List.{Contains, filter, zip}
 use Rattle.std.specs.Option.{option_and_then}
 use Rattle.std.specs.Ordering.{int_cmp, is_lt, nat_cmp, ordering_then}
 use Rattle.document_keys.specs.KeySet.{is_key}
-use Rattle.keyed_writes.specs.Keyed.{key_of}
 use Rattle.value_model.specs.Order.{Earlier}
 use Rattle.value_model.specs.Versions.{version_of}
 use Rattle.value_model.specs.declared.document.Entry.{Entry}
 use Rattle.value_model.specs.declared.timestamp.Timestamp.{Timestamp}
 use Rattle.mutations.specs.Acknowledged.{acknowledged, version_in}
+use Rattle.mutations.specs.Written.{written_key}
 use Rattle.mutations.specs.declared.results.WriteResult.{WriteResult}
 use Rattle.mutations.specs.declared.write.Write.{Write}
-
--- the key of the document that a write speaks of
-abbrev pub key_of_write : Write → List (List ℕ)
-key_of_write write = key_of write
 
 -- the entry that is lent, if one is
 abbrev pub lent_entry : Option (Bor Entry) → Option Entry
@@ -26,7 +22,7 @@ lent_entry entry = option_map (λ e. e.now) entry
 
 -- the key's writes, in order, each with its own result
 abbrev pub answered : List (List ℕ) → List Write → List WriteResult → List (Write × WriteResult)
-answered key writes results = filter (λ pair. is_key (key_of_write pair.0) key) (zip writes results)
+answered key writes results = filter (λ pair. is_key (written_key pair.0) key) (zip writes results)
 
 -- the versions of some writes, by their results
 abbrev pub versions : Timestamp → List (Write × WriteResult) → List Timestamp
@@ -74,7 +70,7 @@ pub record IsVersion (key : List (List ℕ)) (writes : List Write) (results : Li
   pub write : Write
   pub result : WriteResult
   pub both : Contains (zip writes results) (write, result)
-  pub of_key : key_of_write write ≡ key
+  pub of_key : written_key write ≡ key
   pub is : version ≡ version_in result commit
 
 -- it is such a version, and none is later
@@ -93,10 +89,10 @@ pub data Leaves (key : List (List ℕ)) (version : Timestamp)
     : Option Entry → List (Write × WriteResult) → Option Entry → Type 0 where
   all_done : (entry : Option Entry) → Leaves key version entry [] entry
   applied : (entry new : Option Entry) (write : Write) (result : WriteResult) (rest : List (Write × WriteResult))
-      → key_of_write write ≡ key → Leaves key version (Some (acknowledged entry write result version)) rest new
+      → written_key write ≡ key → Leaves key version (Some (acknowledged entry write result version)) rest new
       → Leaves key version entry ((write, result) ∷ rest) new
   passed : (entry new : Option Entry) (write : Write) (result : WriteResult) (rest : List (Write × WriteResult))
-      → ¬ (key_of_write write ≡ key) → Leaves key version entry rest new
+      → ¬ (written_key write ≡ key) → Leaves key version entry rest new
       → Leaves key version entry ((write, result) ∷ rest) new
 
 -- The entry anew, or none where it stays. An entry that is below the greatest version of the key's writes is replaced by what

@@ -7,7 +7,8 @@ use Rattle.std.specs.Option.{ForSome, IfSome, option_and_then, option_map}
 use Rattle.std.proofs.lemmas.Bool.{and_from, and_left, and_right, cases_lt, cond-false, cond-true, eq-eqb, le-ltb, lt-ltb, ne_eqb, or_from, or_left, or_right}
 use Rattle.std.proofs.lemmas.List.Elements.{All-contains}
 use Rattle.std.proofs.lemmas.Option.{same_Some}
-use Rattle.acknowledgements.specs.Acked.{IsGreatest, IsVersion, acked, answered, greatest, is_below, is_earlier, key_of_write, latest, left_after, left_by, versions}
+use Rattle.acknowledgements.specs.Acked.{IsGreatest, IsVersion, acked, answered, greatest, is_below, is_earlier, latest, left_after, left_by, versions}
+use Rattle.mutations.specs.Written.{written_key}
 use Rattle.acknowledgements.proofs.Acks.{greatest_laws}
 use Rattle.acknowledgements.proofs.Times.{contains_cases, contains_here, contains_none, contains_there, earlier_so, not_earlier}
 use Rattle.agreement.specs.Backend.{Key, Keys, Setting, tick}
@@ -31,7 +32,7 @@ use Rattle.mutations.specs.Local.{holds}
 use Rattle.mutations.specs.declared.results.WriteResult.{WriteResult}
 use Rattle.mutations.specs.declared.write.Write.{Write}
 use Rattle.mutations.specs.declared.write.Write.TheVariants.{Update, Delete}
-use Rattle.mutation_queue.specs.Queue.{keys_of, written_key}
+use Rattle.mutation_queue.specs.Queue.{keys_of}
 use Rattle.outcome_codec.specs.Spelling.{IsSpelledResult}
 use Rattle.outcome_codec.specs.declared.parts.KeyedEntry.{KeyedEntry}
 use Rattle.outcome_codec.specs.declared.parts.PointRow.{PointRow}
@@ -269,10 +270,6 @@ in_second (w ∷ writes) (r ∷ results) write result has = elim (contains_cases
   | inr later ↦ contains_there r results result (in_second writes results write result later)
 ]
 
-same_key_of : (write : Write) → written_key write ≡ key_of_write write
-same_key_of (Update key fields mask transforms condition) = refl
-same_key_of (Delete key condition) = refl
-
 in_keys : (writes : List Write) (write : Write) → Contains writes write → Contains (keys_of writes) (written_key write)
 in_keys [] write has = absurd (contains_none write has)
 in_keys (w ∷ writes) write has = elim (contains_cases w writes write has) [
@@ -283,7 +280,7 @@ in_keys (w ∷ writes) write has = elim (contains_cases w writes write has) [
 -- a version is that of a write of the key
 version_key : (key : Key) (writes : List Write) (results : List WriteResult) (at version : Timestamp) → IsVersion key writes results at version → Contains (keys_of writes) key
 version_key key writes results at version is =
-    subst (Contains (keys_of writes)) (same_key_of is.write ∙ is.of_key) (in_keys writes is.write (in_first writes results is.write is.result is.both))
+    subst (Contains (keys_of writes)) is.of_key (in_keys writes is.write (in_first writes results is.write is.result is.both))
 
 -- a version is of a moment where the results and the time of the commit are
 pub version_moment : (key : Key) (writes : List Write) (results : List WriteResult) (at version : Timestamp) → IsMoment at → AreSpelled IsSpelledResult results → IsVersion key writes results at version → IsMoment version

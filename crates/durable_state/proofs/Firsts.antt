@@ -8,16 +8,16 @@ use Rattle.std.proofs.lemmas.List.{take_more}
 use Rattle.std.proofs.lemmas.List.Elements.{filter-append}
 use Rattle.std.proofs.lemmas.Option.{same_Some}
 use Rattle.document_keys.specs.KeySet.{is_key}
-use Rattle.keyed_writes.specs.Keyed.{IsNext, key_of}
+use Rattle.keyed_writes.specs.Keyed.{IsNext}
+use Rattle.mutations.specs.Written.{written_key}
 use Rattle.value_model.specs.declared.document.Entry.{Entry}
 use Rattle.value_model.specs.declared.document.Seal.{Seal}
 use Rattle.value_model.specs.declared.document.Seal.TheVariants.{Committed}
 use Rattle.value_model.specs.declared.timestamp.Timestamp.{Timestamp}
 use Rattle.mutations.specs.declared.results.WriteResult.{WriteResult}
 use Rattle.mutations.specs.declared.write.Write.{Write}
-use Rattle.mutations.specs.declared.write.Write.TheVariants.{Update, Delete}
 use Rattle.acknowledgements.specs.Acked.{acked}
-use Rattle.mutation_queue.specs.Queue.{keys_of, written_key}
+use Rattle.mutation_queue.specs.Queue.{keys_of}
 use Rattle.mutation_queue.proofs.Tables.{one_key, same_itself}
 use Rattle.remote_documents.specs.Table.{EntryMap}
 use Rattle.remote_documents.proofs.Maps.{one_map}
@@ -54,22 +54,18 @@ among_first ws q = among_from ws [] q
 
 -- ---- one write more
 
-same_key : (w : Write) → key_of w ≡ written_key w
-same_key (Update key fields mask transforms condition) = refl
-same_key (Delete key condition) = refl
-
-none_taken : (ws : List Write) (i : ℕ) (key : List (List ℕ)) → ((j : ℕ) (v : Write) → j < i → is_key (key_of (get_or ws j v)) key ≡ false) → is_among (keys_of (take i ws)) key ≡ false
+none_taken : (ws : List Write) (i : ℕ) (key : List (List ℕ)) → ((j : ℕ) (v : Write) → j < i → is_key (written_key (get_or ws j v)) key ≡ false) → is_among (keys_of (take i ws)) key ≡ false
 none_taken [] zero key lack = refl
 none_taken [] (suc i) key lack = refl
 none_taken (w ∷ ws) zero key lack = refl
 none_taken (w ∷ ws) (suc i) key lack =
-    ap (λ b. b || is_among (keys_of (take i ws)) key) (ap (λ k. is_key k key) (sym (same_key w)) ∙ lack 0 w (omega arith))
+    ap (λ b. b || is_among (keys_of (take i ws)) key) (lack 0 w (omega arith))
     ∙ none_taken ws i key (λ j v before. lack (suc j) v (omega (arith, before)))
 
-some_taken : (ws : List Write) (i r : ℕ) (key : List (List ℕ)) (v : Write) → r < i → r < length ws → is_key (key_of (get_or ws r v)) key ≡ true → is_among (keys_of (take i ws)) key ≡ true
+some_taken : (ws : List Write) (i r : ℕ) (key : List (List ℕ)) (v : Write) → r < i → r < length ws → is_key (written_key (get_or ws r v)) key ≡ true → is_among (keys_of (take i ws)) key ≡ true
 some_taken [] i r key v before below named = absurd (omega (arith, below))
 some_taken (w ∷ ws) zero r key v before below named = absurd (omega (arith, before))
-some_taken (w ∷ ws) (suc i) zero key v before below named = ap (λ b. b || is_among (keys_of (take i ws)) key) (ap (λ k. is_key k key) (sym (same_key w)) ∙ named)
+some_taken (w ∷ ws) (suc i) zero key v before below named = ap (λ b. b || is_among (keys_of (take i ws)) key) named
 some_taken (w ∷ ws) (suc i) (suc r) key v before below named =
     ap (λ b. is_key (written_key w) key || b) (some_taken ws i r key v (omega (arith, before)) (omega (arith, below)) named) ∙ or_true (is_key (written_key w) key)
 
@@ -92,7 +88,7 @@ module _ (ws : List Write) (i : ℕ) (w : Write) (below : i < length ws) (item :
         before : r < i
         before = elim (leb_tells r i) [
           | inl under ↦ let u = under.1 in omega (arith, u, other)
-          | inr past ↦ let wrong = sym (same_itself (written_key w)) ∙ ap (λ k. is_key k (written_key w)) (sym (same_key w)) ∙ ap (λ x. is_key (key_of x) (written_key w)) item ∙ next.passed i w (omega arith) past.1 in cc
+          | inr past ↦ let wrong = sym (same_itself (written_key w)) ∙ ap (λ x. is_key (written_key x) (written_key w)) item ∙ next.passed i w (omega arith) past.1 in cc
         ]
 
         already : is_among (first_keys (take i ws)) (written_key w) ≡ true

@@ -10,7 +10,8 @@ use Rattle.value_model.specs.declared.timestamp.Timestamp.{Timestamp}
 use Rattle.mutations.specs.declared.batch.Batch.{Batch}
 use Rattle.mutations.specs.declared.write.Write.{Write}
 use Rattle.mutations.specs.Local.{effect}
-use Rattle.mutation_queue.specs.Queue.{keys_of, named_keys, written_key}
+use Rattle.mutation_queue.specs.Queue.{keys_of, named_keys}
+use Rattle.mutations.specs.Written.{written_key}
 use Rattle.mutation_queue.proofs.Tables.{one_key, same_itself}
 use Rattle.overlays.specs.LocalDocument.{after_write, after_batch, local_document}
 use Rattle.overlays.specs.Table.{Table, overlay_of}

@@ -9,6 +9,7 @@ use Rattle.value_model.specs.declared.timestamp.Timestamp.{Timestamp}
 use Rattle.mutations.specs.declared.batch.Batch.{Batch}
 use Rattle.mutations.specs.declared.write.Write.{Write}
 use Rattle.outcome_codec.specs.declared.parts.KeyedEntry.{KeyedEntry}
+use Rattle.mutations.specs.Written.{written_key}
 use Rattle.mutation_queue.specs.Queue as queue
 use Rattle.overlays.specs.LocalDocument.{base_of, local_document}
 use Rattle.overlays.specs.Table as overlay
@@ -91,7 +92,7 @@ HavePlaces table changes = All (λ (c : KeyedEntry). IsTrue (remote.has_place ta
 
 -- the keys with that of a write, unless it is there
 abbrev pub with_first : List (List (List ℕ)) → Write → List (List (List ℕ))
-with_first keys write = keys ++ (if is_among keys (queue.written_key write) then [] else queue.written_key write ∷ [])
+with_first keys write = keys ++ (if is_among keys (written_key write) then [] else written_key write ∷ [])
 
 -- the keys of some writes, each once, where it comes first
 abbrev pub first_keys : List Write → List (List (List ℕ))

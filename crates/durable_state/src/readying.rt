@@ -15,7 +15,6 @@ use crate::news::News;
 use acknowledgements::acknowledged_entry;
 use document_keys::{DocumentKey, NoMemory};
 use keyed_writes::KeyedWrites;
-use mutation_queue::written_key;
 use mutations::{Write, WriteResult};
 use outcome_codec::KeyedEntry;
 use remote_documents::RemoteDocuments;
@@ -128,7 +127,7 @@ fn answer_each(
     let all = writes.as_slice();
     let mut changes = Vec::with_capacity(alloc, all.len())?;
     for place in 0..all.len() {
-        let key = written_key(&all[place]);
+        let key = all[place].key();
         if writes.first(key) == place {
             let found = answered_key(alloc, entries, key, writes, answer)?;
             if let Some(change) = found {

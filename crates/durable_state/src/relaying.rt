@@ -16,7 +16,7 @@ use crate::news::News;
 use crate::readying::{known, known_after};
 use document_keys::{DocumentKey, KeySet, NoMemory};
 use keyed_writes::KeyedWrites;
-use mutation_queue::{MutationQueue, written_key};
+use mutation_queue::MutationQueue;
 use mutations::Batch;
 use outcome_codec::KeyedEntry;
 use overlays::{Overlay, Overlays};
@@ -95,7 +95,7 @@ fn lay_each(
     let writes = keyed.as_slice();
     let mut laid = Vec::with_capacity(alloc, writes.len())?;
     for place in 0..writes.len() {
-        let key = written_key(&writes[place]);
+        let key = writes[place].key();
         if keyed.first(key) == place {
             let entry = known(entries, key);
             let overlay = overlay_after(alloc, overlays, key, entry, keyed, at);
@@ -254,7 +254,7 @@ fn settle_each<'a>(
     let mut relaid = Relaid::none(alloc);
     let writes = keyed.as_slice();
     for place in 0..writes.len() {
-        let key = written_key(&writes[place]);
+        let key = writes[place].key();
         if keyed.first(key) == place {
             let entry = known_after(entries, news, key);
             relaid.settle(alloc, overlays, pending, key, entry)?;

@@ -1,8 +1,9 @@
 ghost use Rattle.std.specs.Prelude.{◌≡◌, ◌<◌, ◌≤◌, ◌+◌, length, get_or, IfOk};
 ghost use Rattle.mutations.specs.declared.write.Write.{Write};
-ghost use Rattle.keyed_writes.specs.Keyed.{IsNext, key_of};
+ghost use Rattle.mutations.specs.Written.{written_key};
+ghost use Rattle.keyed_writes.specs.Keyed.{IsNext};
 
-use crate::links::{Links, key_of};
+use crate::links::Links;
 use document_keys::{DocumentKey, NoMemory};
 use mutations::Write;
 use std::alloc::Global;
@@ -43,7 +44,7 @@ fn scan(writes: &[Write], key: &DocumentKey, from: usize) -> usize
     ensures { IsNext writes.now key.now from result }
 {
     for place in from..writes.len() {
-        if key_of(&writes[place]) == key {
+        if writes[place].key() == key {
             return place;
         }
     }
@@ -92,10 +93,10 @@ impl<'a> KeyedWrites<'a> {
     pub fn after(&self, place: usize) -> usize
         requires { place < length self.now }
         ensures { (write : Write) →
-            IsNext self.now (key_of (get_or self.now place write)) (place + 1) result }
+            IsNext self.now (written_key (get_or self.now place write)) (place + 1) result }
     {
         match &self.links {
-            None => scan(self.writes, key_of(&self.writes[place]), place + 1),
+            None => scan(self.writes, self.writes[place].key(), place + 1),
             Some(links) => links.nexts[place],
         }
     }

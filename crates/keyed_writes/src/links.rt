@@ -1,7 +1,7 @@
 //! For each key its first place in a batch, and behind each place the next one of its key.
 
 ghost use Rattle.std.specs.Prelude.{◌≡◌, IfOk};
-ghost use Rattle.keyed_writes.specs.Keyed.{AreLinked, key_of};
+ghost use Rattle.keyed_writes.specs.Keyed.{AreLinked};
 
 use document_keys::{DocumentKey, NoMemory};
 use mutations::Write;
@@ -13,22 +13,6 @@ use std::collections::HashMap;
 pub(crate) struct Links {
     pub(crate) firsts: HashMap<DocumentKey, usize>,
     pub(crate) nexts: Vec<usize>,
-}
-
-/// The key of the document that the write speaks of.
-pub(crate) fn key_of(write: &Write) -> &DocumentKey
-    ensures { result.now ≡ key_of write.now }
-{
-    match write {
-        Write::Update {
-            key,
-            fields: _,
-            mask: _,
-            transforms: _,
-            condition: _,
-        } => key,
-        Write::Delete { key, condition: _ } => key,
-    }
 }
 
 impl Links {
@@ -44,7 +28,7 @@ impl Links {
         let mut nexts = vec![in alloc; count; count]?;
         for passed in 0..count {
             let place = count - 1 - passed;
-            let key = key_of(&writes[place]).copy(alloc)?;
+            let key = writes[place].key().copy(alloc)?;
             let next = firsts.insert(key, place)?;
             nexts[place] = next.unwrap_or(count);
         }

@@ -7,7 +7,8 @@ use Rattle.std.proofs.lemmas.List.Elements.{All-more}
 use Rattle.document_keys.specs.KeySet.{is_key}
 use Rattle.mutations.specs.declared.write.Write.{Write}
 use Rattle.mutation_queue.specs.Places.{Table, ends_in, has_key, has_room, is_among, listed, listed_in, room_in, value_at, with_place}
-use Rattle.mutation_queue.specs.Queue.{HaveRoom, keys_of, written_key}
+use Rattle.mutation_queue.specs.Queue.{HaveRoom, keys_of}
+use Rattle.mutations.specs.Written.{written_key}
 use Rattle.mutation_queue.proofs.Placing.{among-append, ends_after, placed, placed_again}
 use Rattle.mutation_queue.proofs.Tables.{one_key}
 

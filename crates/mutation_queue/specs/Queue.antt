@@ -5,13 +5,8 @@ use Rattle.std.specs.Coded.{Coded, code_by, coded×, coded_list, coded_ℕ}
 use Rattle.mutations.specs.contracts.batch.Batch as batch
 use Rattle.mutations.specs.declared.batch.Batch.{Batch}
 use Rattle.mutations.specs.declared.write.Write.{Write}
-use Rattle.mutations.specs.declared.write.Write.TheVariants.{Update, Delete}
+use Rattle.mutations.specs.Written.{written_key}
 use Rattle.mutation_queue.specs.Places.{KeepsOtherRoom, Table, has_room, is_among, listed, places_code}
-
--- the key of the document that a write speaks of
-abbrev pub written_key : Write → List (List ℕ)
-written_key (Update key fields mask transforms condition) = key
-written_key (Delete key condition) = key
 
 -- the keys of some writes
 abbrev pub keys_of : List Write → List (List (List ℕ))

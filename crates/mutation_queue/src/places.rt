@@ -6,7 +6,6 @@ ghost use Rattle.mutation_queue.specs.Places.{listed, value_at, with_place, with
 ghost use Rattle.mutation_queue.specs.Queue.{HaveRoom, keys_of};
 
 use crate::place_list::PlaceList;
-use crate::written::written_key;
 use document_keys::{DocumentKey, NoMemory};
 use mutations::Write;
 use std::alloc::Global;
@@ -124,7 +123,7 @@ impl KeyPlaces {
         ensures kept { HaveRoom self.old writes.now → IsOk result }
     {
         for write in writes {
-            self.reserve(alloc, written_key(write))?;
+            self.reserve(alloc, write.key())?;
         }
         Ok(())
     }
@@ -138,7 +137,7 @@ impl KeyPlaces {
         ensures held { KeepsOtherRoom (keys_of writes.now) self.old self.new }
     {
         for write in writes {
-            self.push(written_key(write), place);
+            self.push(write.key(), place);
         }
     }
 
@@ -153,7 +152,7 @@ impl KeyPlaces {
         ensures gone { FreesKeys (keys_of writes.now) self.new }
     {
         for write in writes {
-            self.remove(written_key(write), place);
+            self.remove(write.key(), place);
         }
     }
 }

@@ -6,3 +6,4 @@ pub mod Local
 pub mod Masks
 pub mod Results
 pub mod Touched
+pub mod Written

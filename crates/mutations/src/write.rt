@@ -1,4 +1,5 @@
 ghost use Rattle.std.specs.Prelude.{◌≡◌, IfOk};
+ghost use Rattle.mutations.specs.Written.{written_key};
 
 use crate::lists::Mask;
 use crate::transform::Transforms;
@@ -46,6 +47,22 @@ fn copy_mask(alloc: Global, mask: &Option<Mask>) -> Result<Option<Mask>, NoMemor
 }
 
 impl Write {
+    /// The key of the document that the write speaks of.
+    pub fn key(&self) -> &DocumentKey
+        ensures { result.now ≡ written_key self.now }
+    {
+        match self {
+            Write::Update {
+                key,
+                fields: _,
+                mask: _,
+                transforms: _,
+                condition: _,
+            } => key,
+            Write::Delete { key, condition: _ } => key,
+        }
+    }
+
     /// A copy, which shares the fields.
     ///
     /// # Errors

@@ -3,16 +3,16 @@ use Rattle.std.proofs.Common.{◌≡◌, ◌∙◌, ◌||◌, ◌<◌, ◌≤◌
 use Rattle.std.proofs.lemmas.Grind.{fold-append}
 use Rattle.std.proofs.lemmas.List.{drop_all, drop_more, take_more}
 use Rattle.document_keys.specs.KeySet.{is_key}
-use Rattle.keyed_writes.specs.Keyed.{IsNext, key_of}
+use Rattle.keyed_writes.specs.Keyed.{IsNext}
+use Rattle.mutations.specs.Written.{written_key}
 use Rattle.keyed_writes.proofs.Passing.{same_up_to}
 use Rattle.value_model.specs.declared.document.Document.{Document}
 use Rattle.value_model.specs.declared.timestamp.Timestamp.{Timestamp}
 use Rattle.mutations.specs.declared.batch.Batch.{Batch}
 use Rattle.mutations.specs.declared.write.Write.{Write}
-use Rattle.mutations.specs.declared.write.Write.TheVariants.{Update, Delete}
 use Rattle.mutations.specs.Local.{effect}
 use Rattle.mutation_queue.specs.Places.{is_among}
-use Rattle.mutation_queue.specs.Queue.{keys_of, names, naming, written_key}
+use Rattle.mutation_queue.specs.Queue.{keys_of, names, naming}
 use Rattle.overlays.specs.LocalDocument.{after_write, after_batch, local_document}
 
 -- no write of the key
@@ -40,15 +40,11 @@ written_more key at d ws i w below is =
 
 -- ---- the writes of one key
 
-same_key : (w : Write) → key_of w ≡ written_key w
-same_key (Update key fields mask transforms condition) = refl
-same_key (Delete key condition) = refl
-
 -- one write of the key is laid on
-pub written_on : (key : List (List ℕ)) (at : Timestamp) (ws : List Write) (i : ℕ) (w : Write) (d after whole : Option Document) → i < length ws → w ≡ get_or ws i w → is_key (key_of w) key ≡ true → after ≡ effect d w at
+pub written_on : (key : List (List ℕ)) (at : Timestamp) (ws : List Write) (i : ℕ) (w : Write) (d after whole : Option Document) → i < length ws → w ≡ get_or ws i w → is_key (written_key w) key ≡ true → after ≡ effect d w at
     → fold (after_write key at) d (drop i ws) ≡ whole → fold (after_write key at) after (drop (i + 1) ws) ≡ whole
 written_on key at ws i w d after whole below is named applied so_far =
-    ap (λ x. fold (after_write key at) x (drop (i + 1) ws)) (applied ∙ ap (λ b. cond b (effect d w at) d) (sym (ap (λ k. is_key k key) (sym (same_key w)) ∙ named)))
+    ap (λ x. fold (after_write key at) x (drop (i + 1) ws)) (applied ∙ ap (λ b. cond b (effect d w at) d) (sym named))
     ∙ ap (fold (after_write key at) d) (ap (λ x. x ∷ drop (i + 1) ws) is ∙ sym (drop_more ws i w below)) ∙ so_far
 
 -- the writes between two places of the key are of other keys
@@ -56,7 +52,7 @@ pub written_up_to : (key : List (List ℕ)) (at : Timestamp) (ws : List Write) (
 written_up_to key at ws d from place next =
     same_up_to (λ (i : ℕ). fold (after_write key at) d (drop i ws)) ws key from place next
     (λ i w below is other. ap (fold (after_write key at) d) (drop_more ws i w below ∙ ap (λ x. x ∷ drop (i + 1) ws) (sym is))
-    ∙ ap (λ b. fold (after_write key at) (cond b (effect d w at) d) (drop (i + 1) ws)) (ap (λ k. is_key k key) (sym (same_key w)) ∙ other))
+    ∙ ap (λ b. fold (after_write key at) (cond b (effect d w at) d) (drop (i + 1) ws)) other)
 
 -- past the last write nothing is left to do
 pub all_written : (key : List (List ℕ)) (at : Timestamp) (ws : List Write) (d : Option Document) (i : ℕ) → length ws ≤ i → d ≡ fold (after_write key at) d (drop i ws)

@@ -8,7 +8,7 @@ use Rattle.value_model.specs.declared.timestamp.Timestamp.{Timestamp}
 use Rattle.mutations.specs.declared.batch.Batch.{Batch}
 use Rattle.mutations.specs.declared.write.Write.{Write}
 use Rattle.mutations.specs.Local.{effect}
-use Rattle.mutation_queue.specs.Queue.{written_key}
+use Rattle.mutations.specs.Written.{written_key}
 
 -- the document that an entry knows of; where there is no entry, none
 abbrev pub base_of : Option Entry → Option Document

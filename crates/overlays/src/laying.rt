@@ -9,7 +9,6 @@ ghost use Rattle.overlays.specs.Table.{IsBatchOfFields};
 
 use document_keys::{DocumentKey, NoMemory};
 use keyed_writes::KeyedWrites;
-use mutation_queue::written_key;
 use mutations::{Batch, Write, apply_local};
 use std::alloc::Global;
 use value_model::{Document, Entry, SharedFields, Timestamp};
@@ -71,7 +70,7 @@ pub(crate) fn laid_on(
 {
     let mut document = document;
     for write in batch.writes.as_slice() {
-        if written_key(write) == key {
+        if write.key() == key {
             apply_local(alloc, &mut document, write, batch.at)?;
         }
     }

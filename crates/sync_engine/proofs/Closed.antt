@@ -13,7 +13,7 @@ use Rattle.local_store.specs.Files.{Moves}
 use Rattle.durable_state.specs.State.{IsAnswered}
 use Rattle.local_store.specs.State.{Fits as FitsState, State, committed, most_commits}
 use Rattle.local_store.specs.Store.{Store}
-use Rattle.mutation_queue.specs.Queue.{written_key}
+use Rattle.mutations.specs.Written.{written_key}
 use Rattle.mutations.specs.declared.batch.Batch.{Batch}
 use Rattle.mutations.specs.declared.results.WriteRequest.TheVariants.{Handshake as the_first}
 use Rattle.mutations.specs.declared.results.WriteResponse.{WriteResponse}

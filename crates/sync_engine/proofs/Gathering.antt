@@ -15,7 +15,7 @@ use Rattle.std.proofs.lemmas.Map.Views.{btree_set_contains_iff}
 use Rattle.listeners.specs.Concerns.{HasAllConcerned, IsConcerned}
 use Rattle.listeners.specs.Ids.{KeepsMembers, has_id}
 use Rattle.listeners.specs.Table.{Table}
-use Rattle.mutation_queue.specs.Queue.{written_key}
+use Rattle.mutations.specs.Written.{written_key}
 use Rattle.mutations.specs.declared.write.Write.{Write}
 use Rattle.sync_engine.specs.Concerned.{ConcernsOne}
 

@@ -6,7 +6,8 @@ use Rattle.std.specs.FinMap as map
 use Rattle.std.specs.List.{All, Contains, cons_option, filter_map}
 use Rattle.std.specs.Option.{IsSome, is_some, option_map, unwrap_or}
 use Rattle.document_keys.specs.Names.{Root}
-use Rattle.mutation_queue.specs.Queue.{keys_of, named_keys, written_key}
+use Rattle.mutation_queue.specs.Queue.{keys_of, named_keys}
+use Rattle.mutations.specs.Written.{written_key}
 use Rattle.mutations.specs.declared.batch.Batch.{Batch}
 use Rattle.mutations.specs.declared.write.Write.{Write}
 use Rattle.value_model.specs.Documents.{DocumentMap, Stored}

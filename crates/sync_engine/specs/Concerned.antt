@@ -3,7 +3,7 @@ use Rattle.std.specs.Prelude.{ℕ, ◌<◌, List}
 use Rattle.std.specs.List.{AllPairs, Contains}
 use Rattle.listeners.specs.Concerns.{IsConcerned}
 use Rattle.listeners.specs.Table.{Table}
-use Rattle.mutation_queue.specs.Queue.{written_key}
+use Rattle.mutations.specs.Written.{written_key}
 use Rattle.mutations.specs.declared.write.Write.{Write}
 
 -- one of the writes concerns the listener of the id

@@ -4,7 +4,6 @@ ghost use Rattle.std.specs.Prelude.{◌≡◌, ◌↔◌, ◌<◌, ℕ, IfOk, On
 ghost use Rattle.std.specs.List.{AllPairs, Contains};
 ghost use Rattle.listeners.specs.Concerns.{IsConcerned};
 ghost use Rattle.listeners.specs.Ids.{has_id};
-ghost use Rattle.mutation_queue.specs.Queue.{written_key};
 ghost use Rattle.sync_engine.specs.Concerned.{AreConcerned, ConcernsOne};
 ghost use Rattle.client_turns.specs.Settling.{MayStart};
 ghost use Rattle.sync_engine.specs.Standing.{stance_in};
@@ -13,21 +12,11 @@ ghost use Rattle.sync_engine.specs.Telling.{IsQuietOrAmong, KeepsRest, Raises, S
 use crate::client::Client;
 use crate::out::Out;
 use client_turns::OnlineState;
-use document_keys::{DocumentKey, KeySet, NoMemory};
+use document_keys::{KeySet, NoMemory};
 use mutations::Write;
 use std::alloc::Global;
 use std::collections::BTreeSet;
 use views::Standing;
-
-/// The key of the document that the write changes.
-fn key_of(write: &Write) -> &DocumentKey
-    ensures { result.now ≡ written_key write.entry.now }
-{
-    match write {
-        Write::Update { key, .. } => key,
-        Write::Delete { key, .. } => key,
-    }
-}
 
 /// The ids in their order.
 pub(crate) fn in_order(alloc: Global, set: &BTreeSet<u32>) -> Result<Vec<u32>, NoMemory>
@@ -50,7 +39,7 @@ impl Client {
     {
         let mut set = BTreeSet::new(alloc);
         for write in writes {
-            self.listeners.concerned(alloc, key_of(write), &mut set)?;
+            self.listeners.concerned(alloc, write.key(), &mut set)?;
         }
         Ok(set)
     }

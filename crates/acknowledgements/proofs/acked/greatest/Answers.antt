@@ -4,7 +4,8 @@ use Rattle.document_keys.specs.KeySet.{is_key}
 use Rattle.keyed_writes.specs.Keyed.{IsNext}
 use Rattle.keyed_writes.proofs.Passing.{first_of, next_at}
 use Rattle.mutations.specs.declared.write.Write.{Write}
-use Rattle.acknowledgements.specs.Acked.{key_of_write, latest, versions}
+use Rattle.acknowledgements.specs.Acked.{latest, versions}
+use Rattle.mutations.specs.Written.{written_key}
 use Rattle.acknowledgements.proofs.Steps.{later_on, later_up_to, none_left, within}
 use Rattle.acknowledgements.proofs.acked.greatest.Goals as goal
 
@@ -30,7 +31,7 @@ loop-place-preserved c =
     let some : Write = first_of writes place below in
     let w : Write = get_or writes place some in
     let is : w ≡ get_or writes place w = get_or_default writes place some w below in
-    let named : is_key (key_of_write w) key ≡ true = c.loop-place.invariant.of_key some below in
+    let named : is_key (written_key w) key ≡ true = c.loop-place.invariant.of_key some below in
     let next : IsNext writes key (place + 1) c.after-place.result = next_at writes key w (place + 1) c.after-place.result named (c.after-place.ensures some) in
     record {
       within = next.within;

@@ -1,11 +1,12 @@
 use Rattle.std.proofs.Common.{◌≡◌, ◌∙◌, ◌+◌, ◌<◌, ◌≤◌, List, true, fold, get_or, length, sym, ap, subst, arith}
 use Rattle.document_keys.specs.KeySet.{is_key}
-use Rattle.keyed_writes.specs.Keyed.{IsNext, key_of}
+use Rattle.keyed_writes.specs.Keyed.{IsNext}
+use Rattle.mutations.specs.Written.{written_key}
 use Rattle.keyed_writes.proofs.Passing.{next_at}
 use Rattle.mutations.proofs.Fitting.{fit_one}
 use Rattle.mutations.specs.Results.{FitsWrite}
 use Rattle.mutations.specs.declared.write.Write.{Write}
-use Rattle.acknowledgements.specs.Acked.{key_of_write, left_after}
+use Rattle.acknowledgements.specs.Acked.{left_after}
 use Rattle.acknowledgements.proofs.Steps.{left_on, left_up_to, none_left, within}
 use Rattle.acknowledgements.proofs.acked.left_by.Goals as goal
 
@@ -40,9 +41,9 @@ loop-place-preserved c =
     let w = c.index-all-place.result in
     let below : place < length writes = subst (λ (ws : List Write). place < length ws) c.as_slice-all.ensures c.loop-place-test.true in
     let is : w ≡ get_or writes place w = subst (λ (ws : List Write). w ≡ get_or ws place w) c.as_slice-all.ensures c.index-all-place.is in
-    let named : is_key (key_of_write w) key ≡ true = ap (λ x. is_key (key_of_write x) key) is ∙ c.loop-place.invariant.of_key w below in
+    let named : is_key (written_key w) key ≡ true = ap (λ x. is_key (written_key x) key) is ∙ c.loop-place.invariant.of_key w below in
     let next : IsNext writes key (place + 1) c.after-place.result =
-    next_at writes key w (place + 1) c.after-place.result named (subst (λ x. IsNext writes (key_of x) (place + 1) c.after-place.result) (sym is) (c.after-place.ensures w)) in
+    next_at writes key w (place + 1) c.after-place.result named (subst (λ x. IsNext writes (written_key x) (place + 1) c.after-place.result) (sym is) (c.after-place.ensures w)) in
     record {
       within = next.within;
       of_key = next.there;

@@ -1,13 +1,14 @@
 use Rattle.std.proofs.Common.{◌≡◌, ◌<◌, ◌≤◌, ◌-◌, true, drop, get_or, length}
 use Rattle.document_keys.specs.KeySet.{is_key}
 use Rattle.mutations.specs.declared.write.Write.{Write}
-use Rattle.acknowledgements.specs.Acked.{key_of_write, left_by}
+use Rattle.acknowledgements.specs.Acked.{left_by}
+use Rattle.mutations.specs.Written.{written_key}
 use Rattle.acknowledgements.proofs.acked.left_by.Given as goal
 
 abbrev pub invariant-loop-place : goal.invariant-loop-place
 invariant-loop-place l = record {
   within : l.place ≤ length l.writes;
-  of_key : (w : Write) → l.place < length l.writes → is_key (key_of_write (get_or l.writes l.place w)) l.key ≡ true;
+  of_key : (w : Write) → l.place < length l.writes → is_key (written_key (get_or l.writes l.place w)) l.key ≡ true;
   so_far : left_by l.key l.version l.left (drop l.place l.writes) (drop l.place l.results) ≡ left_by l.key l.version l.initial.left l.writes l.results;
 }
 

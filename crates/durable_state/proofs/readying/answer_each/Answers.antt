@@ -4,7 +4,7 @@ use Rattle.std.proofs.lemmas.List.{take_all}
 use Rattle.keyed_writes.specs.Keyed.{IsNext}
 use Rattle.value_model.specs.declared.document.Seal.TheVariants.{Committed}
 use Rattle.mutations.specs.declared.write.Write.{Write}
-use Rattle.mutation_queue.specs.Queue.{written_key}
+use Rattle.mutations.specs.Written.{written_key}
 use Rattle.remote_documents.specs.Table as remote
 use Rattle.durable_state.specs.Cached.{answered_by}
 use Rattle.durable_state.specs.Ready.{first_keys}
@@ -27,14 +27,14 @@ loop-place-preserved c =
     let w = c.index-all-place.result in
     let below : i < length ws = subst (λ (l : List Write). i < length l) c.as_slice-all.ensures c.loop-place-test.true in
     let item : w ≡ get_or ws i w = subst (λ (l : List Write). w ≡ get_or l i w) c.as_slice-all.ensures c.index-all-place.is in
-    let next : IsNext ws (written_key w) 0 c.first.result = subst (λ k. IsNext ws k 0 c.first.result) c.written_key-key.ensures c.first.ensures in
+    let next : IsNext ws (written_key w) 0 c.first.result = subst (λ k. IsNext ws k 0 c.first.result) c.key-key.ensures c.first.ensures in
     let at = c.args.answer.now.at in
     let by = answered_by (remote.entries_in c.args.entries.now) ws c.args.answer.now.results.now at in
     let keys = first_keys (take i ws) in
     let were = c.loop-place.changes.items in
     elim c.if-first-place.branch [
       | then-first-place+in_ok-found+in-Some+in_ok-push x ↦
-          let is = x.in_ok-found.ensures.change ∙ ap (λ m. answered_by m ws c.args.answer.now.results.now at c.written_key-key.result.now) c.loop-place.invariant.same ∙ ap by c.written_key-key.ensures in
+          let is = x.in_ok-found.ensures.change ∙ ap (λ m. answered_by m ws c.args.answer.now.results.now at c.key-key.result.now) c.loop-place.invariant.same ∙ ap by c.key-key.ensures in
           rw (x.entries-is, x.changes-is) (record {
             same = x.in_ok-found.ensures.same ∙ c.loop-place.invariant.same;
             map = x.in_ok-found.ensures.map;
@@ -43,7 +43,7 @@ loop-place-preserved c =
             places = places_more c.loop-place.entries x.answered_key.new.entries were x.push.new.self.items x.in-Some.change x.in_ok-push.ensures.items x.in_ok-found.ensures.places c.loop-place.invariant.places (rw x.in-Some.is at x.in_ok-found.ensures.place);
           })
       | then-first-place+in_ok-found+in_default x ↦
-          let is = x.in_ok-found.ensures.change ∙ ap (λ m. answered_by m ws c.args.answer.now.results.now at c.written_key-key.result.now) c.loop-place.invariant.same ∙ ap by c.written_key-key.ensures in
+          let is = x.in_ok-found.ensures.change ∙ ap (λ m. answered_by m ws c.args.answer.now.results.now at c.key-key.result.now) c.loop-place.invariant.same ∙ ap by c.key-key.ensures in
           rw (x.entries-is, x.changes-is) (record {
             same = x.in_ok-found.ensures.same ∙ c.loop-place.invariant.same;
             map = x.in_ok-found.ensures.map;

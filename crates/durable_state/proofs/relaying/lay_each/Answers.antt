@@ -2,7 +2,7 @@ use Rattle.std.proofs.Common.{◌≡◌, ◌∙◌, ◌<◌, ◌≤◌, List, �
 use Rattle.std.proofs.lemmas.List.{take_all}
 use Rattle.keyed_writes.specs.Keyed.{IsNext}
 use Rattle.mutations.specs.declared.write.Write.{Write}
-use Rattle.mutation_queue.specs.Queue.{written_key}
+use Rattle.mutations.specs.Written.{written_key}
 use Rattle.overlays.specs.LocalDocument.{after_writes, base_of}
 use Rattle.overlays.specs.Table.{has_place, shown}
 use Rattle.remote_documents.specs.Table.{entries_in}
@@ -32,10 +32,10 @@ loop-place-preserved c =
     let i = c.loop-place.place in
     let ws = c.args.keyed.now in
     let w = c.index-writes-place.result in
-    let key = c.written_key-key.result.now in
+    let key = c.key-key.result.now in
     let below : i < length ws = subst (λ (l : List Write). i < length l) c.as_slice-writes.ensures c.loop-place-test.true in
     let item : w ≡ get_or ws i w = subst (λ (l : List Write). w ≡ get_or l i w) c.as_slice-writes.ensures c.index-writes-place.is in
-    let next : IsNext ws (written_key w) 0 c.first.result = subst (λ k. IsNext ws k 0 c.first.result) c.written_key-key.ensures c.first.ensures in
+    let next : IsNext ws (written_key w) 0 c.first.result = subst (λ k. IsNext ws k 0 c.first.result) c.key-key.ensures c.first.ensures in
     let base = λ (k : List (List ℕ)). base_of (cached (entries_in c.args.entries.now) k) in
     let document : List (List ℕ) → _ = λ k. after_writes k c.args.at (shown c.args.overlays.now k (base k)) ws in
     elim c.if-first-place.branch [
@@ -48,8 +48,8 @@ loop-place-preserved c =
           rw (x.overlays-is, x.laid-is) (record {
             same = same;
             laid = laid_same (HasDocument document) _ _ _ _ _ refl (first_on ws i w below item c.first.result next x.if-first-place.true)
-                (laid_more (HasDocument document) _ _ _ _ _ o (written_key w) x.in_ok-push.ensures.items (x.in_ok-overlay.ensures.key ∙ c.written_key-key.ensures) x.overlay_after-overlay.ensures.places
-                (subst (λ k. IsTrue (has_place x.overlay_after-overlay.new.overlays k)) c.written_key-key.ensures x.in_ok-overlay.ensures.place) right c.loop-place.invariant.laid);
+                (laid_more (HasDocument document) _ _ _ _ _ o (written_key w) x.in_ok-push.ensures.items (x.in_ok-overlay.ensures.key ∙ c.key-key.ensures) x.overlay_after-overlay.ensures.places
+                (subst (λ k. IsTrue (has_place x.overlay_after-overlay.new.overlays k)) c.key-key.ensures x.in_ok-overlay.ensures.place) right c.loop-place.invariant.laid);
           })
       | else-first-place x ↦ rw (x.overlays-is, x.laid-is) (record {
         same = c.loop-place.invariant.same;

@@ -1,7 +1,7 @@
 use Rattle.std.proofs.Common.{◌≡◌, ◌∙◌, ◌<◌, cond, length, get_or, ap, sym, subst}
 use Rattle.document_keys.specs.KeySet.{is_key}
 use Rattle.mutations.specs.Local.{effect}
-use Rattle.mutation_queue.specs.Queue.{written_key}
+use Rattle.mutations.specs.Written.{written_key}
 use Rattle.mutation_queue.proofs.Tables.{same_test}
 use Rattle.overlays.specs.LocalDocument.{after_write}
 use Rattle.overlays.proofs.Naming.{written_more}
@@ -12,7 +12,7 @@ pub loop-write-preserved : goal.loop-write-preserved
 loop-write-preserved c =
     let key = c.args.key.now in
     let item = c.write-item.result in
-    let same : c.eq.result ≡ is_key (written_key item) key = rw (c.eq.ensures, c.written_key.ensures) (ap (λ test. test (written_key item) key) same_test) in
+    let same : c.eq.result ≡ is_key (written_key item) key = rw (c.eq.ensures, c.key.ensures) (ap (λ test. test (written_key item) key) same_test) in
     let at = c.args.batch.now.at in
     let writes = c.args.batch.now.writes in
     let below = subst (λ l. c.loop-write.write-index < length l) c.as_slice-write-items.ensures c.loop-write-test.true in

@@ -21,7 +21,7 @@ loop-passed-preserved c =
     c.unwrap_or.ensures ∙ ap (λ o. unwrap_or o (length writes)) (c.in_ok-next.ensures.old ∙ ap (λ test. lookup (test key) firsts) same_test) in
     let put = subst (λ (test : List (List ℕ) → List (List ℕ) → _). (q : List (List ℕ)) → lookup (test q) after ≡ cond (test key q) (Some place) (lookup (test q) firsts)) same_test c.in_ok-next.ensures.updates.0 in
     subst (λ n. AreLinked n writes after (slice_set c.loop-passed.nexts.items place c.unwrap_or.result)) (sym same)
-    (linked_more writes (length writes - passed) place c.index-writes-place.result (omega (arith, below)) c.index-writes-place.is next_to key firsts after c.loop-passed.nexts.items c.unwrap_or.result (c.in_ok-key.ensures ∙ c.key_of.ensures) found put c.loop-passed.invariant)
+    (linked_more writes (length writes - passed) place c.index-writes-place.result (omega (arith, below)) c.index-writes-place.is next_to key firsts after c.loop-passed.nexts.items c.unwrap_or.result (c.in_ok-key.ensures ∙ c.key.ensures) found put c.loop-passed.invariant)
 
 pub returns : goal.returns
 returns c =
