@@ -1,4 +1,4 @@
-//! The payloads of a file, lent from the one buffer that was read.
+//! The payloads of a file, lent from the buffer that was read, which shrinks as they are left behind.
 
 ghost use Rattle.std.specs.Prelude.{◌≡◌, ℕ, ◌+◌, ◌≤◌, List, [], length, drop, flat_map, map, slice_get, option_map, All, IfOk, MatchOption};
 ghost use Rattle.disk_journal.specs.File.{record_of};
@@ -16,22 +16,25 @@ pub(crate) struct Span {
     end: usize,
 }
 
-/// The payloads of a file, in the order of their appends. Contracts see their list.
+/// The payloads of a file, in the order of their appends. Contracts see the list of those that aren't left behind.
 #[derive(Drop)]
 pub struct Payloads {
     file: Vec<u8>,
     spans: Vec<Span>,
+    // the number of spans that are left behind
+    behind: usize,
 }
 
 impl Model for Payloads {
-    ghost use Rattle.std.specs.Prelude.{ℕ, List, map, All};
+    ghost use Rattle.std.specs.Prelude.{ℕ, ◌≤◌, List, drop, length, map, All};
     ghost use Rattle.disk_journal.specs.Lent.{lent, IsInside};
 
     ghost Value = { List (List ℕ) };
 
-    ghost view = { λ p. map (lent p.file.items) p.spans.items };
+    ghost view = { λ p. map (lent p.file.items) (drop p.behind p.spans.items) };
 
-    ghost invariant = { λ p. All (IsInside p.file.items) p.spans.items };
+    ghost invariant = { λ p. All (IsInside p.file.items) p.spans.items
+        × (p.behind ≤ length p.spans.items) };
 }
 
 impl Payloads {
@@ -42,6 +45,7 @@ impl Payloads {
         Payloads {
             file: Vec::new(alloc),
             spans: Vec::new(alloc),
+            behind: 0,
         }
     }
 
@@ -58,7 +62,14 @@ impl Payloads {
             × (from + length (flat_map record_of x.0) ≡ x.1) × (x.1 ≤ length file.items))) }
     {
         match spans_in(alloc, &file, from)? {
-            Some((spans, end)) => Ok(Some((Payloads { file, spans }, end))),
+            Some((spans, end)) => {
+                let payloads = Payloads {
+                    file,
+                    spans,
+                    behind: 0,
+                };
+                Ok(Some((payloads, end)))
+            }
             None => Ok(None),
         }
     }
@@ -67,15 +78,78 @@ impl Payloads {
     pub fn len(&self) -> usize
         ensures { result ≡ length self.now }
     {
-        self.spans.len()
+        self.spans.len() - self.behind
     }
 
     /// The payload at the index, from 0, lent, or `None` past the last.
     pub fn at(&self, index: usize) -> Option<&[u8]>
         ensures { option_map (λ payload. payload.now) result ≡ slice_get self.now index }
     {
-        let span = self.spans.get(index)?;
+        let span = self.spans[self.behind..].get(index)?;
         Some(&self.file[span.start..span.end])
+    }
+
+    /// The payloads behind the first one. Where less than half of the buffer is theirs, they move to one of their size,
+    /// and its memory is given back.
+    ///
+    /// # Errors
+    /// `AllocError`
+    pub fn behind_first(self, alloc: Global) -> Result<Payloads, AllocError>
+        ensures { IfOk result (λ rest. rest ≡ drop 1 self) }
+    {
+        let Payloads {
+            file,
+            spans,
+            behind,
+        } = self;
+        if behind == spans.len() {
+            return Ok(Payloads {
+                file,
+                spans,
+                behind,
+            });
+        }
+        let rest = Payloads {
+            file,
+            spans,
+            behind: behind + 1,
+        };
+        if rest.size() < rest.file.len() / 2 {
+            return rest.moved(alloc);
+        }
+        Ok(rest)
+    }
+
+    // The bytes of the buffer from the first payload on.
+    fn size(&self) -> usize {
+        match self.spans.get(self.behind) {
+            Some(span) => self.file.len() - span.start,
+            None => 0,
+        }
+    }
+
+    // The payloads in a buffer of their size.
+    fn moved(&self, alloc: Global) -> Result<Payloads, AllocError>
+        ensures { IfOk result (λ same. same ≡ self.now) }
+    {
+        let mut file = Vec::with_capacity(alloc, self.size())?;
+        let mut spans = Vec::with_capacity(alloc, self.len())?;
+        for index in 0..self.len() {
+            let Some(payload) = self.at(index) else {
+                unreachable!();
+            };
+            let start = file.len();
+            file.extend_from_slice(payload)?;
+            spans.push(Span {
+                start,
+                end: file.len(),
+            })?;
+        }
+        Ok(Payloads {
+            file,
+            spans,
+            behind: 0,
+        })
     }
 }
 

@@ -45,7 +45,8 @@ fn is_documents(root: &Database, text: &str) -> bool
 /// The segments of a collection's parent: none of `{root}/documents`, else those of a document name.
 fn read_parent(alloc: Global, root: &Database, parent: &str) -> Result<Vec<Segment>, NameFault>
     ensures parent { IfOk result (λ segments. IsParent root.now parent.now segments.items) }
-    ensures fault { IfErr result (λ fault. (parent.now ≢ documents_text root.now) × HasKeyFault root.now parent.now fault) }
+    ensures fault { IfErr result
+        (λ fault. (parent.now ≢ documents_text root.now) × HasKeyFault root.now parent.now fault) }
 {
     if is_documents(root, parent) {
         return Ok(Vec::new(alloc));
@@ -68,7 +69,8 @@ fn segments_of(alloc: Global, parent: Option<DocumentKey>) -> Result<Vec<Segment
 impl CollectionPath {
     /// The path of these segments, or `None` exactly where their number is even.
     pub fn from_segments(segments: Vec<Segment>) -> Option<CollectionPath>
-        ensures { MatchOption result (length segments.items % 2 ≡ 0) (λ path. (path ≡ segments.items) × IsCollection segments.items) }
+        ensures { MatchOption result (length segments.items % 2 ≡ 0)
+            (λ path. (path ≡ segments.items) × IsCollection segments.items) }
     {
         show_segments(segments.as_slice());
         if segments.len() % 2 == 0 {
@@ -116,7 +118,8 @@ impl CollectionPath {
         id: &str,
     ) -> Result<CollectionPath, NameFault>
         ensures collection { IfOk result (λ path. IsCollection path) }
-        ensures path { IfOk result (λ path. (front : List (List ℕ)) × IsParent root.now parent.now front × (path ≡ front ++ id.now ∷ [])) }
+        ensures path { IfOk result (λ path. (front : List (List ℕ))
+            × IsParent root.now parent.now front × (path ≡ front ++ id.now ∷ [])) }
         ensures fault { IfErr result (λ fault. HasCollectionFault root.now parent.now id.now fault) }
     {
         let mut segments = read_parent(alloc, root, parent)?;
@@ -130,7 +133,8 @@ impl CollectionPath {
     /// # Errors
     /// `NoMemory`
     pub fn print_parent(&self, alloc: Global, root: &Database) -> Result<String, NoMemory>
-        ensures { IfOk result (λ name. (front : List (List ℕ)) × (id : List ℕ) × (self.now ≡ front ++ id ∷ []) × (string_bytes name ≡ name_text root.now front)) }
+        ensures { IfOk result (λ name. (front : List (List ℕ)) × (id : List ℕ)
+            × (self.now ≡ front ++ id ∷ []) × (string_bytes name ≡ name_text root.now front)) }
     {
         let count = self.segments.len() - 1;
         print_name(alloc, root, &self.segments.as_slice()[..count])

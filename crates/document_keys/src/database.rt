@@ -26,12 +26,15 @@ impl Model for Database {
 
     ghost view = { λ d. record { project = d.project; name = d.name } };
 
-    ghost invariant = { λ d. (string_bytes d.root ≡ root_text (record { project = d.project; name = d.name })) × IsRoot (record { project = d.project; name = d.name }) };
+    ghost invariant = { λ d.
+        (string_bytes d.root ≡ root_text (record { project = d.project; name = d.name }))
+        × IsRoot (record { project = d.project; name = d.name }) };
 }
 
 /// The project and the database's own name of a text that is `projects/`, a part, `/databases/` and a part.
 fn cut_root(text: &str) -> Option<(&str, &str)>
-    ensures { MatchOption result ((root : Root) → ¬ (IsRootOfParts text.now root)) (λ parts. IsRootOfParts text.now (record { project = parts.0.now; name = parts.1.now })) }
+    ensures { MatchOption result ((root : Root) → ¬ (IsRootOfParts text.now root))
+        (λ parts. IsRootOfParts text.now (record { project = parts.0.now; name = parts.1.now })) }
 {
     let rest = after(text, "projects/")?;
     let (project, rest) = rest.split_once('/')?;

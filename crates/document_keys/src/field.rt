@@ -130,8 +130,10 @@ impl FieldPath {
     /// # Errors
     /// `BadPath` where the text isn't of that form, or `NoMemory`.
     pub fn count(alloc: Global, text: &str) -> Result<u64, FieldFault>
-        ensures count { IfOk result (λ count. (names : List (List ℕ)) × (SpellsPath text.now names × (length names ≡ count))) }
-        ensures fault { IfErr result (λ fault. fault ≢ FieldFault.NoMemory → (names : List (List ℕ)) → ¬ (SpellsPath text.now names)) }
+        ensures count { IfOk result (λ count. (names : List (List ℕ))
+            × (SpellsPath text.now names × (length names ≡ count))) }
+        ensures fault { IfErr result (λ fault. fault ≢ FieldFault.NoMemory
+            → (names : List (List ℕ)) → ¬ (SpellsPath text.now names)) }
     {
         let names = read_names(alloc, text)?;
         Ok(names.len() as u64)

@@ -13,14 +13,16 @@ use std::alloc::Global;
 
 /// What follows the front in the text, if the text begins with it.
 pub(crate) fn after<'a>(text: &'a str, front: &str) -> Option<&'a str>
-    ensures { MatchOption result ((rest : List ℕ) → text.now ≢ front.now ++ rest) (λ rest. text.now ≡ front.now ++ rest.now) }
+    ensures { MatchOption result ((rest : List ℕ) → text.now ≢ front.now ++ rest)
+        (λ rest. text.now ≡ front.now ++ rest.now) }
 {
     text.strip_prefix(front)
 }
 
 /// What follows `{root}/documents/` in the text, if the text begins with it.
 pub(crate) fn after_documents<'a>(root: &Database, text: &'a str) -> Option<&'a str>
-    ensures { MatchOption result ((rest : List ℕ) → text.now ≢ documents_text root.now ++ 47 ∷ rest) (λ rest. text.now ≡ documents_text root.now ++ 47 ∷ rest.now) }
+    ensures { MatchOption result ((rest : List ℕ) → text.now ≢ documents_text root.now ++ 47 ∷ rest)
+        (λ rest. text.now ≡ documents_text root.now ++ 47 ∷ rest.now) }
 {
     let path = after(text, root.as_str())?;
     after(path, "/documents/")
@@ -30,7 +32,9 @@ pub(crate) fn after_documents<'a>(root: &Database, text: &'a str) -> Option<&'a 
 pub(crate) fn read_segments(alloc: Global, path: &str) -> Result<Vec<Segment>, NameFault>
     ensures parts { IfOk result (λ segments. segments.items ≡ slice_split (λ byte. byte == 47) path.now) }
     ensures segments { IfOk result (λ segments. All IsSegment segments.items) }
-    ensures fault { IfErr result (λ fault. fault ≢ NameFault.NoMemory → (fault ≡ NameFault.BadSegment) × ¬ (All IsSegment (slice_split (λ byte. byte == 47) path.now))) }
+    ensures fault { IfErr result (λ fault. fault ≢ NameFault.NoMemory
+        → (fault ≡ NameFault.BadSegment)
+        × ¬ (All IsSegment (slice_split (λ byte. byte == 47) path.now))) }
 {
     // most keys have two segments
     let mut segments = Vec::with_capacity(alloc, 2)?;

@@ -74,7 +74,8 @@ impl Segment {
     /// `BadSegment` where it is none, or `NoMemory`.
     pub fn read(alloc: Global, text: &str) -> Result<Segment, NameFault>
         ensures segment { IfOk result (λ segment. (segment ≡ text.now) × IsSegment text.now) }
-        ensures fault { IfErr result (λ fault. fault ≢ NameFault.NoMemory → (fault ≡ NameFault.BadSegment) × ¬ (IsSegment text.now)) }
+        ensures fault { IfErr result (λ fault. fault ≢ NameFault.NoMemory
+            → (fault ≡ NameFault.BadSegment) × ¬ (IsSegment text.now)) }
     {
         if !is_segment(text) {
             return Err(NameFault::BadSegment);

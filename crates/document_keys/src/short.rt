@@ -17,7 +17,8 @@ impl<const MOST: usize> Model for Short<MOST> {
 
     ghost view = { λ short. take short.len short.bytes };
 
-    ghost invariant = { λ short. (short.len ≤ length short.bytes) × ∥ IsUtf8 (take short.len short.bytes) ∥₁ };
+    ghost invariant = { λ short. (short.len ≤ length short.bytes)
+        × ∥ IsUtf8 (take short.len short.bytes) ∥₁ };
 }
 
 impl<const MOST: usize> Short<MOST> {

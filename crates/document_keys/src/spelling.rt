@@ -79,7 +79,8 @@ fn next_step(place: Place, c: char) -> Step
 /// `BadPath` where it spells none, or `NoMemory`.
 pub(crate) fn read_names(alloc: Global, text: &str) -> Result<Vec<Text>, FieldFault>
     ensures names { IfOk result (λ names. SpellsPath text.now names.items) }
-    ensures fault { IfErr result (λ fault. fault ≢ FieldFault.NoMemory → (fault ≡ FieldFault.BadPath) × ((names : List (List ℕ)) → ¬ (SpellsPath text.now names))) }
+    ensures fault { IfErr result (λ fault. fault ≢ FieldFault.NoMemory
+        → (fault ≡ FieldFault.BadPath) × ((names : List (List ℕ)) → ¬ (SpellsPath text.now names))) }
 {
     // most paths have one name
     let mut names = Vec::with_capacity(alloc, 1)?;

@@ -9,7 +9,8 @@ use Rattle.document_keys.specs.KeySet.{is_key}
 use Rattle.value_model.specs.declared.document.Entry.{Entry}
 use Rattle.value_model.specs.declared.document.Seal.{Seal}
 use Rattle.outcome_codec.specs.declared.parts.KeyedEntry.{KeyedEntry}
-use Rattle.remote_documents.specs.Table.{EntryMap, Table, Changes, IsMapOf, KeepsPlaces, entries_in, has_place}
+use Rattle.key_table.specs.Table.{KeepsKeys, has_key}
+use Rattle.remote_documents.specs.Table.{EntryMap, Table, Changes, IsMapOf, entries_in}
 use Rattle.remote_documents.proofs.Maps.{get_with, get_without, one_map}
 use Rattle.durable_state.specs.Cached.{Changed, cached, dropped, with_all, with_changed}
 use Rattle.durable_state.specs.Ready.{HavePlaces, put_change, put_changes}
@@ -45,14 +46,14 @@ all_append entries cs ds = fold-append with_changed entries cs ds
 -- ---- changes gathered one by one
 
 -- every place stays, and one more is there
-pub places_more : (old new : Table) (cs after : List KeyedEntry) (c : KeyedEntry) → after ≡ cs ++ c ∷ [] → KeepsPlaces old new → HavePlaces old cs → IsTrue (has_place new c.key) → HavePlaces new after
-places_more old new cs after c pushed keeps had place = subst (HavePlaces new) (sym pushed) (All-push (λ (e : KeyedEntry). IsTrue (has_place new e.key)) cs c (λ k d below. keeps _ (had k d below)) place)
+pub places_more : (old new : Table) (cs after : List KeyedEntry) (c : KeyedEntry) → after ≡ cs ++ c ∷ [] → KeepsKeys old new → HavePlaces old cs → IsTrue (has_key new c.key) → HavePlaces new after
+places_more old new cs after c pushed keeps had place = subst (HavePlaces new) (sym pushed) (All-push (λ (e : KeyedEntry). IsTrue (has_key new e.key)) cs c (λ k d below. keeps _ (had k d below)) place)
 
-pub places_still : (old new : Table) (cs : List KeyedEntry) → KeepsPlaces old new → HavePlaces old cs → HavePlaces new cs
+pub places_still : (old new : Table) (cs : List KeyedEntry) → KeepsKeys old new → HavePlaces old cs → HavePlaces new cs
 places_still old new cs keeps had = λ k d below. keeps _ (had k d below)
 
 -- places for the first ones and the next
-pub places_next : (old new : Table) (cs : List KeyedEntry) (i : ℕ) (c : KeyedEntry) → i < length cs → c ≡ get_or cs i c → KeepsPlaces old new → HavePlaces old (take i cs) → IsTrue (has_place new c.key) → HavePlaces new (take (i + 1) cs)
+pub places_next : (old new : Table) (cs : List KeyedEntry) (i : ℕ) (c : KeyedEntry) → i < length cs → c ≡ get_or cs i c → KeepsKeys old new → HavePlaces old (take i cs) → IsTrue (has_key new c.key) → HavePlaces new (take (i + 1) cs)
 places_next old new cs i c below item keeps had place =
     places_more old new (take i cs) (take (i + 1) cs) c (take_more cs i c below ∙ ap (λ x. take i cs ++ x ∷ []) (sym item)) keeps had place
 

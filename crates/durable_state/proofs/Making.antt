@@ -5,6 +5,7 @@ use Rattle.std.proofs.lemmas.List.Elements.{All-nil}
 use Rattle.value_model.specs.declared.document.Seal.{Seal}
 use Rattle.value_model.specs.declared.document.Seal.TheVariants.{Committed}
 use Rattle.value_model.specs.declared.timestamp.Timestamp.{Timestamp}
+use Rattle.key_table.specs.Table.{has_key}
 use Rattle.mutations.specs.declared.results.WriteResult.{WriteResult}
 use Rattle.mutations.specs.declared.write.Write.{Write}
 use Rattle.outcome_codec.specs.declared.parts.KeyedEntry.{KeyedEntry}
@@ -24,7 +25,7 @@ use Rattle.durable_state.proofs.Anew.{lays_as, lays_nothing}
 use Rattle.durable_state.proofs.Firsts.{answers_same}
 
 pub make_ready : (t : Tables) (ready : Ready) (step : Step) (cs : List Changed) (lifted : List (List (List ℕ))) → t.number < most_commits → ready.step ≡ step → changes_of ready ≡ cs → ready.lifted.items ≡ lifted
-    → HasRoomFor t.pending t.targets step → HavePlaces t.entries ready.changes.items → All (λ (o : Overlay). IsTrue (overlay.has_place t.overlays o.key)) ready.overlays.items
+    → HasRoomFor t.pending t.targets step → HavePlaces t.entries ready.changes.items → All (λ (o : Overlay). IsTrue (has_key t.overlays o.key)) ready.overlays.items
     → LaysAnew (state_in t) (moved (state_in t) step cs) ready.overlays.items lifted → IsReady t ready
 make_ready t ready step cs lifted left step_is changes_are lifted_are room entries places lays = record {
   number = left;
@@ -47,7 +48,7 @@ pub ready_alone : (t : Tables) (ready : Ready) (step : Step) → t.number < most
     → HasRoomFor t.pending t.targets step → IsReady t ready
 ready_alone t ready step left batches step_is none_put none_dropped none_laid none_lifted room =
     make_ready t ready step [] [] left step_is (only_dropped ready.seal ready.changes.items ready.dropped [] none_put none_dropped) none_lifted room
-    (subst (HavePlaces t.entries) (sym none_put) (All-nil _)) (subst (All (λ (o : Overlay). IsTrue (overlay.has_place t.overlays o.key))) (sym none_laid) (All-nil _))
+    (subst (HavePlaces t.entries) (sym none_put) (All-nil _)) (subst (All (λ (o : Overlay). IsTrue (has_key t.overlays o.key))) (sym none_laid) (All-nil _))
     (subst (λ (os : List Overlay). LaysAnew (state_in t) (moved (state_in t) step []) os []) (sym none_laid) (lays_nothing (state_in t) (moved (state_in t) step []) batches refl))
 
 pub none_placed : (table : remote.Table) (changes : List KeyedEntry) → changes ≡ [] → HavePlaces table changes

@@ -2,11 +2,12 @@
 use Rattle.std.proofs.Common.{◌≡◌, ◌∙◌, ◌<◌, ◌+◌, ◌↔◌, ℕ, Bool, true, false, cond, not, IsTrue, List, [], ◌∷◌, ◌++◌, map, take, length, get_or, Option, Some, append-nil, refl, sym, ap, subst}
 use Rattle.std.specs.List.{Contains, filter, slice_get}
 use Rattle.std.proofs.lemmas.Option.{same_Some}
+use Rattle.key_table.specs.Table.{KeepsKeys, has_key}
 use Rattle.durable_state.specs.Cached.{first_writes}
 use Rattle.std.proofs.lemmas.List.{map-append, take_more}
 use Rattle.std.proofs.lemmas.List.Elements.{All-nil, All-push, filter-append}
 use Rattle.mutation_queue.specs.Queue.{named_keys}
-use Rattle.overlays.specs.Table.{KeepsPlaces, Table, has_place}
+use Rattle.overlays.specs.Table.{Table}
 use Rattle.overlays.specs.declared.overlays.Overlay.{Overlay}
 use Rattle.durable_state.specs.Documents.{is_among}
 use Rattle.durable_state.specs.Ready.{HasDocument, LaysKeys, Settles}
@@ -24,19 +25,19 @@ told_among false keys key is = not_so (is_among keys key) (λ there. let wrong =
 
 module _ (Right : Overlay → Type 0) where
   -- one overlay more
-  pub laid_more : (before after : Table) (keys : List (List (List ℕ))) (os more : List Overlay) (o : Overlay) (key : List (List ℕ)) → more ≡ os ++ o ∷ [] → o.key ≡ key → KeepsPlaces before after → IsTrue (has_place after key) → Right o
+  pub laid_more : (before after : Table) (keys : List (List (List ℕ))) (os more : List Overlay) (o : Overlay) (key : List (List ℕ)) → more ≡ os ++ o ∷ [] → o.key ≡ key → KeepsKeys before after → IsTrue (has_key after key) → Right o
       → LaysKeys before Right keys os → LaysKeys after Right (keys ++ key ∷ []) more
   laid_more before after keys os more o key pushed named keeps place right so_far = subst (LaysKeys after Right (keys ++ key ∷ [])) (sym pushed) (record {
     of_keys = map-append (λ (x : Overlay). x.key) os (o ∷ []) ∙ ap (λ l. l ++ o.key ∷ []) so_far.of_keys ∙ ap (λ k. keys ++ k ∷ []) named;
     right = All-push Right os o so_far.right right;
-    places = All-push (λ x. IsTrue (has_place after x.key)) os o (λ k d below. keeps _ (so_far.places k d below)) (subst (λ k. IsTrue (has_place after k)) (sym named) place);
+    places = All-push (λ x. IsTrue (has_key after x.key)) os o (λ k d below. keeps _ (so_far.places k d below)) (subst (λ k. IsTrue (has_key after k)) (sym named) place);
   })
 
   pub laid_same : (table : Table) (keys others : List (List (List ℕ))) (os more : List Overlay) → more ≡ os → others ≡ keys → LaysKeys table Right keys os → LaysKeys table Right others more
   laid_same table keys others os more same keys_same so_far = subst (λ (l : List (List (List ℕ))). LaysKeys table Right l more) (sym keys_same) (subst (LaysKeys table Right keys) (sym same) so_far)
 
 pub none_laid : (table : Table) (Right : Overlay → Type 0) (os : List Overlay) → os ≡ [] → LaysKeys table Right [] os
-none_laid table Right os none = subst (LaysKeys table Right []) (sym none) (record { of_keys = refl; right = All-nil Right; places = All-nil (λ o. IsTrue (has_place table o.key)) })
+none_laid table Right os none = subst (LaysKeys table Right []) (sym none) (record { of_keys = refl; right = All-nil Right; places = All-nil (λ o. IsTrue (has_key table o.key)) })
 
 -- ---- the keys of one item more
 
@@ -57,7 +58,7 @@ head_writes (first ∷ bs) b is = ap (λ (x : Batch). x.writes) (same_Some b fir
 -- ---- what becomes of a key once the first batch has left
 
 pub settled : (before after : Table) (batches : List Batch) (document : List (List ℕ) → Option Document) (key : List (List ℕ)) (entry : Option Entry) (old new : Relaid) (laid lifted : List (List (List ℕ)))
-    → Settles after batches key entry old new → KeepsPlaces before after → document key ≡ local_document key (base_of entry) batches
+    → Settles after batches key entry old new → KeepsKeys before after → document key ≡ local_document key (base_of entry) batches
     → LaysKeys before (HasDocument document) laid old.laid.items → old.lifted.items ≡ lifted
     → LaysKeys after (HasDocument document) (laid ++ cond (is_among (named_keys batches) key) (key ∷ []) []) new.laid.items
     × (new.lifted.items ≡ lifted ++ cond (not (is_among (named_keys batches) key)) (key ∷ []) [])

@@ -5,13 +5,8 @@ use Rattle.value_model.specs.declared.document.DocState.{DocState}
 use Rattle.value_model.specs.declared.document.Document.{Document}
 use Rattle.value_model.specs.declared.document.Entry.{Entry}
 use Rattle.value_model.specs.declared.document.Seal.{Seal}
-use Rattle.value_model.specs.declared.documents.DocRef.{DocRef}
 use Rattle.overlays.specs.LocalDocument.{base_of}
 use Rattle.durable_state.specs.Documents.{standing_by}
-
--- a document that is lent
-abbrev pub lent : DocRef → Stored
-lent d = record { fields = d.fields.now; update_time = d.update_time; state = d.state }
 
 -- a document that stands so to the backend
 abbrev pub standing : DocState → Document → Stored

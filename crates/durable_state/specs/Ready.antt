@@ -6,6 +6,7 @@ use Rattle.value_model.specs.declared.document.Document.{Document}
 use Rattle.value_model.specs.declared.document.Entry.{Entry}
 use Rattle.value_model.specs.declared.document.Seal.{Seal}
 use Rattle.value_model.specs.declared.timestamp.Timestamp.{Timestamp}
+use Rattle.key_table.specs.Table.{has_key}
 use Rattle.mutations.specs.declared.batch.Batch.{Batch}
 use Rattle.mutations.specs.declared.write.Write.{Write}
 use Rattle.outcome_codec.specs.declared.parts.KeyedEntry.{KeyedEntry}
@@ -88,7 +89,7 @@ HasRoomFor pending targets (Blank ids) = All (HasRow targets.rows) ids.items
 
 -- each entry that is changed has a place
 abbrev pub HavePlaces : remote.Table → List KeyedEntry → Type 0
-HavePlaces table changes = All (λ (c : KeyedEntry). IsTrue (remote.has_place table c.key)) changes
+HavePlaces table changes = All (λ (c : KeyedEntry). IsTrue (has_key table c.key)) changes
 
 -- the keys with that of a write, unless it is there
 abbrev pub with_first : List (List (List ℕ)) → Write → List (List (List ℕ))
@@ -129,7 +130,7 @@ pub record LaysKeys (table : overlay.Table) (Right : Overlay → Type 0) (keys :
     (overlays : List Overlay) : Type 0 where
   pub of_keys : each (λ o. o.key) overlays ≡ keys
   pub right : All Right overlays
-  pub places : All (λ o. IsTrue (overlay.has_place table o.key)) overlays
+  pub places : All (λ o. IsTrue (has_key table o.key)) overlays
 
 -- it has this document of its key
 abbrev pub HasDocument : (List (List ℕ) → Option Document) → Overlay → Type 0
@@ -148,7 +149,7 @@ pub data Settles (table : overlay.Table) (batches : List Batch) (key : List (Lis
   laid : (o : Overlay) → IsTrue (is_among (queue.named_keys batches) key)
       → new.lifted.items ≡ old.lifted.items
       → new.laid.items ≡ old.laid.items ++ o ∷ [] → o.key ≡ key
-      → o.document ≡ local_document key (base_of entry) batches → IsTrue (overlay.has_place table key)
+      → o.document ≡ local_document key (base_of entry) batches → IsTrue (has_key table key)
       → Settles table batches key entry old new
   lifted : is_among (queue.named_keys batches) key ≡ false → new.laid.items ≡ old.laid.items
       → new.lifted.items ≡ old.lifted.items ++ key ∷ [] → Settles table batches key entry old new
@@ -158,5 +159,5 @@ pub record IsReady (t : Tables) (ready : Ready) : Type 0 where
   pub number : t.number < most_commits
   pub room : HasRoomFor t.pending t.targets ready.step
   pub entries : HavePlaces t.entries ready.changes.items
-  pub places : All (λ o. IsTrue (overlay.has_place t.overlays o.key)) ready.overlays.items
+  pub places : All (λ o. IsTrue (has_key t.overlays o.key)) ready.overlays.items
   pub lays : LaysAnew (state_in t) (state_by (state_in t) ready) ready.overlays.items ready.lifted.items

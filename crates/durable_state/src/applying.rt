@@ -2,6 +2,7 @@
 
 ghost use Rattle.std.specs.Prelude.{◌≡◌, ◌<◌, ◌≤◌, ◌^◌, ◌++◌, ◌∷◌, [], ℕ, pos, List, length, IsTrue};
 ghost use Rattle.std.specs.List.{All};
+ghost use Rattle.key_table.specs.Table.{has_key};
 ghost use Rattle.overlays.specs.Table as overlay;
 ghost use Rattle.remote_documents.specs.Table.{IsMapOf, entries_in};
 ghost use Rattle.durable_state.specs.Ready.{HasRoomFor, HavePlaces, batches_by, last_read_by, lift_over, next_by, put_changes, put_over, rows_by};
@@ -73,7 +74,7 @@ pub(crate) fn forget(entries: &mut RemoteDocuments, keys: &KeySet)
 
 /// Puts the overlays in their places.
 pub(crate) fn lay(overlays: &mut Overlays, laid: Vec<Overlay>)
-    requires { All (λ o. IsTrue (overlay.has_place overlays.old o.key)) laid.items }
+    requires { All (λ o. IsTrue (has_key overlays.old o.key)) laid.items }
     ensures { (q : List (List ℕ)) → overlay.overlay_of overlays.new q
         ≡ put_over q (overlay.overlay_of overlays.old q) laid.items }
 {

@@ -5,11 +5,12 @@ ghost use Rattle.std.specs.List.{Contains};
 ghost use Rattle.std.specs.Option.{IsSome};
 ghost use Rattle.document_keys.specs.KeySet.{IsAscending};
 ghost use Rattle.value_model.specs.Documents.{IsIn};
+ghost use Rattle.value_model.specs.Lent.{lent_document};
 ghost use Rattle.value_model.specs.Order.{Earlier};
 ghost use Rattle.value_model.specs.declared.document.DocState.TheVariants.{Pending};
 ghost use Rattle.overlays.specs.LocalDocument.{base_of};
 ghost use Rattle.durable_state.specs.Documents.{entry_of, is_named, is_uncovered, sealed_entry_of, standing_by, standing_of};
-ghost use Rattle.durable_state.specs.Lending.{known_by, lent, standing};
+ghost use Rattle.durable_state.specs.Lending.{known_by, standing};
 ghost use Rattle.durable_state.specs.Rising.{Replaces};
 ghost use Rattle.durable_state.specs.Tables.{state_in};
 
@@ -61,7 +62,7 @@ fn is_found(entry: Option<&Entry>) -> bool
 
 /// The local document of a key that a pending write names.
 fn laid<'a>(key: &'a DocumentKey, document: &'a Option<Document>) -> Option<DocRef<'a>>
-    ensures document { option_map lent result ≡ option_map (standing Pending) document.now }
+    ensures document { option_map lent_document result ≡ option_map (standing Pending) document.now }
     ensures key { IfSome result (λ d. d.key.now ≡ key.now) }
 {
     let document = document.as_ref()?;
@@ -75,7 +76,7 @@ fn laid<'a>(key: &'a DocumentKey, document: &'a Option<Document>) -> Option<DocR
 
 /// The document of the entry of a key that no pending write names.
 fn plain<'a>(key: &'a DocumentKey, sealed: Option<(&'a Entry, &'a Seal)>) -> Option<DocRef<'a>>
-    ensures document { option_map lent result
+    ensures document { option_map lent_document result
         ≡ known_by (option_map (λ pair. (pair.0.now, pair.1.now)) sealed.entry) }
     ensures key { IfSome result (λ d. d.key.now ≡ key.now) }
 {

@@ -4,9 +4,9 @@ ghost use Rattle.std.specs.Prelude.{◌≡◌, IsTrue, IfOk, IfSome, OnOk, optio
 ghost use Rattle.std.specs.List.{All, filter_map};
 ghost use Rattle.value_model.specs.declared.document.Seal.{Seal};
 ghost use Rattle.value_model.specs.declared.document.Seal.TheVariants.{Committed};
+ghost use Rattle.key_table.specs.Table.{KeepsKeys, has_key};
 ghost use Rattle.mutations.specs.Effect.{IsOfFieldsOnly};
 ghost use Rattle.mutations.specs.Results.{FitsWrites};
-ghost use Rattle.remote_documents.specs.Table as remote;
 ghost use Rattle.remote_documents.specs.Table.{IsMapOf, entries_in};
 ghost use Rattle.durable_state.specs.Cached.{answered_by, cached, with_all};
 ghost use Rattle.durable_state.specs.Ready.{HavePlaces, first_keys, put_change, put_changes};
@@ -64,8 +64,8 @@ fn make_place(entries: &mut RemoteDocuments, key: &DocumentKey) -> Result<(), No
     requires { IsMapOf entries.old }
     ensures same { entries_in entries.new ≡ entries_in entries.old }
     ensures map { IsMapOf entries.new }
-    ensures places { remote.KeepsPlaces entries.old entries.new }
-    ensures place { OnOk result (IsTrue (remote.has_place entries.new key.now)) }
+    ensures places { KeepsKeys entries.old entries.new }
+    ensures place { OnOk result (IsTrue (has_key entries.new key.now)) }
 {
     let made = entries.reserve(key);
     entries.is_map();
@@ -88,11 +88,11 @@ fn answered_key(
     requires map { IsMapOf entries.old }
     ensures same { entries_in entries.new ≡ entries_in entries.old }
     ensures map { IsMapOf entries.new }
-    ensures places { remote.KeepsPlaces entries.old entries.new }
+    ensures places { KeepsKeys entries.old entries.new }
     ensures change { IfOk result (λ found. option_map (put_change (Committed answer.now.at)) found
         ≡ answered_by (entries_in entries.old) writes.now answer.now.results.now
         answer.now.at key.now) }
-    ensures place { IfOk result (λ found. IfSome found (λ c. IsTrue (remote.has_place entries.new c.key))) }
+    ensures place { IfOk result (λ found. IfSome found (λ c. IsTrue (has_key entries.new c.key))) }
 {
     let entry = known(entries, key);
     let left = acknowledged_entry(alloc, key, entry, writes, answer.results, answer.at)?;
@@ -161,6 +161,20 @@ pub(crate) fn answered(
     answer_each(alloc, entries, &writes, answer)
 }
 
+/// Takes the memory of so many places. No entry changes.
+///
+/// # Errors
+/// `NoMemory`
+fn reserve_places(entries: &mut RemoteDocuments, places: usize) -> Result<(), NoMemory>
+    requires { IsMapOf entries.old }
+    ensures same { entries_in entries.new ≡ entries_in entries.old }
+    ensures map { IsMapOf entries.new }
+{
+    let made = entries.make_room(places);
+    entries.is_map();
+    made
+}
+
 /// Makes a place for each of the changes. No entry changes.
 ///
 /// # Errors
@@ -174,6 +188,8 @@ pub(crate) fn make_places(
     ensures map { IsMapOf entries.new }
     ensures places { OnOk result (HavePlaces entries.new changes.now) }
 {
+    // there will be one for each: their memory is taken at once, and not in steps that are each copied
+    reserve_places(entries, changes.len())?;
     for change in changes {
         make_place(entries, &change.key)?;
     }

@@ -3,10 +3,11 @@
 ghost use Rattle.std.specs.Prelude.{◌≡◌, [], drop, not, map as each, None, IsTrue, IfOk, OnOk, option_map};
 ghost use Rattle.std.specs.List.{All, filter};
 ghost use Rattle.value_model.specs.declared.document.Seal.{Seal};
+ghost use Rattle.key_table.specs.Table.{KeepsKeys, has_key};
 ghost use Rattle.mutations.specs.Effect.{IsOfFieldsOnly};
 ghost use Rattle.mutation_queue.specs.Queue.{named_keys};
 ghost use Rattle.overlays.specs.LocalDocument.{after_batch, after_writes, base_of, local_document};
-ghost use Rattle.overlays.specs.Table.{IsBatchOfFields, KeepsPlaces, SameOverlays, has_place, shown};
+ghost use Rattle.overlays.specs.Table.{IsBatchOfFields, SameOverlays, shown};
 ghost use Rattle.remote_documents.specs.Table.{IsMapOf, entries_in};
 ghost use Rattle.durable_state.specs.Cached.{cached, first_writes, with_all};
 ghost use Rattle.durable_state.specs.Documents.{is_among};
@@ -39,9 +40,9 @@ fn overlay_over(
 ) -> Result<Overlay, NoMemory>
     requires { All IsBatchOfFields pending.now.batches }
     ensures same { SameOverlays overlays.old overlays.new }
-    ensures places { KeepsPlaces overlays.old overlays.new }
+    ensures places { KeepsKeys overlays.old overlays.new }
     ensures key { IfOk result (λ o. o.key ≡ key.now) }
-    ensures place { OnOk result (IsTrue (has_place overlays.new key.now)) }
+    ensures place { OnOk result (IsTrue (has_key overlays.new key.now)) }
     ensures document { IfOk result (λ o. o.document
         ≡ local_document key.now (base_of (option_map (λ e. e.now) entry.entry))
         (drop past pending.now.batches)) }
@@ -64,9 +65,9 @@ fn overlay_after(
 ) -> Result<Overlay, NoMemory>
     requires { All IsOfFieldsOnly writes.now }
     ensures same { SameOverlays overlays.old overlays.new }
-    ensures places { KeepsPlaces overlays.old overlays.new }
+    ensures places { KeepsKeys overlays.old overlays.new }
     ensures key { IfOk result (λ o. o.key ≡ key.now) }
-    ensures place { OnOk result (IsTrue (has_place overlays.new key.now)) }
+    ensures place { OnOk result (IsTrue (has_key overlays.new key.now)) }
     ensures document { IfOk result (λ o. o.document ≡ after_writes key.now at
         (shown overlays.new key.now (base_of (option_map (λ e. e.now) entry.entry))) writes.now) }
 {
@@ -211,7 +212,7 @@ impl Relaid {
     ) -> Result<(), NoMemory>
         requires { All IsBatchOfFields pending.now.batches }
         ensures same { SameOverlays overlays.old overlays.new }
-        ensures places { KeepsPlaces overlays.old overlays.new }
+        ensures places { KeepsKeys overlays.old overlays.new }
         ensures settled { OnOk result (Settles overlays.new (drop 1 pending.now.batches) key.now
             (option_map (λ e. e.now) entry.entry) self.old self.new) }
     {

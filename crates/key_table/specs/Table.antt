@@ -31,6 +31,19 @@ module _ {V : Type 0} where
   abbrev pub SameValues : Pairs V → Pairs V → Type 0
   SameValues old new = (key : List (List ℕ)) → value_at new key ≡ value_at old key
 
+  -- every key stays
+  abbrev pub KeepsKeys : Pairs V → Pairs V → Type 0
+  KeepsKeys old new = (key : List (List ℕ)) → IsTrue (has_key old key) → IsTrue (has_key new key)
+
+  -- every key stays, but this one
+  abbrev pub KeepsOtherKeys : List (List ℕ) → Pairs V → Pairs V → Type 0
+  KeepsOtherKeys key old new = (q : List (List ℕ)) → is_key key q ≡ false
+      → IsTrue (has_key old q) → IsTrue (has_key new q)
+
+  -- no other key comes or goes
+  abbrev pub SameOtherKeys : List (List ℕ) → Pairs V → Pairs V → Type 0
+  SameOtherKeys key old new = (q : List (List ℕ)) → is_key key q ≡ false → has_key new q ≡ has_key old q
+
   -- the list has just the keys of the table
   abbrev pub HasKeysOf : Pairs V → List (List (List ℕ)) → Type 0
   HasKeysOf table keys = (key : List (List ℕ)) → list_any (is_key key) keys ≡ has_key table key

@@ -57,6 +57,18 @@ impl<V> KeyTable<V> {
         self.places.get(key)
     }
 
+    /// Takes the memory of a table of so many keys, where it has less. No value changes.
+    ///
+    /// # Errors
+    /// `NoMemory`
+    pub fn make_room(&mut self, keys: usize) -> Result<(), NoMemory>
+        ensures { SameValues self.old self.new }
+    {
+        let more = keys.saturating_sub(self.places.len());
+        self.places.reserve(more)?;
+        Ok(())
+    }
+
     /// Puts the value in place of the key's old one. It takes no memory.
     pub fn set(&mut self, key: &DocumentKey, value: V)
     where

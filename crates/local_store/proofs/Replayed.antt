@@ -1,8 +1,7 @@
 -- Payloads that lead from one state to another.
-use Rattle.std.proofs.Common.{◌≡◌, ℕ, ◌+◌, suc, List, [], ◌∷◌, ◌++◌, take, drop, Some, refl, sym, ap, subst, ◌∙◌}
+use Rattle.std.proofs.Common.{◌≡◌, ℕ, List, [], ◌∷◌, ◌++◌, drop, Some, None, refl, sym, ap, subst, ◌∙◌}
 use Rattle.std.proofs.Math.Seq.{split_at}
 use Rattle.std.specs.List.{slice_get}
-use Rattle.std.proofs.lemmas.List.{take_more}
 use Rattle.std.proofs.lemmas.Option.{get_or_from_slice_get, slice_get_within}
 use Rattle.record_codec.specs.declared.commit.Commit.{Commit}
 use Rattle.record_codec.specs.Spelling.{spelling, HasSpelling}
@@ -16,21 +15,6 @@ use Rattle.local_store.specs.Files.{FindsState}
 pub replays_push : (s : State) (ps : List (List ℕ)) (t : State) (p : List ℕ) (c : Commit) → Replays s ps t → HasSpelling c → p ≡ spelling c → Fits t c → Replays s (ps ++ p ∷ []) (committed t c)
 replays_push s [] t p c here has is fits = (c, has, is, subst (λ (u : State). Fits u c) here fits, ap (λ u. committed u c) here)
 replays_push s (q ∷ ps) t p c (first, first_has, first_is, first_fits, rest) has is fits = (first, first_has, first_is, first_fits, replays_push (committed s first) ps t p c rest has is fits)
-
--- what the payload at a place spells, and the state before it
-pub record SpellsNext (s : State) (ps : List (List ℕ)) (p : List ℕ) : Type 0 where
-  pub before : State
-  pub replays : Replays s ps before
-  pub commit : Commit
-  pub has : HasSpelling commit
-  pub is : p ≡ spelling commit
-  pub fits : Fits before commit
-
-pub replays_at : (s : State) (ps : List (List ℕ)) (p : List ℕ) (qs : List (List ℕ)) (t : State) → Replays s (ps ++ p ∷ qs) t → SpellsNext s ps p
-replays_at s [] p qs t (c, has, is, fits, rest) = record { before = s; replays = refl; commit = c; has = has; is = is; fits = fits }
-replays_at s (q ∷ ps) p qs t (c, has, is, fits, rest) =
-    let later = replays_at (committed s c) ps p qs t rest in
-    record { before = later.before; replays = (c, has, is, fits, later.replays); commit = later.commit; has = later.has; is = later.is; fits = later.fits }
 
 -- payloads lead to one state
 pub replays_once : (s : State) (ps : List (List ℕ)) (t u : State) → Replays s ps t → Replays s ps u → t ≡ u
@@ -47,32 +31,55 @@ find_once files a b first second =
 
 -- ---- a loop over the payloads
 
-around : (payloads : List (List ℕ)) (i : ℕ) (payload : List ℕ) → slice_get payloads i ≡ Some payload → payloads ≡ take i payloads ++ payload ∷ drop (suc i) payloads
-around payloads i payload here =
-    split_at payloads i payload (slice_get_within payloads i payload here)
-    ∙ ap (λ (q : List ℕ). take i payloads ++ q ∷ drop (suc i) payloads) (get_or_from_slice_get payloads i payload payload here)
+-- What is left of the payloads leads from the state that is reached where they all lead from the first one.
+pub record HasReplayed (from : State) (payloads rest : List (List ℕ)) (reached : State) : Type 0 where
+  pub onward : (s : State) → Replays reached rest s → Replays from payloads s
+  pub back : (s : State) → Replays from payloads s → Replays reached rest s
 
--- a payload that spells no commit that fits leads nowhere
-pub stuck : (payloads : List (List ℕ)) (i : ℕ) (payload : List ℕ) (before : State) → slice_get payloads i ≡ Some payload → Replays start (take i payloads) before
-    → ((t : State) → Replays before (payload ∷ []) t → ⊥) → (s : State) → Replays start payloads s → ⊥
-stuck payloads i payload before here so_far none s all =
-    let next = replays_at start (take i payloads) payload (drop (suc i) payloads) s (subst (λ (l : List (List ℕ)). Replays start l s) (around payloads i payload here) all) in
-    let same = replays_once start (take i payloads) next.before before next.replays so_far in
-    none (committed before next.commit) (next.commit, next.has, next.is, subst (λ (t : State). Fits t next.commit) same next.fits, refl)
+first_of : (rest : List (List ℕ)) (payload : List ℕ) → slice_get rest 0 ≡ Some payload → rest ≡ payload ∷ drop 1 rest
+first_of rest payload here =
+    split_at rest 0 payload (slice_get_within rest 0 payload here)
+    ∙ ap (λ (p : List ℕ). p ∷ drop 1 rest) (get_or_from_slice_get rest 0 payload payload here)
 
--- bytes that spell no commit that fits
-pub unspelled : (before : State) (bytes : List ℕ) → ((c : Commit) → HasSpelling c → bytes ≡ spelling c → ⊥) → (t : State) → Replays before (bytes ∷ []) t → ⊥
-unspelled before bytes none t (c, has, is, fits, _) = none c has is
+none_left : (rest : List (List ℕ)) → slice_get rest 0 ≡ None → rest ≡ []
+none_left [] none = refl
+none_left (payload ∷ rest) none = cc
 
--- a payload whose commit doesn't fit spells no other that does
-pub unfit : (before : State) (first : Commit) (bytes : List ℕ) → HasSpelling first × (bytes ≡ spelling first) → (Fits before first → ⊥) → (t : State) → Replays before (bytes ∷ []) t → ⊥
-unfit before first bytes spelled no_fit t (c, has, is, fits, _) = no_fit (subst (λ (d : Commit). Fits before d) (one_value c first has spelled.0 (sym is ∙ spelled.1)) fits)
+-- a payload leads on by the commit that it spells
+first_made : (payload : List ℕ) (behind : List (List ℕ)) (commit : Commit) (reached s : State) → HasSpelling commit → payload ≡ spelling commit
+    → Replays reached (payload ∷ behind) s → Fits reached commit × Replays (committed reached commit) behind s
+first_made payload behind commit reached s has is (first, first_has, first_is, first_fits, leads) =
+    let same = one_value first commit first_has has (sym first_is ∙ is) in
+    (subst (λ (c : Commit). Fits reached c) same first_fits, subst (λ (c : Commit). Replays (committed reached c) behind s) same leads)
 
--- the next payload leads on
-pub leads_on : (payloads : List (List ℕ)) (i : ℕ) (payload : List ℕ) (before behind : State) → slice_get payloads i ≡ Some payload
-    → Replays before (payload ∷ []) behind → Replays start (take i payloads) before → Replays start (take (i + 1) payloads) behind
-leads_on payloads i payload before behind here (commit, has, is, fits, so) so_far =
-    let more : take (i + 1) payloads ≡ take i payloads ++ payload ∷ [] =
-    take_more payloads i payload (slice_get_within payloads i payload here) ∙ ap (λ (q : List ℕ). take i payloads ++ q ∷ []) (get_or_from_slice_get payloads i payload payload here) in
-    subst (λ (l : List (List ℕ)). Replays start l behind) (sym more)
-    (subst (Replays start (take i payloads ++ payload ∷ [])) (sym so) (replays_push start (take i payloads) before payload commit so_far has is fits))
+-- the commit of the first payload is made, and that is left behind
+pub replays_first : {from reached next : State} {payloads rest behind : List (List ℕ)} (payload : List ℕ) (commit : Commit)
+    → slice_get rest 0 ≡ Some payload → behind ≡ drop 1 rest → HasSpelling commit → payload ≡ spelling commit
+    → Fits reached commit → next ≡ committed reached commit → HasReplayed from payloads rest reached → HasReplayed from payloads behind next
+replays_first {from} {reached} {next} {payloads} {rest} {behind} payload commit here left has is fits made so_far = record {
+  onward = λ s leads. so_far.onward s (subst (λ (l : List (List ℕ)). Replays reached l s) (sym split) (commit, has, is, fits, subst (λ u. Replays u behind s) made leads));
+  back = λ s leads.
+      let on = first_made payload behind commit reached s has is (subst (λ (l : List (List ℕ)). Replays reached l s) split (so_far.back s leads)) in
+      subst (λ u. Replays u behind s) (sym made) on.1;
+}
+  where
+    split : rest ≡ payload ∷ behind
+    split = first_of rest payload here ∙ ap (λ (l : List (List ℕ)). payload ∷ l) (sym left)
+
+-- the first payload spells no commit
+pub unspelled : {from reached : State} {payloads rest : List (List ℕ)} (payload : List ℕ) → slice_get rest 0 ≡ Some payload
+    → ((c : Commit) → HasSpelling c → payload ≡ spelling c → ⊥) → HasReplayed from payloads rest reached → (s : State) → Replays from payloads s → ⊥
+unspelled {from} {reached} {payloads} {rest} payload here none so_far s leads = spells (subst (λ (l : List (List ℕ)). Replays reached l s) (first_of rest payload here) (so_far.back s leads))
+  where
+    spells : Replays reached (payload ∷ drop 1 rest) s → ⊥
+    spells (first, first_has, first_is, first_fits, more) = none first first_has first_is
+
+-- the commit of the first payload doesn't fit
+pub unfit : {from reached : State} {payloads rest : List (List ℕ)} (payload : List ℕ) (commit : Commit) → slice_get rest 0 ≡ Some payload
+    → HasSpelling commit → payload ≡ spelling commit → (Fits reached commit → ⊥) → HasReplayed from payloads rest reached → (s : State) → Replays from payloads s → ⊥
+unfit {from} {reached} {payloads} {rest} payload commit here has is no_fit so_far s leads =
+    no_fit (first_made payload (drop 1 rest) commit reached s has is (subst (λ (l : List (List ℕ)). Replays reached l s) (first_of rest payload here) (so_far.back s leads))).0
+
+-- no payload is left
+pub all_replayed : {from reached : State} {payloads rest : List (List ℕ)} → slice_get rest 0 ≡ None → HasReplayed from payloads rest reached → Replays from payloads reached
+all_replayed {from} {reached} {payloads} {rest} none so_far = so_far.onward reached (subst (λ (l : List (List ℕ)). Replays reached l reached) (sym (none_left rest none)) refl)

@@ -79,7 +79,7 @@ impl LocalStore {
         if journal.generation() != 1 {
             return Err(OpenFault::NotAStore(file));
         }
-        match replay(alloc, &payloads) {
+        match replay(alloc, payloads) {
             Err(NoMemory) => Err(OpenFault::NoMemory),
             Ok(None) => Err(OpenFault::NotAStore(file)),
             Ok(Some(tables)) => Ok(LocalStore {

@@ -1,5 +1,5 @@
 -- The overlays, as contracts see them: a finite map from keys to optional documents, and beside it the room for more.
-use Rattle.std.specs.Prelude.{◌≡◌, ℕ, List, Bool, false, Option, Some, None, is_some, option_and_then, unwrap_or, IsTrue, if◌then◌else◌}
+use Rattle.std.specs.Prelude.{◌≡◌, ℕ, List, Option, Some, None, option_and_then, unwrap_or, if◌then◌else◌}
 use Rattle.std.specs.Coded.{Coded, coded×, coded_list, coded_ℕ}
 use Rattle.std.specs.List.{All}
 use Rattle.std.specs.Map.{lookup}
@@ -27,10 +27,6 @@ laid (Laid document) = Some document
 abbrev pub overlay_of : Table → List (List ℕ) → Option (Option Document)
 overlay_of table key = option_and_then laid (lookup (is_key key) table)
 
--- the table has a place for the key's overlay
-abbrev pub has_place : Table → List (List ℕ) → Bool
-has_place table key = is_some (lookup (is_key key) table)
-
 -- the document of a key that has this one without an overlay
 abbrev pub shown : Table → List (List ℕ) → Option Document → Option Document
 shown table key base = unwrap_or (overlay_of table key) base
@@ -46,16 +42,3 @@ SameOverlays old new = (key : List (List ℕ)) → overlay_of new key ≡ overla
 -- one key has this overlay, or none, and every other the one that it had
 abbrev pub Changes : List (List ℕ) → Option (Option Document) → Table → Table → Type 0
 Changes key overlay old new = (q : List (List ℕ)) → overlay_of new q ≡ (if is_key key q then overlay else overlay_of old q)
-
--- every place stays
-abbrev pub KeepsPlaces : Table → Table → Type 0
-KeepsPlaces old new = (key : List (List ℕ)) → IsTrue (has_place old key) → IsTrue (has_place new key)
-
--- every place stays, but that of this key
-abbrev pub KeepsOtherPlaces : List (List ℕ) → Table → Table → Type 0
-KeepsOtherPlaces key old new = (q : List (List ℕ)) → is_key key q ≡ false
-    → IsTrue (has_place old q) → IsTrue (has_place new q)
-
--- no other key gets a place, and none loses it
-abbrev pub SameOtherPlaces : List (List ℕ) → Table → Table → Type 0
-SameOtherPlaces key old new = (q : List (List ℕ)) → is_key key q ≡ false → has_place new q ≡ has_place old q

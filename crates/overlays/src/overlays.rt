@@ -2,12 +2,12 @@ ghost use Rattle.std.specs.Prelude.{◌≡◌, ◌↔◌, ℕ, List, Some, None,
 ghost use Rattle.std.specs.List.{All, AllPairs, Contains};
 ghost use Rattle.std.specs.Option.{ForSome, IsSome};
 ghost use Rattle.document_keys.specs.Order.{PathBefore};
+ghost use Rattle.key_table.specs.Table.{KeepsKeys, KeepsOtherKeys, SameOtherKeys, has_key};
 ghost use Rattle.mutations.specs.Effect.{IsOfFieldsOnly};
 ghost use Rattle.value_model.specs.Documents.{IsIn};
 ghost use Rattle.overlays.specs.Lent.{known, lent_document, with_more};
 ghost use Rattle.overlays.specs.LocalDocument.{after_writes, local_document};
-ghost use Rattle.overlays.specs.Table.{Changes, IsBatchOfFields, KeepsOtherPlaces, KeepsPlaces, SameOtherPlaces, SameOverlays};
-ghost use Rattle.overlays.specs.Table.{has_place, overlay_of, shown};
+ghost use Rattle.overlays.specs.Table.{Changes, IsBatchOfFields, SameOverlays, overlay_of, shown};
 
 use crate::laying::{all_laid_on, base, keyed_laid_on, laid_on, lent_laid_on};
 use crate::slot::Slot;
@@ -28,7 +28,7 @@ pub struct Overlay {
 }
 
 /// The local document of each key that a pending write names. Contracts see a finite map from keys to optional documents,
-/// by `overlay_of`, and beside it the room for more, by `has_place`.
+/// by `overlay_of`, and beside it the room for more, by `has_key`.
 #[derive(Debug, Drop)]
 pub struct Overlays {
     slots: KeyTable<Slot>,
@@ -166,10 +166,10 @@ impl Overlays {
     /// `NoMemory`, never where there is a place.
     pub fn reserve(&mut self, key: &DocumentKey) -> Result<(), NoMemory>
         ensures same { SameOverlays self.old self.new }
-        ensures room { OnOk result (IsTrue (has_place self.new key.now)) }
-        ensures kept { IsTrue (has_place self.old key.now) → IsOk result }
-        ensures places { KeepsPlaces self.old self.new }
-        ensures others { SameOtherPlaces key.now self.old self.new }
+        ensures room { OnOk result (IsTrue (has_key self.new key.now)) }
+        ensures kept { IsTrue (has_key self.old key.now) → IsOk result }
+        ensures places { KeepsKeys self.old self.new }
+        ensures others { SameOtherKeys key.now self.old self.new }
     {
         if !self.slots.has(key) {
             let key = key.copy(self.alloc)?;
@@ -190,9 +190,9 @@ impl Overlays {
 
     /// Puts the overlay in place of its key's old one, where there is a place. It takes no memory.
     pub fn set(&mut self, overlay: Overlay)
-        requires { IsTrue (has_place self.old overlay.key) }
+        requires { IsTrue (has_key self.old overlay.key) }
         ensures done { Changes overlay.key (Some overlay.document) self.old self.new }
-        ensures places { KeepsPlaces self.old self.new }
+        ensures places { KeepsKeys self.old self.new }
     {
         let Overlay { key, document } = overlay;
         self.slots.set(&key, Slot::Laid(document));
@@ -201,8 +201,8 @@ impl Overlays {
     /// Takes the key's overlay away, if there is one, and its place.
     pub fn remove(&mut self, key: &DocumentKey)
         ensures done { Changes key.now None self.old self.new }
-        ensures gone { has_place self.new key.now ≡ false }
-        ensures places { KeepsOtherPlaces key.now self.old self.new }
+        ensures gone { has_key self.new key.now ≡ false }
+        ensures places { KeepsOtherKeys key.now self.old self.new }
     {
         self.slots.remove(key);
     }

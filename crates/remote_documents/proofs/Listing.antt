@@ -5,7 +5,8 @@ use Rattle.std.specs.Option.{is_some}
 use Rattle.std.proofs.lemmas.List.{take_more}
 use Rattle.std.proofs.lemmas.List.Elements.{Contains-append_left, Contains-push, Contains-push_cases}
 use Rattle.document_keys.specs.KeySet.{Inserts}
-use Rattle.remote_documents.specs.Table.{Table, entry_of, has_place}
+use Rattle.key_table.specs.Table.{has_key}
+use Rattle.remote_documents.specs.Table.{Table, entry_of}
 use Rattle.remote_documents.proofs.Tables.{has_from_entry}
 
 -- the keys that are gathered are those of the list that have an entry
@@ -47,7 +48,7 @@ none_yet table all keys none empty q = subst (λ l. Contains l q ↔ (Contains a
 )
 
 -- those that have an entry are among the keys of all places
-pub all_held : (table : Table) (all keys : List (List (List ℕ))) → ((q : List (List ℕ)) → Contains all q ↔ IsTrue (has_place table q)) → AreHeld table all keys → (q : List (List ℕ)) → Contains keys q ↔ IsTrue (is_some (entry_of table q))
+pub all_held : (table : Table) (all keys : List (List (List ℕ))) → ((q : List (List ℕ)) → Contains all q ↔ IsTrue (has_key table q)) → AreHeld table all keys → (q : List (List ℕ)) → Contains keys q ↔ IsTrue (is_some (entry_of table q))
 all_held table all keys places are q = (
   λ there. ((are q).0 there).1,
   λ some. (are q).1 ((places q).1 (has_from_entry table q some), some),

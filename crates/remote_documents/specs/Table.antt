@@ -1,6 +1,6 @@
 -- The entries of a cache, as contracts see them: a finite map from keys to what is known of the document and how that is
 -- sealed, and beside it the room for more.
-use Rattle.std.specs.Prelude.{◌≡◌, ℕ, List, Bool, false, Option, Some, None, is_some, option_and_then, option_map, IsTrue, if◌then◌else◌}
+use Rattle.std.specs.Prelude.{◌≡◌, ℕ, List, Option, Some, None, option_and_then, option_map, if◌then◌else◌}
 use Rattle.std.specs.Cmp.Lexicographic.{slice_cmp}
 use Rattle.std.specs.Coded.{Coded, coded×, coded_list, coded_ℕ}
 use Rattle.std.specs.FinMap as map
@@ -42,10 +42,6 @@ entries_in table = map.from_entries (filter_map (λ place. option_map (λ pair. 
 abbrev pub IsMapOf : Table → Type 0
 IsMapOf table = (key : List (List ℕ)) → map.get (entries_in table) key ≡ entry_of table key
 
--- the table has a place for the key's entry
-abbrev pub has_place : Table → List (List ℕ) → Bool
-has_place table key = is_some (lookup (is_key key) table)
-
 -- no entry changes
 abbrev pub SameEntries : Table → Table → Type 0
 SameEntries old new = (key : List (List ℕ)) → entry_of new key ≡ entry_of old key
@@ -53,16 +49,3 @@ SameEntries old new = (key : List (List ℕ)) → entry_of new key ≡ entry_of 
 -- one key has this entry, or none, and every other the one that it had
 abbrev pub Changes : List (List ℕ) → Option (Entry × Seal) → Table → Table → Type 0
 Changes key entry old new = (q : List (List ℕ)) → entry_of new q ≡ (if is_key key q then entry else entry_of old q)
-
--- every place stays
-abbrev pub KeepsPlaces : Table → Table → Type 0
-KeepsPlaces old new = (key : List (List ℕ)) → IsTrue (has_place old key) → IsTrue (has_place new key)
-
--- every place stays, but that of this key
-abbrev pub KeepsOtherPlaces : List (List ℕ) → Table → Table → Type 0
-KeepsOtherPlaces key old new = (q : List (List ℕ)) → is_key key q ≡ false
-    → IsTrue (has_place old q) → IsTrue (has_place new q)
-
--- no other key gets a place, and none loses it
-abbrev pub SameOtherPlaces : List (List ℕ) → Table → Table → Type 0
-SameOtherPlaces key old new = (q : List (List ℕ)) → is_key key q ≡ false → has_place new q ≡ has_place old q

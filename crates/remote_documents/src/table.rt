@@ -3,8 +3,8 @@ ghost use Rattle.std.specs.List.{AllPairs, Contains};
 ghost use Rattle.std.specs.Option.{IsSome};
 ghost use Rattle.document_keys.specs.Order.{PathBefore};
 ghost use Rattle.value_model.specs.Documents.{IsIn};
-ghost use Rattle.remote_documents.specs.Table.{Changes, IsMapOf, KeepsOtherPlaces, KeepsPlaces, SameEntries, SameOtherPlaces};
-ghost use Rattle.remote_documents.specs.Table.{entry_of, has_place};
+ghost use Rattle.key_table.specs.Table.{KeepsKeys, KeepsOtherKeys, SameOtherKeys, SameValues, has_key};
+ghost use Rattle.remote_documents.specs.Table.{Changes, IsMapOf, SameEntries, entry_of};
 
 use crate::slot::Slot;
 use document_keys::{CollectionPath, DocumentKey, KeySet, NoMemory};
@@ -14,7 +14,7 @@ use std::marker::Model;
 use value_model::{Entry, Seal};
 
 /// What is known of documents, by key. Contracts see a finite map from keys to entries with their seals, by `entry_of`, and
-/// beside it the room for more, by `has_place`.
+/// beside it the room for more, by `has_key`.
 #[derive(Debug, Drop)]
 pub struct RemoteDocuments {
     slots: KeyTable<Slot>,
@@ -65,16 +65,26 @@ impl RemoteDocuments {
     /// `NoMemory`, never where there is a place.
     pub fn reserve(&mut self, key: &DocumentKey) -> Result<(), NoMemory>
         ensures same { SameEntries self.old self.new }
-        ensures room { OnOk result (IsTrue (has_place self.new key.now)) }
-        ensures kept { IsTrue (has_place self.old key.now) → IsOk result }
-        ensures places { KeepsPlaces self.old self.new }
-        ensures others { SameOtherPlaces key.now self.old self.new }
+        ensures room { OnOk result (IsTrue (has_key self.new key.now)) }
+        ensures kept { IsTrue (has_key self.old key.now) → IsOk result }
+        ensures places { KeepsKeys self.old self.new }
+        ensures others { SameOtherKeys key.now self.old self.new }
     {
         if !self.slots.has(key) {
             let key = key.copy(self.alloc)?;
             self.slots.insert(self.alloc, key, Slot::Reserved)?;
         }
         Ok(())
+    }
+
+    /// Takes the memory of so many places, where there is less. No place comes, and no entry changes.
+    ///
+    /// # Errors
+    /// `NoMemory`
+    pub fn make_room(&mut self, places: usize) -> Result<(), NoMemory>
+        ensures { SameValues self.old self.new }
+    {
+        self.slots.make_room(places)
     }
 
     /// Keeps the places in order from now on, for listings. It costs nothing where they are kept so already.
@@ -89,9 +99,9 @@ impl RemoteDocuments {
 
     /// Puts the entry with its seal in place of the key's old one, where there is a place. It takes no memory.
     pub fn set(&mut self, key: &DocumentKey, entry: Entry, seal: Seal)
-        requires { IsTrue (has_place self.old key.now) }
+        requires { IsTrue (has_key self.old key.now) }
         ensures done { Changes key.now (Some (entry, seal)) self.old self.new }
-        ensures places { KeepsPlaces self.old self.new }
+        ensures places { KeepsKeys self.old self.new }
     {
         self.slots.set(key, Slot::Held(entry, seal));
     }
@@ -109,8 +119,8 @@ impl RemoteDocuments {
     ) -> Result<(), NoMemory>
         ensures done { OnOk result (Changes key (Some (entry, seal)) self.old self.new) }
         ensures undone { OnErr result (SameEntries self.old self.new) }
-        ensures kept { IsTrue (has_place self.old key) → IsOk result }
-        ensures places { KeepsPlaces self.old self.new }
+        ensures kept { IsTrue (has_key self.old key) → IsOk result }
+        ensures places { KeepsKeys self.old self.new }
     {
         self.slots.insert(alloc, key, Slot::Held(entry, seal))?;
         Ok(())
@@ -119,8 +129,8 @@ impl RemoteDocuments {
     /// Takes the key's entry away, if there is one, and its place.
     pub fn remove(&mut self, key: &DocumentKey)
         ensures done { Changes key.now None self.old self.new }
-        ensures gone { has_place self.new key.now ≡ false }
-        ensures places { KeepsOtherPlaces key.now self.old self.new }
+        ensures gone { has_key self.new key.now ≡ false }
+        ensures places { KeepsOtherKeys key.now self.old self.new }
     {
         self.slots.remove(key);
     }

@@ -73,6 +73,23 @@ fn payloads_are_found_again(rt: HostRuntime) -> Result<(), Fail> {
     check_again(&rt, &host)
 }
 
+// one payload is left, the second one, and behind it none
+fn check_left(rt: &(impl Abort + AllocGlobal), found: Payloads) -> Result<(), Fail> {
+    let left = found.behind_first(rt.alloc())?;
+    assert!(rt; left.len() == 1);
+    assert!(rt; left.at(0) == Some(SECOND.as_slice()));
+    let none = left.behind_first(rt.alloc())?.behind_first(rt.alloc())?;
+    assert!(rt; none.len() == 0);
+    Ok(())
+}
+
+#[test]
+fn payloads_are_left_behind(rt: HostRuntime) -> Result<(), Fail> {
+    let mut host = host_with_both(&rt)?;
+    let found = opened(&rt, &mut host)?;
+    check_left(&rt, found)
+}
+
 fn check_crash(
     rt: &(impl Abort + AllocGlobal),
     host: &MemHost,

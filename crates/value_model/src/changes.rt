@@ -63,7 +63,8 @@ fn with_member(
 ) -> Result<Fields, NoMemory>
     requires inside { from < length path.now }
     requires path { path.now ≢ codes "__name__" ∷ [] }
-    ensures done { IfOk result (λ f. Data.map_of f ≡ with_value (Data.map_of fields) (drop from path.now) new) }
+    ensures done { IfOk result
+        (λ f. Data.map_of f ≡ with_value (Data.map_of fields) (drop from path.now) new) }
     ensures same { IfOk result (λ f. value_at fields (drop from path.now) ≡ Option.Some new → f ≡ fields) }
 {
     let _count = fields.len();
@@ -86,7 +87,8 @@ fn without_inner(
     from: u64,
 ) -> Result<Value, NoMemory>
     requires { from < length path.now }
-    ensures done { IfOk result (λ d. d ≡ on_members (λ fields. without_value_at fields (drop from path.now)) value) }
+    ensures done { IfOk result
+        (λ d. d ≡ on_members (λ fields. without_value_at fields (drop from path.now)) value) }
     ensures gone { IfOk result (λ d. value_in d (drop from path.now) ≡ None) }
     ensures missing { IfOk result (λ d. value_in value (drop from path.now) ≡ None → d ≡ value) }
 {

@@ -19,7 +19,8 @@ pub trait Documents {
     ghost use Rattle.std.specs.Prelude.{◌≡◌, ◌↔◌, List, ℕ, IsTrue, IfOk, IfSome, option_map};
     ghost use Rattle.std.specs.List.{Contains};
     ghost use Rattle.std.specs.FinMap as map;
-    ghost use Rattle.value_model.specs.Documents.{DocumentMap, Stored, ListsCollection};
+    ghost use Rattle.value_model.specs.Documents.{DocumentMap, ListsCollection};
+    ghost use Rattle.value_model.specs.Lent.{lent_document};
 
     /// The documents by key.
     ghost documents: { Self → DocumentMap };
@@ -29,7 +30,7 @@ pub trait Documents {
 
     /// The document of the key, lent without a copy, or `None` where there is none.
     fn document<'a>(&'a self, key: &'a DocumentKey) -> Option<DocRef<'a>>
-        ensures document { option_map (λ d. record { fields = d.fields.now; update_time = d.update_time; state = d.state }) result ≡ map.get (documents self.now) key.now }
+        ensures document { option_map lent_document result ≡ map.get (documents self.now) key.now }
         ensures key { IfSome result (λ d. d.key.now ≡ key.now) };
 
     /// Whether an unfinished write touches the key.

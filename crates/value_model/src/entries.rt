@@ -1,7 +1,8 @@
 //! Changes of one field among others.
 
-ghost use Rattle.std.specs.Prelude.{◌≡◌, ◌<◌, length, slice_index_or, slice_set};
+ghost use Rattle.std.specs.Prelude.{◌≡◌, ◌<◌, length, slice_index_or};
 ghost use Rattle.std.specs.List.{remove};
+ghost use Rattle.value_model.specs.Named.{HasValueAt};
 ghost use Rattle.value_model.specs.declared.fields.Field.{Field};
 
 use crate::fields::Field;
@@ -11,7 +12,7 @@ use std::mem;
 /// Sets the value of the field at the place.
 pub(crate) fn set_value(fields: &mut Vec<Field>, at: usize, value: Value)
     requires { at < length fields.old.items }
-    ensures { (d : Field) → fields.new.items ≡ slice_set fields.old.items at (record { name = (slice_index_or fields.old.items at d).name; value = value }) }
+    ensures { HasValueAt at value fields.old.items fields.new.items }
 {
     let field = &mut fields[at];
     field.value = value;
@@ -21,7 +22,7 @@ pub(crate) fn set_value(fields: &mut Vec<Field>, at: usize, value: Value)
 pub(crate) fn swap_value(fields: &mut Vec<Field>, at: usize, value: Value) -> Value
     requires { at < length fields.old.items }
     ensures before { (d : Field) → result ≡ (slice_index_or fields.old.items at d).value }
-    ensures after { (d : Field) → fields.new.items ≡ slice_set fields.old.items at (record { name = (slice_index_or fields.old.items at d).name; value = value }) }
+    ensures after { HasValueAt at value fields.old.items fields.new.items }
 {
     let field = &mut fields[at];
     mem::replace(&mut field.value, value)

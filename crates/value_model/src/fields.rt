@@ -108,7 +108,8 @@ impl Fields {
 
     /// The name at the index, from 0, or `None` past the last.
     pub fn name_at(&self, index: u64) -> Option<&str>
-        ensures { option_map (λ name. name.now) result ≡ option_map (λ field. field.0) (slice_get self.now index) }
+        ensures { option_map (λ name. name.now) result
+            ≡ option_map (λ field. field.0) (slice_get self.now index) }
     {
         let field = self.entries.get(index as usize)?;
         Some(field.name.as_str())
@@ -116,7 +117,8 @@ impl Fields {
 
     /// The value at the index, from 0, or `None` past the last.
     pub fn value_at(&self, index: u64) -> Option<&Value>
-        ensures { option_map (λ value. value.now) result ≡ option_map (λ field. field.1) (slice_get self.now index) }
+        ensures { option_map (λ value. value.now) result
+            ≡ option_map (λ field. field.1) (slice_get self.now index) }
     {
         let field = self.entries.get(index as usize)?;
         Some(&field.value)

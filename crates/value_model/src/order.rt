@@ -87,7 +87,8 @@ fn compare_values(left: &[Value], right: &[Value]) -> Ordering
 /// The order of maps of these fields.
 #[cycle(compare)]
 fn compare_fields(fields: &[Field], others: &[Field]) -> Ordering
-    ensures { RanksValues result (Data.map_of (fields_data fields.now)) (Data.map_of (fields_data others.now)) }
+    ensures { RanksValues result (Data.map_of (fields_data fields.now))
+        (Data.map_of (fields_data others.now)) }
 {
     for i in 0..fields.len().min(others.len()) {
         let names = fields[i].name.cmp(&others[i].name);

@@ -40,7 +40,8 @@ fn put_ymd(text: &mut String, year: u32, month: u32, day: u32) -> Result<(), NoM
     requires year { year < 10000 }
     requires month { month < 100 }
     requires day { day < 100 }
-    ensures { OnOk result (string_bytes text.new ≡ string_bytes text.old ++ (four year ++ 45 ∷ (two month ++ 45 ∷ two day))) }
+    ensures { OnOk result (string_bytes text.new
+        ≡ string_bytes text.old ++ (four year ++ 45 ∷ (two month ++ 45 ∷ two day))) }
 {
     put_two(text, year / 100)?;
     put_two(text, year % 100)?;

@@ -83,7 +83,8 @@ impl SharedFields {
 
     /// The fields to change; `None` where others may hold them too.
     pub fn alone(&mut self) -> Option<&mut Fields>
-        ensures* writes_back { sem 𝓛 (LendsIf shared.the_row fields.the_row self.entry result (λ w. w) self.old) }
+        ensures* writes_back { sem 𝓛
+            (LendsIf shared.the_row fields.the_row self.entry result (λ w. w) self.old) }
         ensures value { IfSome result (λ fields. fields.now ≡ self.old) }
     {
         Rc::get_mut(&mut self.fields)

@@ -97,7 +97,8 @@ impl Timestamp {
     pub fn compare(&self, other: &Timestamp) -> Ordering
         requires this { IsMoment self.now }
         requires that { IsMoment other.now }
-        ensures { MatchOrdering result (instant self.now <ℤ instant other.now) (self.now ≡ other.now) (instant other.now <ℤ instant self.now) }
+        ensures { MatchOrdering result (instant self.now <ℤ instant other.now)
+            (self.now ≡ other.now) (instant other.now <ℤ instant self.now) }
     {
         self.cmp(other)
     }

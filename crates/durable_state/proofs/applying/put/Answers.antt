@@ -1,7 +1,7 @@
 use Rattle.std.proofs.Common.{◌∙◌, ◌++◌, ◌∷◌, [], Some, IsTrue, sym, ap, append_assoc}
 use Rattle.std.specs.Vec.Iter.{into_iter_items}
 use Rattle.outcome_codec.specs.declared.parts.KeyedEntry.{KeyedEntry}
-use Rattle.remote_documents.specs.Table.{has_place}
+use Rattle.key_table.specs.Table.{has_key}
 use Rattle.durable_state.specs.Cached.{with_changed}
 use Rattle.durable_state.proofs.Changed.{change_is, put_more}
 use Rattle.durable_state.proofs.Laid.{in_the_middle}
@@ -10,7 +10,7 @@ use Rattle.durable_state.proofs.applying.put.Goals as goal
 pub set-requires : goal.set-requires
 set-requires c =
     let split = c.loop-change.invariant.split ∙ ap (λ l. c.loop-change.yielded ++ l) c.in-Some.ensures.steps.0 in
-    c.loop-change.invariant.places _ (in_the_middle (λ (e : KeyedEntry). IsTrue (has_place c.args.entries.now e.key)) _ _ _ c.in-Some.change split c.requires.places)
+    c.loop-change.invariant.places _ (in_the_middle (λ (e : KeyedEntry). IsTrue (has_key c.args.entries.now e.key)) _ _ _ c.in-Some.change split c.requires.places)
 
 pub loop-change-preserved : goal.loop-change-preserved
 loop-change-preserved c =

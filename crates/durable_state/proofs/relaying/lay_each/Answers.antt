@@ -1,10 +1,11 @@
 use Rattle.std.proofs.Common.{◌≡◌, ◌∙◌, ◌<◌, ◌≤◌, List, ℕ, IsTrue, take, length, get_or, refl, sym, ap, subst}
 use Rattle.std.proofs.lemmas.List.{take_all}
+use Rattle.key_table.specs.Table.{has_key}
 use Rattle.keyed_writes.specs.Keyed.{IsNext}
 use Rattle.mutations.specs.declared.write.Write.{Write}
 use Rattle.mutations.specs.Written.{written_key}
 use Rattle.overlays.specs.LocalDocument.{after_writes, base_of}
-use Rattle.overlays.specs.Table.{has_place, shown}
+use Rattle.overlays.specs.Table.{shown}
 use Rattle.remote_documents.specs.Table.{entries_in}
 use Rattle.std.specs.Option.{unwrap_or}
 use Rattle.durable_state.specs.Cached.{cached}
@@ -49,7 +50,7 @@ loop-place-preserved c =
             same = same;
             laid = laid_same (HasDocument document) _ _ _ _ _ refl (first_on ws i w below item c.first.result next x.if-first-place.true)
                 (laid_more (HasDocument document) _ _ _ _ _ o (written_key w) x.in_ok-push.ensures.items (x.in_ok-overlay.ensures.key ∙ c.key-key.ensures) x.overlay_after-overlay.ensures.places
-                (subst (λ k. IsTrue (has_place x.overlay_after-overlay.new.overlays k)) c.key-key.ensures x.in_ok-overlay.ensures.place) right c.loop-place.invariant.laid);
+                (subst (λ k. IsTrue (has_key x.overlay_after-overlay.new.overlays k)) c.key-key.ensures x.in_ok-overlay.ensures.place) right c.loop-place.invariant.laid);
           })
       | else-first-place x ↦ rw (x.overlays-is, x.laid-is) (record {
         same = c.loop-place.invariant.same;

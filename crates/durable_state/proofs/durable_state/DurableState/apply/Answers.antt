@@ -1,6 +1,6 @@
 use Rattle.std.proofs.Common.{◌∙◌, IsTrue, refl, sym, ap, subst}
 use Rattle.std.specs.List.{All}
-use Rattle.overlays.specs.Table as overlay
+use Rattle.key_table.specs.Table.{has_key}
 use Rattle.overlays.specs.declared.overlays.Overlay.{Overlay}
 use Rattle.durable_state.specs.Cached.{dropped, with_all}
 use Rattle.durable_state.specs.Ready.{HavePlaces, IsReady, lift_over, put_changes}
@@ -13,7 +13,7 @@ pub put-requires-clause-places : goal.put-requires-clause-places
 put-requires-clause-places c = subst (λ (t : Tables). HavePlaces t.entries c.args.ready.changes.items) (sym c.self.view_is) c.requires.entries
 
 pub lay-requires : goal.lay-requires
-lay-requires c = subst (λ (t : Tables). All (λ (o : Overlay). IsTrue (overlay.has_place t.overlays o.key)) c.args.ready.overlays.items) (sym c.self.view_is) c.requires.places
+lay-requires c = subst (λ (t : Tables). All (λ (o : Overlay). IsTrue (has_key t.overlays o.key)) c.args.ready.overlays.items) (sym c.self.view_is) c.requires.places
 
 pub invariant_of-self : goal.invariant_of-self
 invariant_of-self c =

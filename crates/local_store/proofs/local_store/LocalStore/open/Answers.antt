@@ -9,8 +9,8 @@ returns-then-generation-ne1-clause-refused g c = λ told. stuck_refuses _ _ _ _ 
 pub returns-in-Ok-None-clause-refused : goal.returns-in-Ok-None-clause-refused
 returns-in-Ok-None-clause-refused g c = λ told. stuck_refuses _ _ _ _ _ (c.in_ok-journal.ensures.found told) (c.in_ok-journal.ensures.goes_on told) (none_found (rw c.in-Ok-None.field-0-is at c.in-Ok-None.ensures)) (c.open.ensures.files told)
 
-pub returns-clause-found : goal.returns-clause-found
-returns-clause-found g c = λ told.
+pub returns-in-Ok-Some-clause-found : goal.returns-in-Ok-Some-clause-found
+returns-in-Ok-Some-clause-found g c = λ told.
     let one : c.in_ok-journal.journal.generation ≡ 1 = sym c.generation.ensures ∙ c.if-generation-ne1.false in
     record {
       generation = _;
@@ -19,8 +19,8 @@ returns-clause-found g c = λ told.
       leads = record { first = one; replays = rw c.in-Ok-Some.field-0-is at c.in-Ok-Some.ensures };
     }
 
-pub returns-clause-kept : goal.returns-clause-kept
-returns-clause-kept g c = λ told.
+pub returns-in-Ok-Some-clause-kept : goal.returns-in-Ok-Some-clause-kept
+returns-in-Ok-Some-clause-kept g c = λ told.
     let one : c.in_ok-journal.journal.generation ≡ 1 = sym c.generation.ensures ∙ c.if-generation-ne1.false in
     over_finds {place = c.in_ok-journal.journal} (record {
       payloads = c.in_ok-journal.payloads;

@@ -4,7 +4,7 @@ use Rattle.document_keys.specs.KeySet.{is_key}
 use Rattle.key_table.specs.Table.{has_key, value_at}
 use Rattle.key_table.proofs.Tables.{keys_stay, put_there, shows_nothing}
 use Rattle.overlays.specs.declared.slot.Slot.TheVariants.{Reserved}
-use Rattle.overlays.specs.Table.{has_place, laid}
+use Rattle.overlays.specs.Table.{laid}
 use Rattle.overlays.proofs.overlays.Overlays.reserve.Goals as goal
 
 pub returns-in_err-insert-clause-same : goal.returns-in_err-insert-clause-same
@@ -19,7 +19,7 @@ returns-in_ok-insert-clause-same c =
     λ q. rw (← c.self.view_is) (shows_nothing c.self.inside.slots c.insert.new.self c.in_ok-key.key Reserved c.in_ok-insert.ensures.done laid refl none q)
 
 pub returns-in_ok-insert-clause-room : goal.returns-in_ok-insert-clause-room
-returns-in_ok-insert-clause-room c = subst (λ k. IsTrue (has_place c.insert.new.self k)) c.in_ok-key.ensures (ap is_some (put_there c.self.inside.slots c.insert.new.self c.in_ok-key.key Reserved c.in_ok-insert.ensures.done))
+returns-in_ok-insert-clause-room c = subst (λ k. IsTrue (has_key c.insert.new.self k)) c.in_ok-key.ensures (ap is_some (put_there c.self.inside.slots c.insert.new.self c.in_ok-key.key Reserved c.in_ok-insert.ensures.done))
 
 pub returns-in_ok-insert-clause-places : goal.returns-in_ok-insert-clause-places
 returns-in_ok-insert-clause-places c = λ q. rw (← c.self.view_is) (keys_stay c.self.inside.slots c.insert.new.self c.in_ok-key.key Reserved c.in_ok-insert.ensures.done q)

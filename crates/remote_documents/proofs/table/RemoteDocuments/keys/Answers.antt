@@ -2,7 +2,7 @@ use Rattle.std.proofs.Common.{◌∙◌, ◌↔◌, ◌+◌, List, ℕ, IsTrue, 
 use Rattle.std.specs.List.{Contains}
 use Rattle.std.proofs.lemmas.List.{take_all}
 use Rattle.document_keys.specs.KeySet.{Inserts}
-use Rattle.remote_documents.specs.Table.{has_place}
+use Rattle.key_table.specs.Table.{has_key}
 use Rattle.remote_documents.proofs.Listing.{AreHeld, all_held, gathered, left_out, none_yet}
 use Rattle.remote_documents.proofs.table.RemoteDocuments.keys.Goals as goal
 use Rattle.remote_documents.proofs.table.RemoteDocuments.keys.Goals.{then-has_entry+in_ok-copy+in_ok-insert, else-has_entry}
@@ -26,5 +26,5 @@ loop-key-preserved c =
 pub returns : goal.returns
 returns c =
     let whole = take_all c.loop-key.key-index c.as_slice-key-items.result.now c.loop-key-test.false ∙ c.as_slice-key-items.ensures in
-    let places = λ (q : List (List ℕ)). subst (λ t. Contains c.in_ok-places.places q ↔ IsTrue (has_place t q)) c.self.view_is (c.in_ok-places.ensures q) in
+    let places = λ (q : List (List ℕ)). subst (λ t. Contains c.in_ok-places.places q ↔ IsTrue (has_key t q)) c.self.view_is (c.in_ok-places.ensures q) in
     all_held c.args.self.now c.in_ok-places.places c.loop-key.keys places (subst (λ l. AreHeld c.args.self.now l c.loop-key.keys) whole c.loop-key.invariant)

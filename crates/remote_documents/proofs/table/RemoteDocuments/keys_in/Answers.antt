@@ -6,7 +6,8 @@ use Rattle.std.proofs.lemmas.List.Kept.{AllPairs-filter}
 use Rattle.document_keys.specs.Order.{PathBefore}
 use Rattle.value_model.specs.Documents.{IsIn}
 use Rattle.key_table.proofs.Listing.{passing_members}
-use Rattle.remote_documents.specs.Table.{entry_of, has_place}
+use Rattle.key_table.specs.Table.{has_key}
+use Rattle.remote_documents.specs.Table.{entry_of}
 use Rattle.remote_documents.proofs.Tables.{has_from_entry}
 use Rattle.remote_documents.proofs.table.RemoteDocuments.keys_in.Goals as goal
 
@@ -21,4 +22,4 @@ returns-clause-members c =
     let test = λ (q : List (List ℕ)). is_some (entry_of c.args.self.now q) in
     let kept : c.retain.new.self.items ≡ filter test c.in_ok-keys.keys.items = filter_same _ test _ (λ x b f' called. search rules) c.in_ok-keys.keys.items c.retain.new.self.items c.retain.ensures.filtered in
     passing_members test c.self.inside.slots (IsIn c.args.collection.now) c.in_ok-keys.keys.items c.retain.new.self.items kept c.in_ok-keys.ensures.members
-    (λ q some. subst (λ t. IsTrue (has_place t q)) (sym c.self.view_is) (has_from_entry c.args.self.now q some))
+    (λ q some. subst (λ t. IsTrue (has_key t q)) (sym c.self.view_is) (has_from_entry c.args.self.now q some))
