@@ -1,9 +1,9 @@
 -- Payloads lent as spans of one buffer.
-use Rattle.std.proofs.Common.{◌≡◌, ℕ, ◌+◌, ◌-◌, ◌^◌, ◌≤◌, ◌<◌, List, [], ◌∷◌, ◌++◌, length, map, take, drop, zero, suc, Some, refl, ap, sym, ◌∙◌, subst, arith, add-one, append_assoc, length-append, length-drop}
+use Rattle.std.proofs.Common.{◌≡◌, ℕ, ◌+◌, ◌-◌, ◌^◌, ◌≤◌, ◌<◌, List, [], ◌∷◌, ◌++◌, length, map, min, take, drop, zero, suc, Some, refl, ap, sym, ◌∙◌, subst, arith, add-one, append_assoc, length-append, length-drop}
 use Rattle.std.specs.Prelude.{All, flat_map}
 use Rattle.std.specs.List.{slice_get}
 use Rattle.std.proofs.Math.Seq.{drop-append_seam, take-length}
-use Rattle.std.proofs.lemmas.List.{drop-append-le, drop-map, map-append, take-append-drop, take-append-le, take_more}
+use Rattle.std.proofs.lemmas.List.{drop-append-le, drop-map, drop_min, map-append, take-append-drop, take-append-le, take_more}
 use Rattle.std.proofs.lemmas.List.Elements.{All-append, All-cons, All-head, All-nil, All-push, All-tail, All-weaker}
 use Rattle.std.proofs.lemmas.Option.{get_or_from_slice_get, slice_get_within}
 use Rattle.disk_journal.specs.declared.payloads.Span.{Span}
@@ -113,5 +113,10 @@ next_behind zero spans = refl
 next_behind (suc behind) [] = refl
 next_behind (suc behind) (span ∷ spans) = next_behind behind spans
 
-pub behind_lent_first : (file : List ℕ) (behind : ℕ) (spans : List Span) → map (lent file) (drop (behind + 1) spans) ≡ drop 1 (map (lent file) (drop behind spans))
-behind_lent_first file behind spans = ap (λ n. map (lent file) (drop n spans)) (add-one behind) ∙ ap (map (lent file)) (next_behind behind spans) ∙ sym (drop-map (lent file) 1 (drop behind spans))
+pub behind_lent_first : (file : List ℕ) (behind : ℕ) (spans : List Span) (next : ℕ) → next ≡ min (behind + 1) (length spans) → map (lent file) (drop next spans) ≡ drop 1 (map (lent file) (drop behind spans))
+behind_lent_first file behind spans next is =
+    ap (λ n. map (lent file) (drop n spans)) is
+    ∙ ap (map (lent file)) (drop_min (behind + 1) spans)
+    ∙ ap (λ n. map (lent file) (drop n spans)) (add-one behind)
+    ∙ ap (map (lent file)) (next_behind behind spans)
+    ∙ sym (drop-map (lent file) 1 (drop behind spans))

@@ -97,23 +97,8 @@ impl Payloads {
     pub fn behind_first(self, alloc: Global) -> Result<Payloads, AllocError>
         ensures { IfOk result (λ rest. rest ≡ drop 1 self) }
     {
-        let Payloads {
-            file,
-            spans,
-            behind,
-        } = self;
-        if behind == spans.len() {
-            return Ok(Payloads {
-                file,
-                spans,
-                behind,
-            });
-        }
-        let rest = Payloads {
-            file,
-            spans,
-            behind: behind + 1,
-        };
+        let mut rest = self;
+        rest.behind = (rest.behind + 1).min(rest.spans.len());
         if rest.size() < rest.file.len() / 2 {
             return rest.moved(alloc);
         }

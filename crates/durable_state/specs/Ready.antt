@@ -1,6 +1,6 @@
 -- A commit that is made ready: all memory that it needs is taken.
-use Rattle.std.specs.Prelude.{◌≡◌, ℕ, ◌+◌, ◌<◌, ◌≤◌, List, [], ◌∷◌, ◌++◌, drop, length, map as each, fold, false, IsTrue, Option, Some, None, if◌then◌else◌}
-use Rattle.std.specs.List.{All, Contains}
+use Rattle.std.specs.Prelude.{◌≡◌, ℕ, ◌+◌, ◌<◌, ◌≤◌, List, [], ◌∷◌, ◌++◌, drop, length, map as each, fold, false, not, IsTrue, Option, Some, None, if◌then◌else◌}
+use Rattle.std.specs.List.{All, Contains, filter}
 use Rattle.document_keys.specs.KeySet.{is_key}
 use Rattle.value_model.specs.declared.document.Document.{Document}
 use Rattle.value_model.specs.declared.document.Entry.{Entry}
@@ -19,7 +19,7 @@ use Rattle.remote_documents.specs.Table as remote
 use Rattle.target_cache.specs.Cache.{Cache, blank, id_at}
 use Rattle.target_cache.specs.Kept.{IsNew}
 use Rattle.target_cache.specs.declared.row.Row.{Row}
-use Rattle.durable_state.specs.Cached.{Changed, dropped, with_all}
+use Rattle.durable_state.specs.Cached.{Changed, cached, dropped, with_all}
 use Rattle.durable_state.specs.Documents.{document_of, is_among, is_named}
 use Rattle.durable_state.specs.Rows.{HasRow, blanked, told}
 use Rattle.durable_state.specs.State.{State, most_commits}
@@ -142,6 +142,23 @@ pub record IsOver (batches : List Batch) (changes : List KeyedEntry) (o : Overla
   pub one : Contains changes change
   pub of_key : o.key ≡ change.key
   pub document : o.document ≡ local_document change.key (base_of (Some change.entry)) batches
+
+-- of the keys that writes name, those that batches name as well
+abbrev pub keys_still_named : List Batch → List Write → List (List (List ℕ))
+keys_still_named batches writes = filter (is_among (queue.named_keys batches)) (first_keys writes)
+
+-- and those that no batch names
+abbrev pub keys_named_no_more : List Batch → List Write → List (List (List ℕ))
+keys_named_no_more batches writes =
+    filter (λ key. not (is_among (queue.named_keys batches) key)) (first_keys writes)
+
+-- the overlays of the former, over the entries that the changes leave, whatever seal these get
+abbrev pub LaysStillNamed : overlay.Table → remote.EntryMap → List KeyedEntry → List Batch → List Write
+    → List Overlay → Type 0
+LaysStillNamed table entries changes batches writes overlays = (seal : Seal) → LaysKeys table
+    (HasDocument (λ key. local_document key
+    (base_of (cached (with_all entries (put_changes seal changes)) key)) batches))
+    (keys_still_named batches writes) overlays
 
 -- a key that the batches name got an overlay over the entry, with a place; any other one is taken away
 pub data Settles (table : overlay.Table) (batches : List Batch) (key : List (List ℕ)) (entry : Option Entry)

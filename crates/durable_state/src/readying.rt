@@ -188,7 +188,7 @@ pub(crate) fn make_places(
     ensures map { IsMapOf entries.new }
     ensures places { OnOk result (HavePlaces entries.new changes.now) }
 {
-    // there will be one for each: their memory is taken at once, and not in steps that are each copied
+    // where the table has less than these, its memory is taken at once, and not in steps that are each copied
     reserve_places(entries, changes.len())?;
     for change in changes {
         make_place(entries, &change.key)?;

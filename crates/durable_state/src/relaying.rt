@@ -1,17 +1,16 @@
 //! Overlays worked out for a commit, each with a place.
 
-ghost use Rattle.std.specs.Prelude.{◌≡◌, [], drop, not, map as each, None, IsTrue, IfOk, OnOk, option_map};
+ghost use Rattle.std.specs.Prelude.{◌≡◌, [], drop, map as each, None, IsTrue, IfOk, OnOk, option_map};
 ghost use Rattle.std.specs.List.{All, filter};
-ghost use Rattle.value_model.specs.declared.document.Seal.{Seal};
 ghost use Rattle.key_table.specs.Table.{KeepsKeys, has_key};
 ghost use Rattle.mutations.specs.Effect.{IsOfFieldsOnly};
 ghost use Rattle.mutation_queue.specs.Queue.{named_keys};
 ghost use Rattle.overlays.specs.LocalDocument.{after_batch, after_writes, base_of, local_document};
 ghost use Rattle.overlays.specs.Table.{IsBatchOfFields, SameOverlays, shown};
 ghost use Rattle.remote_documents.specs.Table.{IsMapOf, entries_in};
-ghost use Rattle.durable_state.specs.Cached.{cached, first_writes, with_all};
+ghost use Rattle.durable_state.specs.Cached.{cached, first_writes};
 ghost use Rattle.durable_state.specs.Documents.{is_among};
-ghost use Rattle.durable_state.specs.Ready.{HasDocument, IsOver, LaysKeys, Settles, first_keys, put_changes};
+ghost use Rattle.durable_state.specs.Ready.{HasDocument, IsOver, LaysKeys, LaysStillNamed, Settles, first_keys, keys_named_no_more};
 
 use crate::news::News;
 use crate::readying::{known, known_after};
@@ -242,15 +241,10 @@ fn settle_each<'a>(
     requires fields { All IsBatchOfFields pending.now.batches }
     requires map { IsMapOf entries.now }
     ensures same { SameOverlays overlays.old overlays.new }
-    ensures laid { IfOk result (λ relaid. (seal : Seal) → LaysKeys overlays.new
-        (HasDocument (λ key. local_document key
-        (base_of (cached (with_all (entries_in entries.now) (put_changes seal news.now)) key))
-        (drop 1 pending.now.batches)))
-        (filter (is_among (named_keys (drop 1 pending.now.batches)))
-        (first_keys keyed.now)) relaid.laid.items) }
-    ensures lifted { IfOk result (λ relaid. relaid.lifted.items ≡
-        filter (λ key. not (is_among (named_keys (drop 1 pending.now.batches)) key))
-        (first_keys keyed.now)) }
+    ensures laid { IfOk result (λ relaid. LaysStillNamed overlays.new (entries_in entries.now)
+        news.now (drop 1 pending.now.batches) keyed.now relaid.laid.items) }
+    ensures lifted { IfOk result (λ relaid. relaid.lifted.items
+        ≡ keys_named_no_more (drop 1 pending.now.batches) keyed.now) }
 {
     let mut relaid = Relaid::none(alloc);
     let writes = keyed.as_slice();
@@ -279,15 +273,11 @@ pub(crate) fn lay_behind(
     requires fields { All IsBatchOfFields pending.now.batches }
     requires map { IsMapOf entries.now }
     ensures same { SameOverlays overlays.old overlays.new }
-    ensures laid { IfOk result (λ relaid. (seal : Seal) → LaysKeys overlays.new
-        (HasDocument (λ key. local_document key
-        (base_of (cached (with_all (entries_in entries.now) (put_changes seal changes.now)) key))
-        (drop 1 pending.now.batches)))
-        (filter (is_among (named_keys (drop 1 pending.now.batches)))
-        (first_keys (first_writes pending.now.batches))) relaid.laid.items) }
-    ensures lifted { IfOk result (λ relaid. relaid.lifted.items ≡
-        filter (λ key. not (is_among (named_keys (drop 1 pending.now.batches)) key))
-        (first_keys (first_writes pending.now.batches))) }
+    ensures laid { IfOk result (λ relaid. LaysStillNamed overlays.new (entries_in entries.now)
+        changes.now (drop 1 pending.now.batches) (first_writes pending.now.batches)
+        relaid.laid.items) }
+    ensures lifted { IfOk result (λ relaid. relaid.lifted.items
+        ≡ keys_named_no_more (drop 1 pending.now.batches) (first_writes pending.now.batches)) }
 {
     let Some(first) = pending.first() else {
         return Ok(Relaid::none(alloc));

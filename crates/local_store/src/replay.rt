@@ -12,7 +12,7 @@ use record_codec::{Commit, decode};
 use std::alloc::Global;
 
 /// Makes the commit where it fits, and tells whether it does.
-fn make(alloc: Global, tables: &mut DurableState, commit: Commit) -> Result<bool, NoMemory>
+fn make_if_fits(alloc: Global, tables: &mut DurableState, commit: Commit) -> Result<bool, NoMemory>
     requires { HasSpelling commit }
     ensures made { IfOk result (λ fits. IsTrue fits → Fits (state_in tables.old) commit
         × (state_in tables.new ≡ committed (state_in tables.old) commit)) }
@@ -47,7 +47,7 @@ fn replay_each(
             return Ok(false);
         };
         rest = rest.behind_first(alloc)?;
-        let fits = make(alloc, tables, commit)?;
+        let fits = make_if_fits(alloc, tables, commit)?;
         if !fits {
             return Ok(false);
         }

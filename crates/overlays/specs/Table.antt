@@ -2,8 +2,8 @@
 use Rattle.std.specs.Prelude.{◌≡◌, ℕ, List, Option, Some, None, option_and_then, unwrap_or, if◌then◌else◌}
 use Rattle.std.specs.Coded.{Coded, coded×, coded_list, coded_ℕ}
 use Rattle.std.specs.List.{All}
-use Rattle.std.specs.Map.{lookup}
 use Rattle.document_keys.specs.KeySet.{is_key}
+use Rattle.key_table.specs.Table.{Pairs, value_at}
 use Rattle.value_model.specs.declared.document.Document.{Document}
 use Rattle.mutations.specs.declared.batch.Batch.{Batch}
 use Rattle.mutations.specs.Effect.{IsOfFieldsOnly}
@@ -13,7 +13,7 @@ use Rattle.overlays.specs.declared.slot.Slot.TheVariants.{Reserved, Laid}
 
 -- the places of the table by key, in an order that is left open: each is made for an overlay, or holds one
 abbrev pub Table : Type 0
-Table = List (List (List ℕ) × Slot)
+Table = Pairs Slot
 
 abbrev pub table_code : Coded Table
 table_code = coded_list (coded× (coded_list (coded_list coded_ℕ)) slot.the_row.coded)
@@ -25,7 +25,7 @@ laid (Laid document) = Some document
 
 -- the overlay of a key: its document, or that there is none
 abbrev pub overlay_of : Table → List (List ℕ) → Option (Option Document)
-overlay_of table key = option_and_then laid (lookup (is_key key) table)
+overlay_of table key = option_and_then laid (value_at table key)
 
 -- the document of a key that has this one without an overlay
 abbrev pub shown : Table → List (List ℕ) → Option Document → Option Document

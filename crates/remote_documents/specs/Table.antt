@@ -5,9 +5,9 @@ use Rattle.std.specs.Cmp.Lexicographic.{slice_cmp}
 use Rattle.std.specs.Coded.{Coded, coded×, coded_list, coded_ℕ}
 use Rattle.std.specs.FinMap as map
 use Rattle.std.specs.List.{filter_map}
-use Rattle.std.specs.Map.{lookup}
 use Rattle.std.specs.Ordering.{nat_cmp}
 use Rattle.document_keys.specs.KeySet.{is_key}
+use Rattle.key_table.specs.Table.{Pairs, value_at}
 use Rattle.value_model.specs.declared.document.Entry.{Entry}
 use Rattle.value_model.specs.declared.document.Seal.{Seal}
 use Rattle.remote_documents.specs.contracts.slot.Slot as slot
@@ -16,7 +16,7 @@ use Rattle.remote_documents.specs.declared.slot.Slot.TheVariants.{Reserved, Held
 
 -- the places of the table by key, in an order that is left open: each is made for an entry, or holds one
 abbrev pub Table : Type 0
-Table = List (List (List ℕ) × Slot)
+Table = Pairs Slot
 
 abbrev pub table_code : Coded Table
 table_code = coded_list (coded× (coded_list (coded_list coded_ℕ)) slot.the_row.coded)
@@ -28,7 +28,7 @@ held (Held entry seal) = Some (entry, seal)
 
 -- the entry of a key, with its seal
 abbrev pub entry_of : Table → List (List ℕ) → Option (Entry × Seal)
-entry_of table key = option_and_then held (lookup (is_key key) table)
+entry_of table key = option_and_then held (value_at table key)
 
 -- entries with their seals, by key, as a finite map
 abbrev pub EntryMap : Type 0
