@@ -6,7 +6,7 @@ ghost use Rattle.line_printer.specs.Lines.{document_tree, line_of};
 ghost use Rattle.local_store.specs.Documents.{document_of, standing_of};
 ghost use Rattle.client_turns.specs.Asking.{IsAddLine, IsListenLine};
 ghost use Rattle.client_turns.specs.Lines.{Line};
-ghost use Rattle.sync_engine.specs.Standing.{IsStanding};
+ghost use Rattle.sync_engine.specs.Standing.{IsLive, IsStanding};
 ghost use Rattle.sync_engine.specs.Telling.{IsRaised, IsSent, IsShown};
 ghost use Rattle.client_run.specs.Printed.{printed, rule_number as rule_number_of, text_of, tree_of, unheard_tree, unread_tree};
 ghost use Rattle.client_run.specs.Taken.{AreShown, IsHeard, Tells};
@@ -94,6 +94,7 @@ fn print_document(
 
 /// The last snapshot of the listener of the id.
 fn print_raised(alloc: Global, client: &Client, id: u32) -> Result<String, NoMemory>
+    requires live { IsLive client.now }
     requires standing { IsStanding client.now }
     requires raised { (line : Line) × IsRaised client.now id line }
     ensures { IfOk result (λ text. (line : Line) → IsRaised client.now id line
@@ -162,6 +163,7 @@ fn print_limbo_added(alloc: Global, client: &Client, id: i32) -> Result<String, 
 
 /// A line that was handed out.
 fn print_out(alloc: Global, client: &Client, out: &Out) -> Result<String, NoMemory>
+    requires live { IsLive client.now }
     requires standing { IsStanding client.now }
     requires shown { (line : Line) × IsShown client.now out.now line }
     ensures { IfOk result (λ text. (line : Line) → IsShown client.now out.now line
@@ -197,6 +199,7 @@ fn print_out(alloc: Global, client: &Client, out: &Out) -> Result<String, NoMemo
 
 /// Lines that were handed out, one after another.
 fn print_outs(alloc: Global, client: &Client, outs: &[Out]) -> Result<String, NoMemory>
+    requires live { IsLive client.now }
     requires standing { IsStanding client.now }
     requires shown { (lines : List Line) × AreShown client.now outs.now lines }
     ensures { IfOk result (λ text. (lines : List Line) → AreShown client.now outs.now lines
@@ -218,6 +221,7 @@ fn print_refused(
     refusal: &Refusal,
     outs: &[Out],
 ) -> Result<String, NoMemory>
+    requires live { IsLive client.now }
     requires standing { IsStanding client.now }
     requires shown { (lines : List Line) × AreShown client.now outs.now lines }
     ensures { IfOk result (λ text. (lines : List Line) → AreShown client.now outs.now lines
@@ -237,6 +241,7 @@ fn print_outcome(
     number: u64,
     outcome: &Outcome,
 ) -> Result<String, NoMemory>
+    requires live { IsLive client.now }
     requires standing { IsStanding client.now }
     requires told { (t : LineTurn) × IsHeard outcome.now client.now t }
     ensures { IfOk result (λ text. (t : LineTurn) → IsHeard outcome.now client.now t
@@ -257,6 +262,7 @@ pub fn print_taken(
     number: u64,
     taken: &Taken,
 ) -> Result<String, NoMemory>
+    requires live { IsLive client.now }
     requires standing { IsStanding client.now }
     requires told { (t : LineTurn) × Tells taken.now client.now t }
     ensures { IfOk result (λ text. (t : LineTurn) → Tells taken.now client.now t

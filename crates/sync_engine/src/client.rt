@@ -1,4 +1,4 @@
-ghost use Rattle.std.specs.Prelude.{◌≡◌, ◌↔◌, [], IsTrue, IsErr, IfErr, IfOk, IsErrOf, OnOk, option_map};
+ghost use Rattle.std.specs.Prelude.{◌≡◌, ◌↔◌, [], None, IsTrue, IsErr, IfErr, IfOk, IsErrOf, OnOk, option_map};
 ghost use Rattle.disk_journal.specs.Steps.{Opens, SettlesFirst};
 ghost use Rattle.host_api.specs.Counts.{RisesAt};
 ghost use Rattle.host_api.specs.Host.{KeepsOut};
@@ -101,8 +101,8 @@ impl Client {
         })
     }
 
-    /// Takes the turn of an event: what it commits is on the disk before this answers. The client stands for what it has heard, as it
-    /// does once it is open and behind each event.
+    /// Takes the turn of an event: what it commits is on the disk before this answers. A client that isn't spent stands for what it
+    /// has heard, as it does once it is open and behind each event that it took.
     ///
     /// # Errors
     /// `Spent` exactly where the client is spent: nothing was done. `DiskFault` only where the count of disk faults rose, and
@@ -114,7 +114,7 @@ impl Client {
         event: Event,
     ) -> Result<Outcome, ClientFault>
         requires stored { IsTrue H.tells_files → IsStored self.old.store (H.view host.old) }
-        requires stands { IsStanding self.old }
+        requires stands { ¬ (IsSpent self.old) → IsStanding self.old }
         requires spelled { IsSpelledEvent event }
         ensures turn { IfOk result (λ outcome. (s : State) (past : Past) → StandsFor self.old s past
             → HandsOut s past event outcome self.new) }
@@ -180,11 +180,16 @@ impl Client {
         self.limbo.key_of(id)
     }
 
-    /// The last snapshot of the listener of the id, lent; `None` exactly where there is no such listener, or it has raised none.
+    /// The last snapshot of the listener of the id, lent; `None` exactly where there is no such listener, or it has raised none, or
+    /// the client is spent.
     pub fn snapshot(&self, id: u32) -> Option<Snapshot<'_, LocalStore>>
-        requires { IsStanding self.now }
-        ensures { Lends self.now id result }
+        requires { ¬ (IsSpent self.now) → IsStanding self.now }
+        ensures lends { ¬ (IsSpent self.now) → Lends self.now id result }
+        ensures spent { IsSpent self.now → result ≡ None }
     {
+        if self.spent {
+            return None;
+        }
         let view = self.listeners.view(id)?;
         if !view.has_raised() {
             return None;

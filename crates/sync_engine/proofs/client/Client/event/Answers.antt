@@ -1,4 +1,5 @@
-use Rattle.std.proofs.Common.{true, false, sym, subst}
+use Rattle.std.proofs.Common.{true, false, ap, sym, subst, ◌∙◌}
+use Rattle.std.proofs.lemmas.Bool.{false≢true}
 use Rattle.local_store.specs.Store.{IsStored}
 use Rattle.sync_engine.specs.Standing.{Kept, StandsFor}
 use Rattle.sync_engine.specs.Telling.{HandsOut}
@@ -14,4 +15,6 @@ returns-clause-turn g c = λ s past stands.
     (c.in_ok-outcome.ensures.turn s past (stands_still true (subst (λ (k : Kept). StandsFor k s past) (sym c.self.view_is) stands))))
 
 pub turn-requires-clause-standing : goal.turn-requires-clause-standing
-turn-requires-clause-standing g c = let it = c.requires.stands in (it.0, (it.1.0, stands_still true (subst (λ (k : Kept). StandsFor k it.0 it.1.0) (sym c.self.view_is) it.1.1)))
+turn-requires-clause-standing g c =
+    let it = c.requires.stands (λ spent. false≢true (sym c.if-self.false ∙ ap (λ (k : Kept). k.spent) c.self.view_is ∙ spent)) in
+    (it.0, (it.1.0, stands_still true (subst (λ (k : Kept). StandsFor k it.0 it.1.0) (sym c.self.view_is) it.1.1)))
