@@ -187,11 +187,8 @@ impl Client {
         ensures lends { ¬ (IsSpent self.now) → Lends self.now id result }
         ensures spent { IsSpent self.now → result ≡ None }
     {
-        if self.spent {
-            return None;
-        }
         let view = self.listeners.view(id)?;
-        if !view.has_raised() {
+        if self.spent || !view.has_raised() {
             return None;
         }
         Some(view.snapshot(&self.store))
