@@ -27,7 +27,8 @@ is_told_dropped (Some (Drop keys ids)) past t =
     && (counts t (calls_of past) && list_any (is_among (told_keys t (calls_of past))) keys)
 is_told_dropped _ past t = false
 
--- the event resets the target: it is a filter whose count isn't the number of told keys, or it drops a key that is the target's
+-- The event resets the target: it is a filter whose count isn't the number of told keys, or it drops keys and makes the target's row
+-- blank, or the target is the listen of a document in limbo that was told one of these.
 abbrev pub resets_by : Event → Option Commit → Past → ℤ → Bool
 resets_by (event.Watch response) commit past t =
     is_mismatch (calls_of past) response t || (is_dropped_by commit t || is_told_dropped commit past t)

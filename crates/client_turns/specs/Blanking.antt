@@ -7,7 +7,8 @@ use Rattle.outcome_codec.specs.Spelling.{AreSpelledIds}
 use Rattle.record_codec.specs.declared.commit.Commit.TheVariants.{Reset}
 use Rattle.client_turns.specs.Hearing.{IsAnyHeld}
 
--- the rows may be made blank by a commit: each id has a row, one of these holds something, and a number is left
+-- the rows may be made blank by a commit: each id has a row, one of these holds something, a number is left, and the ids have a
+-- spelling
 pub record IsBlanking (s : State) (ids : List ℕ) : Type 0 where
   pub known : All (HasRow s.rows) ids
   pub held : IsAnyHeld s.rows ids

@@ -66,7 +66,7 @@ pub record AreMovedBy (client : Kept) (keys : List Key) (targets : List ℤ) (id
   pub concerned : (key : Key) → Contains keys key → (id : ℕ) → IsConcerned client.listeners key id → Contains ids id
   pub linked : (id : ℕ) (t : ℤ) → Contains targets t → target_of client.listeners id ≡ Some t → Contains ids id
 
--- targets ended, and the rows of others were made blank; these are to be removed and added again
+-- targets ended, and rows were made blank, those of ended ones among them; the resets are to be removed and added again
 pub record Drops (ended blanked resets : List ℤ) (old new : WatchStream) : Type 0 where
   pub opening : new.is_open ≡ old.is_open
   pub aggregator : new.aggregator ≡ old.aggregator
