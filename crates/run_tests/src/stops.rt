@@ -27,7 +27,7 @@ fn has_write_again(alloc: Global, host: &MemHost) -> Result<bool, Fail> {
 }
 
 // how many calls the run of one write takes
-fn last_call(rt: &(impl Abort + AllocGlobal)) -> Result<u64, Fail> {
+pub(crate) fn last_call(rt: &(impl Abort + AllocGlobal)) -> Result<u64, Fail> {
     let mut host = empty_host(rt.alloc())?;
     assert!(rt; run_lines(rt.alloc(), &[WRITE], &mut host)? == Status::Done);
     Ok(host.calls())
