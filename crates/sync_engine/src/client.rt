@@ -122,6 +122,7 @@ impl Client {
         ensures spends { IsSpent self.new ↔ IsErr result }
         ensures live { OnOk result (IsLive self.new) }
         ensures untouched { IsErrOf result ClientFault.Spent → host.new ≡ host.old }
+        ensures unchanged { IsErrOf result ClientFault.Spent → self.new ≡ self.old }
         ensures root { self.new.root ≡ self.old.root }
         ensures stored { IsTrue H.tells_files → IsStored self.new.store (H.view host.new) }
         ensures files { IsTrue H.tells_files → ¬ (IsSpent self.old)
