@@ -10,7 +10,7 @@ pub record Place : Type 0 where
   pub generation : ℕ
   pub end : ℕ
 
--- The counting file has these payloads, and both files are on the disk.
+-- The counting file has these payloads, the other one is blank or outranked by it, and both are on the disk.
 pub record IsOpen (place : Place) (payloads : List (List ℕ)) (v : View) : Type 0 where
   pub counts : IsFile place.generation payloads place.end (v.bytes place.file)
   pub below : IsBelow place.file place.generation (v.bytes (other place.file))

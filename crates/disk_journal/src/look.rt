@@ -1,4 +1,4 @@
-ghost use Rattle.std.specs.Prelude.{◌≡◌, ℕ, ◌^◌, ◌≤◌, length, IsTrue, IfOk, IfErr, IsErrOf};
+ghost use Rattle.std.specs.Prelude.{◌≡◌, ◌^◌, ◌≤◌, length, IsTrue, IfOk, IfErr, IsErrOf};
 ghost use Rattle.host_api.specs.Counts.{Counts, RisesAt};
 ghost use Rattle.host_api.specs.Host.{KeepsOut, Stays, IsOnDisk};
 ghost use Rattle.host_api.specs.declared.host.FileId.{FileId};

@@ -12,7 +12,7 @@ use Rattle.outcome_codec.specs.declared.parts.KeyedEntry.{KeyedEntry}
 use Rattle.key_table.specs.Table.{KeepsKeys, has_key}
 use Rattle.remote_documents.specs.Table.{EntryMap, Table, Changes, IsMapOf, entries_in}
 use Rattle.remote_documents.proofs.Maps.{get_with, get_without, one_map}
-use Rattle.durable_state.specs.Cached.{Changed, cached, dropped, with_all, with_changed}
+use Rattle.durable_state.specs.Cached.{Changed, dropped, with_all, with_changed}
 use Rattle.durable_state.specs.Ready.{HavePlaces, put_change, put_changes}
 
 -- what a key has after one change

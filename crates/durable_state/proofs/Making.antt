@@ -9,7 +9,6 @@ use Rattle.key_table.specs.Table.{has_key}
 use Rattle.mutations.specs.declared.results.WriteResult.{WriteResult}
 use Rattle.mutations.specs.declared.write.Write.{Write}
 use Rattle.outcome_codec.specs.declared.parts.KeyedEntry.{KeyedEntry}
-use Rattle.overlays.specs.Table as overlay
 use Rattle.overlays.specs.declared.overlays.Overlay.{Overlay}
 use Rattle.remote_documents.specs.Table as remote
 use Rattle.record_codec.specs.declared.commit.Commit.TheVariants.{Acknowledge}

@@ -19,7 +19,7 @@ note_of entry = record { number = entry.number; step = step_of entry.step }
 abbrev pub notes_of : List Entry → List Note
 notes_of entries = map note_of entries
 
--- a write ends where a file still can
+-- a write ends below 2^64
 abbrev pub EndsWithin : Step → Type 0
 EndsWithin (emit piece) = Unit {0}
 EndsWithin (write file at piece done) = at + length piece < 2 ^ 64
@@ -27,7 +27,7 @@ EndsWithin (cut file len done) = Unit {0}
 EndsWithin (sync file) = Unit {0}
 
 -- What is kept beside the past: the output and the files as they read now. No call has a number above their count,
--- and no write ends past 2^64.
+-- and each write ends below 2^64.
 pub record IsKept (past : Past) (files : Files) (out : List ℕ) : Type 0 where
   pub numbered : All (λ note. note.number ≤ past.calls) past.notes
   pub within : All (λ note. EndsWithin note.step) past.notes

@@ -1,4 +1,4 @@
-ghost use Rattle.std.specs.Prelude.{◌≡◌, ◌≤◌, length, take, OnOk, OnErr, if◌then◌else◌};
+ghost use Rattle.std.specs.Prelude.{◌≡◌, take, OnOk, OnErr, if◌then◌else◌};
 ghost use Rattle.host_api.specs.Host.{OnFile, over};
 ghost use Rattle.host_api.specs.Contents.{held, SameContents};
 

@@ -1,4 +1,4 @@
-ghost use Rattle.std.specs.Prelude.{◌≡◌, ◌≤◌, ◌<◌, ◌⊎◌, false, [], length, drop, IsTrue, MatchBool, MatchOption, IfOk, OnErr, IfErr, IsErrOf};
+ghost use Rattle.std.specs.Prelude.{◌≡◌, ◌≤◌, ◌<◌, ◌⊎◌, false, [], length, drop, IsTrue, MatchBool, MatchOption, IfOk, OnErr, IsErrOf};
 ghost use Rattle.host_api.specs.Items.{split, item_of, Next, IsSuffix};
 ghost use Rattle.host_api.specs.Counts.{SourceCounts};
 ghost use Rattle.host_api.specs.Front.{IsFront};

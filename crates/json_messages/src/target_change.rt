@@ -1,6 +1,6 @@
 //! Changes of targets, and how many documents one has.
 
-ghost use Rattle.std.specs.Prelude.{◌≡◌, IfOk, IfSome};
+ghost use Rattle.std.specs.Prelude.{IfOk, IfSome};
 ghost use Rattle.serde_json.specs.View.{view, members_view};
 ghost use Rattle.value_model.specs.Storable.{AreStorableBytes};
 ghost use Rattle.value_model.specs.Time.{IsMoment};

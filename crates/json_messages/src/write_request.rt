@@ -4,7 +4,6 @@ ghost use Rattle.std.specs.Prelude.{◌≡◌, [], ◌∷◌, false, IfOk, codes
 ghost use Rattle.serde_json.specs.Data.{string};
 ghost use Rattle.serde_json.specs.View.{view, items_view, members_view};
 ghost use Rattle.serde_json.specs.Written.{has_float};
-ghost use Rattle.document_keys.specs.Names.{root_text};
 ghost use Rattle.json_model.specs.Forms.{present, printed_each, unless_empty as unless_empty_of};
 ghost use Rattle.json_model.specs.Trees.{one};
 ghost use Rattle.json_rpc.specs.Printed.{printed_write};

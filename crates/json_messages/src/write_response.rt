@@ -1,6 +1,6 @@
 //! Messages of a write stream.
 
-ghost use Rattle.std.specs.Prelude.{◌≡◌, [], IfOk, IfErr, Some};
+ghost use Rattle.std.specs.Prelude.{[], IfOk, IfErr, Some};
 ghost use Rattle.serde_json.specs.View.{view, members_view};
 ghost use Rattle.json_model.specs.Clean.{IsClean, AreClean};
 ghost use Rattle.json_model.specs.Faults.{IsFault, max_nesting};

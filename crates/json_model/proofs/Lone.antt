@@ -8,7 +8,6 @@ use Rattle.serde_json.specs.Data.{Data as Tree, null, boolean, number, string, a
 use Rattle.serde_json.specs.Find.{as_object}
 use Rattle.serde_json.specs.View.{view, members_view}
 use Rattle.serde_json.specs.declared.value.Value.{Value as Json}
-use Rattle.json_model.specs.declared.place.Place.{Place}
 use Rattle.json_model.specs.declared.place.Place.TheVariants as place
 use Rattle.json_model.specs.declared.place.Object.{Object}
 use Rattle.json_model.specs.declared.place.Object.TheVariants as object

@@ -2,7 +2,7 @@
 
 ghost use Rattle.std.specs.Prelude.{◌≡◌, ℕ, ℤ, true, IfOk, IfSome};
 ghost use Rattle.document_keys.specs.Names.{IsKey, name_text};
-ghost use Rattle.serde_json.specs.Data.{boolean, string};
+ghost use Rattle.serde_json.specs.Data.{boolean};
 ghost use Rattle.serde_json.specs.View.{view};
 ghost use Rattle.value_model.specs.Storable.{IsStorableKey, IsStorableName, IsStorableSegment};
 ghost use Rattle.value_model.specs.Time.{IsMoment};

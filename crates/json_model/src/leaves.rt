@@ -1,7 +1,7 @@
 //! The faults of trees that aren't looked into.
 
-ghost use Rattle.std.specs.Prelude.{◌≡◌, ◌≢◌, ◌⊎◌, ◌↔◌, ℕ, ℤ, Bool, Some, None, IsTrue, IfOk, codes, if◌then◌else◌};
-ghost use Rattle.serde_json.specs.Data.{null, boolean, string};
+ghost use Rattle.std.specs.Prelude.{◌≡◌, ◌≢◌, ◌↔◌, ℕ, ℤ, Bool, Some, None, IsTrue, IfOk, codes, if◌then◌else◌};
+ghost use Rattle.serde_json.specs.Data.{boolean, string};
 ghost use Rattle.serde_json.specs.View.{view};
 ghost use Rattle.json_model.specs.declared.fault.JsonFault.TheVariants as json_fault;
 ghost use Rattle.json_model.specs.Ranks.{first_of_least};

@@ -1,4 +1,4 @@
-ghost use Rattle.std.specs.Prelude.{◌≡◌, ◌≢◌, [], ◌∷◌, length, false, codes, IfSome, MatchOption, option_map};
+ghost use Rattle.std.specs.Prelude.{◌≡◌, ◌≢◌, [], ◌∷◌, length, false, IfSome, MatchOption, option_map};
 ghost use Rattle.serde_json.specs.Find.{get_member};
 ghost use Rattle.serde_json.specs.View.{view, members_view};
 ghost use Rattle.json_model.specs.Members.{IsLone, given as given_of, is_vector_map as is_vector_map_of, is_vector as is_vector_of, is_chosen as is_chosen_of, chosen as chosen_of, is_one_known, only_name as only_name_of, lacks_array as lacks_array_of, lacks_choice as lacks_choice_of, is_of_array as is_of_array_of, takes_list as takes_list_of, refined as refined_of};

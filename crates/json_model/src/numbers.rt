@@ -1,6 +1,6 @@
 ghost use Rattle.std.specs.Prelude.{ℕ, ℤ, IfOk, MatchOption};
 ghost use Rattle.serde_json.specs.View.{view};
-ghost use Rattle.json_model.specs.Numbers.{SpellsInteger, SpellsWhole, SpellsShort, SpellsUpTo, IsNumber};
+ghost use Rattle.json_model.specs.Numbers.{SpellsInteger, SpellsWhole, SpellsShort, SpellsUpTo};
 
 use document_keys::NoMemory;
 use serde_json::Value as Json;

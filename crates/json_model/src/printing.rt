@@ -1,16 +1,13 @@
-ghost use Rattle.std.specs.Prelude.{◌≡◌, IfOk, codes, false, map};
+ghost use Rattle.std.specs.Prelude.{◌≡◌, IfOk, codes, false};
 ghost use Rattle.std.specs.String.{string_bytes};
-ghost use Rattle.std.specs.Fmt.{signed_decimal};
 ghost use Rattle.serde_json.specs.View.{view, items_view, members_view};
 ghost use Rattle.serde_json.specs.Data.{boolean as boolean_tree};
 ghost use Rattle.serde_json.specs.Written.{has_float};
 ghost use Rattle.document_keys.specs.Names.{name_text};
 ghost use Rattle.value_model.specs.Data.{items_of, members_of};
-ghost use Rattle.value_model.specs.Time.{time_text};
 ghost use Rattle.json_model.specs.Trees.{one, empty};
 ghost use Rattle.json_model.specs.Printed.{printed_null, printed_text, printed_value, printed_items, printed_members, printed_fields, values_tree, fields_tree};
 ghost use Rattle.json_model.specs.References.{root_of};
-ghost use Rattle.json_model.specs.Bytes.{printed_bytes};
 
 use crate::bytes::print_bytes;
 use document_keys::{Database, NoMemory};

@@ -1,6 +1,6 @@
 //! What texts and names are in memory, shown where it is needed. Nothing is done when these run.
 
-ghost use Rattle.std.specs.Prelude.{◌≡◌, ◌<◌, length, IsUtf8};
+ghost use Rattle.std.specs.Prelude.{◌<◌, length, IsUtf8};
 ghost use Rattle.std.specs.List.{All};
 ghost use Rattle.value_model.specs.Storable.{IsStorableText, IsStorableSegment, IsStorableKey};
 

@@ -1,9 +1,9 @@
 //! The walk through a tree in search of the fault that is reported.
 
-ghost use Rattle.std.specs.Prelude.{◌≡◌, map, IfOk, IfErr, OnOk, [], codes};
+ghost use Rattle.std.specs.Prelude.{◌≡◌, IfOk, codes};
 ghost use Rattle.serde_json.specs.View.{view, items_view, members_view};
 ghost use Rattle.json_model.specs.Ranks.{first_of_least};
-ghost use Rattle.json_model.specs.Faults.{FirstOf, IsFault, FaultsAt, ItemsFaults, MembersFaults, OwnName, Takes, CountsPath, levels_inside as levels_inside_of, own_faults, own_list_faults, depth_faults};
+ghost use Rattle.json_model.specs.Faults.{FirstOf, FaultsAt, ItemsFaults, MembersFaults, OwnName, Takes, CountsPath, levels_inside as levels_inside_of, own_faults, own_list_faults, depth_faults};
 ghost use Rattle.json_model.specs.Members.{given as given_of, lacks_only as lacks_only_of};
 ghost use Rattle.json_model.specs.Places.{required as required_of};
 

@@ -5,7 +5,7 @@ ghost use Rattle.std.specs.List.{All};
 ghost use Rattle.serde_json.specs.View.{view, items_view, members_view};
 ghost use Rattle.value_model.specs.Storable.{IsCountable};
 ghost use Rattle.json_model.specs.Clean.{IsClean, AreClean};
-ghost use Rattle.json_model.specs.Forms.{printed_each, unless_empty as unless_empty_of};
+ghost use Rattle.json_model.specs.Forms.{printed_each};
 ghost use Rattle.json_model.specs.Grammar.{SpellsList};
 ghost use Rattle.json_model.specs.Members.{given};
 ghost use Rattle.json_model.specs.Printed.{printed_value};

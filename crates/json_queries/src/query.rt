@@ -16,7 +16,7 @@ ghost use Rattle.json_model.specs.declared.place.Leaf.TheVariants as leaves;
 ghost use Rattle.json_model.specs.declared.place.Place.TheVariants as places;
 ghost use Rattle.json_model.specs.declared.place.Series.TheVariants as serieses;
 ghost use Rattle.json_queries.specs.Faults.{QueryFaults};
-ghost use Rattle.json_queries.specs.Grammar.{SpellsSelector, SpellsLimit, SpellsStructured, SpellsCollectionIn, SpellsOnlyName, SpellsDocuments, SpellsQueryUnder, SpellsQuery};
+ghost use Rattle.json_queries.specs.Grammar.{SpellsSelector, SpellsLimit, SpellsStructured, SpellsCollectionIn, SpellsOnlyName, SpellsDocuments, SpellsQuery};
 ghost use Rattle.json_queries.specs.Laws.{target_read};
 ghost use Rattle.json_queries.specs.Printed.{target_tree};
 ghost use Rattle.json_queries.specs.Storable.{IsStorableRawCollection, IsStorableRawQuery, IsStorableTarget};

@@ -1,6 +1,6 @@
 //! Transforms.
 
-ghost use Rattle.std.specs.Prelude.{◌≡◌, ℕ, true, false, IfOk, IfSome, Some, codes, option_map};
+ghost use Rattle.std.specs.Prelude.{◌≡◌, true, false, IfOk, IfSome, Some, codes, option_map};
 ghost use Rattle.serde_json.specs.Data.{object, string, no_members, put};
 ghost use Rattle.serde_json.specs.View.{view, items_view};
 ghost use Rattle.value_model.specs.Data.{items_of, integer};

@@ -1,5 +1,5 @@
 -- places by key, one write more
-use Rattle.std.proofs.Common.{◌≡◌, ◌∙◌, ◌+◌, ◌<◌, ◌≤◌, ◌⊎◌, leb, ℕ, inl, inr, Bool, true, false, cond, nat_eq, List, [], length, get_or, slice_set, Some, refl, sym, ap, subst, arith}
+use Rattle.std.proofs.Common.{◌≡◌, ◌∙◌, ◌+◌, ◌<◌, ◌≤◌, ◌⊎◌, leb, ℕ, inl, inr, Bool, true, false, cond, nat_eq, List, length, get_or, slice_set, Some, refl, sym, ap, subst, arith}
 use Rattle.std.specs.Cmp.Lexicographic.{lists_ties, pointwise, slice_cmp, texts_ties}
 use Rattle.std.specs.Map.{lookup}
 use Rattle.std.specs.Option.{unwrap_or}

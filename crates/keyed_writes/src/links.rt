@@ -1,6 +1,6 @@
 //! For each key its first place in a batch, and behind each place the next one of its key.
 
-ghost use Rattle.std.specs.Prelude.{◌≡◌, IfOk};
+ghost use Rattle.std.specs.Prelude.{IfOk};
 ghost use Rattle.keyed_writes.specs.Keyed.{AreLinked};
 
 use document_keys::{DocumentKey, NoMemory};

@@ -73,7 +73,7 @@ fn unsupported_json(alloc: Global, line: u64, member: &str) -> Result<Json, Allo
     json!(in alloc; {"refused": {"cause": "Unsupported", "line": line, "member": member, "number": 3u64}})
 }
 
-/// Number 3: the member isn't supported, or isn't built yet.
+/// Number 3: the member isn't supported.
 ///
 /// # Errors
 /// `NoMemory`

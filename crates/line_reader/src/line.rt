@@ -1,4 +1,4 @@
-ghost use Rattle.std.specs.Prelude.{◌≡◌, ◌≢◌, ℕ, List, IfOk};
+ghost use Rattle.std.specs.Prelude.{◌≢◌, ℕ, List, IfOk};
 ghost use Rattle.host_api.specs.Items.{Bytes, item_of};
 ghost use Rattle.serde_json.specs.View.{view};
 ghost use Rattle.line_reader.specs.Reading.{IsJson, Reads};

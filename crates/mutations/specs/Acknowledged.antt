@@ -36,7 +36,7 @@ settled_by fields (transform ∷ transforms) (returned ∷ results) =
 settled_by fields _ _ = fields
 
 -- The entry that an acknowledged write leaves, at the version that all writes of its document in the batch have. A delete
--- leaves none; an update of all fields leaves these. An update of some fields needs a document of which its precondition
+-- leaves that there is no document; an update of all fields leaves these. An update of some fields needs a document of which its precondition
 -- holds, since what the backend had before isn't known otherwise.
 unfoldable pub acknowledged : Option Entry → Write → WriteResult → Timestamp → Entry
 acknowledged old (Delete key condition) result version = Missing version

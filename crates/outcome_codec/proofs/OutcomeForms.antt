@@ -1,5 +1,5 @@
 -- The forms of results, entries, ids, sets of keys and rows.
-use Rattle.std.proofs.Common.{◌≡◌, ◌≢◌, ◌∙◌, ℕ, ◌^◌, ◌<◌, List, [], ◌∷◌, ◌++◌, Option, refl, sym, arith}
+use Rattle.std.proofs.Common.{◌≡◌, ◌≢◌, ℕ, ◌<◌, List, [], ◌∷◌, Option, refl, sym, arith}
 use Rattle.std.specs.List.{AllPairs}
 use Rattle.document_keys.specs.Order.{PathBefore}
 use Rattle.value_model.specs.Data.{Data, Entries}

@@ -1,5 +1,5 @@
 -- What came of writes and listens, as bytes: the results of a batch's writes, and the entries and rows of a point.
-use Rattle.std.specs.Prelude.{ℕ, ◌<◌, ◌^◌, List, [], ◌∷◌, ◌++◌, IfSome}
+use Rattle.std.specs.Prelude.{ℕ, ◌<◌, ◌^◌, List, ◌∷◌, ◌++◌, IfSome}
 use Rattle.std.specs.List.{AllPairs}
 use Rattle.std.specs.Int.{w32, to_be_bytes}
 use Rattle.document_keys.specs.Order.{PathBefore}

@@ -4,7 +4,6 @@ ghost use Rattle.std.specs.Prelude.{◌≡◌, ◌↔◌, IsTrue};
 ghost use Rattle.value_model.specs.Data as Data;
 ghost use Rattle.std.specs.List.{Contains};
 ghost use Rattle.value_model.specs.Order.{rank};
-ghost use Rattle.value_model.specs.Arrays.{items_in};
 ghost use Rattle.queries.specs.Holding.{IsOutside, Compares, Passes, Meets, MeetsAll, MeetsOne};
 ghost use Rattle.queries.specs.Filters.{filters_of};
 ghost use Rattle.queries.specs.Found.{found_data, standing_at};

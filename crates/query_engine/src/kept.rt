@@ -1,6 +1,6 @@
 //! The first rows of a query, among the keys that were looked at so far.
 
-ghost use Rattle.std.specs.Prelude.{◌≡◌, ◌≢◌, ◌↔◌, ◌≤◌, ◌*◌, AllPairs, IsTrue, IfOk, IfSome, OnOk, length};
+ghost use Rattle.std.specs.Prelude.{◌≢◌, ◌↔◌, ◌*◌, AllPairs, IsTrue, IfOk, OnOk};
 ghost use Rattle.queries.specs.Checked.{IsChecked};
 ghost use Rattle.query_engine.specs.Kept.{TellsRow, IsFull, CutsRows, PutsRow, KeepsFirst};
 

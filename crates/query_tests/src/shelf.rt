@@ -1,6 +1,6 @@
 //! A store of documents in memory.
 
-ghost use Rattle.std.specs.Prelude.{◌≡◌, ◌↔◌, IfOk, OnOk, option_map};
+ghost use Rattle.std.specs.Prelude.{◌≡◌, IfOk, OnOk, option_map};
 ghost use Rattle.query_tests.specs.Shelf.{held_fields, find_in, Takes, KeepsIn};
 
 use document_keys::{CollectionPath, DocumentKey, KeySet, NoMemory};

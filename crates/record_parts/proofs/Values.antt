@@ -6,7 +6,7 @@ use Rattle.std.specs.Str.{IsUtf8}
 use Rattle.std.proofs.lemmas.List.Elements.{All-head, All-tail, All-from_recursion, recursion_from_All}
 use Rattle.document_keys.specs.Paths.{IsFieldName}
 use Rattle.value_model.specs.Data as kind
-use Rattle.value_model.specs.Data.{Data, Items, Members, Entries, items_of, list_of, members_of, entries_of, array_of, map_of, depth, items_depth, members_depth, entries_depth}
+use Rattle.value_model.specs.Data.{Data, Items, Members, Entries, items_of, list_of, members_of, entries_of, array_of, map_of, items_depth, entries_depth}
 use Rattle.value_model.specs.Storable.{IsStorable, AreStorableItems, AreStorableMembers}
 use Rattle.value_model.specs.declared.timestamp.Timestamp.{Timestamp}
 use Rattle.value_model.specs.declared.reference.RefName.{RefName}

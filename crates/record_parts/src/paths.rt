@@ -1,5 +1,5 @@
 ghost use Rattle.std.specs.Prelude.{◌≡◌, ◌++◌, OnOk, IfSome};
-ghost use Rattle.record_parts.specs.Spelling.{text, path, many, opt, AreSpelled, IsNameText, IsSpelledPath};
+ghost use Rattle.record_parts.specs.Spelling.{path, many, opt, AreSpelled, IsNameText, IsSpelledPath};
 ghost use Rattle.record_parts.specs.Reading.{Reads};
 
 use crate::fault::ReadError;

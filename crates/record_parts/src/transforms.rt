@@ -1,4 +1,4 @@
-ghost use Rattle.std.specs.Prelude.{◌≡◌, ◌++◌, length, OnOk};
+ghost use Rattle.std.specs.Prelude.{◌≡◌, ◌++◌, OnOk};
 ghost use Rattle.record_parts.specs.Spelling.{value, change, transform, many, AreSpelled, AreSpelledElements, IsSpelledChange, IsSpelledTransform};
 ghost use Rattle.record_parts.specs.Reading.{Reads};
 

@@ -1,7 +1,6 @@
 //! The turns of messages on the stream of listeners.
 
-ghost use Rattle.std.specs.Prelude.{◌≡◌, ◌↔◌, ◌<◌, ◌<ℤ◌, IsTrue, true, IfErr, IfOk, OnOk, IsErrOf};
-ghost use Rattle.std.specs.List.{AllPairs};
+ghost use Rattle.std.specs.Prelude.{◌≡◌, ◌↔◌, ◌<◌, IsTrue, true, IfOk, OnOk, IsErrOf};
 ghost use Rattle.host_api.specs.Counts.{RisesAt};
 ghost use Rattle.host_api.specs.Host.{KeepsOut};
 ghost use Rattle.client_events.specs.Spelled.{IsSpelledMessage};
@@ -9,18 +8,17 @@ ghost use Rattle.client_events.specs.declared.event.Event.TheVariants as event;
 ghost use Rattle.listen_protocol.specs.Calls.{Calls};
 ghost use Rattle.watch_aggregator.specs.Standing.{StandsFor as AggregatorStandsFor};
 ghost use Rattle.watch_points.specs.SpelledCalls.{AreSpelledCalls};
-ghost use Rattle.local_store.specs.State.{State, most_commits};
+ghost use Rattle.local_store.specs.State.{State};
 ghost use Rattle.local_store.specs.Store.{IsSpent as IsStoreSpent, IsStored};
 ghost use Rattle.watch_aggregator.specs.Effects.{Gives, Refuses};
 ghost use Rattle.watch_aggregator.specs.declared.effect.Effect.TheVariants as effect;
 ghost use Rattle.watch_aggregator.specs.declared.effect.WatchFault.TheVariants as fault;
 ghost use Rattle.value_model.specs.Order.{Earlier};
-ghost use Rattle.client_turns.specs.Blanking.{IsBlanking, blanked_state};
-ghost use Rattle.client_turns.specs.Hearing.{HaveRows, IsAnyHeld, IsOld, watch_member_name as watch_member_name_of};
+ghost use Rattle.client_turns.specs.Hearing.{IsOld, watch_member_name as watch_member_name_of};
 ghost use Rattle.client_turns.specs.Past.{Past};
 ghost use Rattle.sync_engine.specs.Requesting.{CallsAre};
 ghost use Rattle.sync_engine.specs.Standing.{StandsFor};
-ghost use Rattle.sync_engine.specs.Telling.{HandsSettled, KeepsListeners, MovesBy};
+ghost use Rattle.sync_engine.specs.Telling.{HandsSettled, MovesBy};
 ghost use Rattle.sync_engine.specs.declared.watch_stream.Due.TheVariants.{Nothing};
 
 use crate::client::Client;

@@ -1,8 +1,7 @@
 //! Which listeners are refreshed, and what they raise.
 
-ghost use Rattle.std.specs.Prelude.{◌≡◌, ◌↔◌, ◌<◌, ℕ, IfOk, OnOk, IsTrue};
+ghost use Rattle.std.specs.Prelude.{◌<◌, ℕ, IfOk, OnOk, IsTrue};
 ghost use Rattle.std.specs.List.{AllPairs, Contains};
-ghost use Rattle.listeners.specs.Concerns.{IsConcerned};
 ghost use Rattle.listeners.specs.Ids.{has_id};
 ghost use Rattle.sync_engine.specs.Concerned.{AreConcerned, ConcernsOne};
 ghost use Rattle.client_turns.specs.Settling.{MayStart};

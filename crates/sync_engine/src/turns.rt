@@ -1,6 +1,6 @@
 //! The turns of events, one by one.
 
-ghost use Rattle.std.specs.Prelude.{◌≡◌, ◌∷◌, [], IsTrue, true, Some, IfOk, OnOk, IsErrOf};
+ghost use Rattle.std.specs.Prelude.{◌≡◌, IsTrue, true, Some, IfOk, OnOk, IsErrOf};
 ghost use Rattle.host_api.specs.Counts.{RisesAt};
 ghost use Rattle.host_api.specs.Host.{KeepsOut};
 ghost use Rattle.client_events.specs.Spelled.{IsSpelledEvent};

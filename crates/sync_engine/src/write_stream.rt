@@ -1,4 +1,4 @@
-ghost use Rattle.std.specs.Prelude.{◌≡◌, ◌∷◌, [], true, false};
+ghost use Rattle.std.specs.Prelude.{◌∷◌, [], true, false};
 ghost use Rattle.write_pipeline.specs.Order as step;
 ghost use Rattle.write_pipeline.specs.Standing.{step_of};
 ghost use Rattle.sync_engine.specs.Standing.{GoesOn, StandsOn};

@@ -1,6 +1,6 @@
 ghost use Rattle.std.specs.List.{insert};
 ghost use Rattle.std.specs.Vec.{vec_capacity};
-ghost use Rattle.std.specs.Prelude.{◌≡◌, ◌↔◌, ℕ, vec_len, slice_index_or, slice_set, ◌+◌, ◌<◌, ◌≤◌, pos, [], ◌∷◌, ◌++◌, length, Some, None, IfSome, IsOk, IfOk, OnOk, OnErr, IfErr, MatchOption, option_map};
+ghost use Rattle.std.specs.Prelude.{◌≡◌, ◌↔◌, ℕ, vec_len, slice_index_or, slice_set, ◌+◌, ◌<◌, ◌≤◌, pos, [], ◌∷◌, ◌++◌, length, Some, None, IsOk, IfOk, OnOk, OnErr, IfErr, MatchOption, option_map};
 ghost use Rattle.target_cache.specs.declared.cache.AllocateFault.TheVariants.{TargetsSpent};
 ghost use Rattle.target_cache.specs.declared.row.Row.{Row};
 ghost use Rattle.target_cache.specs.Cache.{IsRow, TellsId, blank, id_at};

@@ -1,7 +1,6 @@
 //! When two targets are equal.
 
 ghost use Rattle.std.specs.Prelude.{◌≡◌, ◌↔◌, IsTrue};
-ghost use Rattle.queries.specs.Filters.{filters_of};
 
 use document_keys::{CollectionPath, DocumentKey, FieldPath};
 use queries::{CollectionTarget, Cursor, Filter, FilterKind, Order, Target};

@@ -1,4 +1,4 @@
-ghost use Rattle.std.specs.Prelude.{◌≡◌, ◌↔◌, [], length, IsTrue, IfOk, IfSome, IfNone, OnOk, OnErr, OnSome, option_map};
+ghost use Rattle.std.specs.Prelude.{◌≡◌, [], length, IfOk, IfSome, IfNone, OnOk, OnErr, OnSome, option_map};
 ghost use Rattle.std.specs.List.{slice_get};
 
 use crate::entries::{set_value, swap_value, take_out};

@@ -1,6 +1,6 @@
 //! What is known of a target, and what follows of the shown documents.
 
-ghost use Rattle.std.specs.Prelude.{◌≡◌, ◌↔◌, IsTrue, IfOk};
+ghost use Rattle.std.specs.Prelude.{◌↔◌, IsTrue, IfOk};
 ghost use Rattle.views.specs.Limbo.{IsFromCache, IsInLimbo};
 ghost use Rattle.views.specs.Picks.{Picks};
 

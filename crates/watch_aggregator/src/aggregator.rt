@@ -4,7 +4,7 @@ ghost use Rattle.std.specs.Prelude.{◌≡◌, [], ◌∷◌, OnOk, OnErr, IfOk,
 ghost use Rattle.listen_protocol.specs.Calls.{Calls};
 ghost use Rattle.listen_protocol.specs.Calls as call;
 ghost use Rattle.value_model.specs.declared.message.ListenResponse.TheVariants as sent;
-ghost use Rattle.watch_aggregator.specs.Effects.{Gives, GivesTarget, Refuses, RefusesTarget, filter_effect};
+ghost use Rattle.watch_aggregator.specs.Effects.{Gives, Refuses, filter_effect};
 ghost use Rattle.watch_aggregator.specs.Points.{IsPointOf};
 ghost use Rattle.listen_protocol.specs.ToldKeys.{told_keys};
 ghost use Rattle.listen_protocol.specs.Transcript.{counts, is_asked_in, is_current_in};

@@ -1,6 +1,6 @@
 //! The told keys under a message that names a document: each id of the message is looked up.
 
-ghost use Rattle.std.specs.Prelude.{◌≡◌, ◌↔◌, List, ℤ, IsTrue, map, OnOk, OnErr};
+ghost use Rattle.std.specs.Prelude.{◌≡◌, List, ℤ, map, OnOk, OnErr};
 ghost use Rattle.watch_aggregator.specs.declared.watched.Watched.{Watched};
 ghost use Rattle.watch_aggregator.specs.Steps.{AreAscending};
 ghost use Rattle.watch_aggregator.specs.Told.{for_id, for_ids, hits, put, settle, take_back, take_out};

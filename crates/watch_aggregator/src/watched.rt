@@ -1,6 +1,6 @@
 //! What is kept of one target id, and of all under a change of targets.
 
-ghost use Rattle.std.specs.Prelude.{◌≡◌, ◌&&◌, ◌==◌, ◌+◌, not, if◌then◌else◌, IfOk, IfErr, length, map, List, ℕ, true, false, None};
+ghost use Rattle.std.specs.Prelude.{◌≡◌, ◌&&◌, ◌==◌, not, if◌then◌else◌, IfOk, IfErr, length, map, List, ℕ, true, false, None};
 ghost use Rattle.listen_protocol.specs.Calls.{Calls, is_of, is_remove, lists};
 ghost use Rattle.std.specs.List.{filter};
 ghost use Rattle.std.specs.List.Sorted.{IsSearchInRange};

@@ -1,6 +1,6 @@
 //! The rows of a point.
 
-ghost use Rattle.std.specs.Prelude.{◌≡◌, ℤ, IfOk, IfSome};
+ghost use Rattle.std.specs.Prelude.{◌≡◌, IfOk, IfSome};
 ghost use Rattle.std.specs.List.{filter_map};
 ghost use Rattle.record_parts.specs.Spelling.{AreSpelled};
 ghost use Rattle.outcome_codec.specs.Spelling.{IsSpelledRow};

@@ -3,7 +3,7 @@
 ghost use Rattle.value_model.specs.Storable.{AreStorableBytes};
 ghost use Rattle.outcome_codec.specs.Spelling.{AreSpelledKeys};
 ghost use Rattle.record_parts.specs.Spelling.{IsSpelledKey};
-ghost use Rattle.std.specs.Prelude.{◌<◌, ◌^◌, length, IsUtf8};
+ghost use Rattle.std.specs.Prelude.{IsUtf8};
 ghost use Rattle.std.specs.List.{All};
 
 use document_keys::{DocumentKey, KeySet};

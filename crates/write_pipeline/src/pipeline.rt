@@ -1,4 +1,4 @@
-ghost use Rattle.std.specs.Prelude.{◌≡◌, ◌≤◌, ◌∷◌, [], option_map, IfOk, IfErr, OnErr};
+ghost use Rattle.std.specs.Prelude.{◌≡◌, ◌≤◌, [], option_map, IfOk, IfErr, OnErr};
 ghost use Rattle.write_pipeline.specs.Order.{Steps, latest_token, next_place, rejects};
 ghost use Rattle.write_pipeline.specs.Order as step;
 

@@ -1,9 +1,9 @@
-use Rattle.std.proofs.Common.{IsTrue, ◌<◌, subst, sym, rules}
+use Rattle.std.proofs.Common.{IsTrue, subst, sym, rules}
 use Rattle.std.specs.List.{AllPairs}
 use Rattle.document_keys.specs.Order.{PathBefore}
 use Rattle.std.proofs.lemmas.Result.{err_from_is_err_and}
 use Rattle.record_parts.proofs.Wide.{fails_also}
-use Rattle.outcome_codec.proofs.OutcomeForms.{ascending_none, ascending_other, ascending_read, entries_ascend}
+use Rattle.outcome_codec.proofs.OutcomeForms.{ascending_none, ascending_other, entries_ascend}
 use Rattle.outcome_codec.proofs.entries.entries_of.Goals as goal
 
 pub returns-in_err-entries : goal.returns-in_err-entries

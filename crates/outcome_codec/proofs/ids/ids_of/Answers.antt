@@ -2,7 +2,7 @@ use Rattle.std.proofs.Common.{IsTrue, ◌<◌, subst, sym, rules}
 use Rattle.std.specs.List.{AllPairs}
 use Rattle.std.proofs.lemmas.Result.{err_from_is_err_and}
 use Rattle.record_parts.proofs.Wide.{fails_also}
-use Rattle.outcome_codec.proofs.OutcomeForms.{ascending_none, ascending_other, ascending_read, ids_ascend}
+use Rattle.outcome_codec.proofs.OutcomeForms.{ascending_none, ascending_other, ids_ascend}
 use Rattle.outcome_codec.proofs.ids.ids_of.Goals as goal
 
 pub returns-in_err-ids : goal.returns-in_err-ids

@@ -3,7 +3,7 @@ use Rattle.std.specs.List.{AllPairs}
 use Rattle.document_keys.specs.Order.{PathBefore}
 use Rattle.std.proofs.lemmas.Result.{err_from_is_err_and}
 use Rattle.record_parts.proofs.Wide.{fails_also}
-use Rattle.outcome_codec.proofs.OutcomeForms.{ascending_none, ascending_other, ascending_read, keys_ascend}
+use Rattle.outcome_codec.proofs.OutcomeForms.{ascending_none, ascending_other, keys_ascend}
 use Rattle.outcome_codec.proofs.keys.keys_of.Goals as goal
 
 pub returns-in_err-keys : goal.returns-in_err-keys

@@ -2,7 +2,7 @@ use Rattle.std.proofs.Common.{IsTrue, ◌<◌, subst, sym, rules}
 use Rattle.std.specs.List.{AllPairs}
 use Rattle.std.proofs.lemmas.Result.{err_from_is_err_and}
 use Rattle.record_parts.proofs.Wide.{fails_also}
-use Rattle.outcome_codec.proofs.OutcomeForms.{ascending_none, ascending_other, ascending_read, rows_ascend}
+use Rattle.outcome_codec.proofs.OutcomeForms.{ascending_none, ascending_other, rows_ascend}
 use Rattle.outcome_codec.proofs.rows.rows_of.Goals as goal
 
 pub returns-in_err-rows : goal.returns-in_err-rows

@@ -1,6 +1,6 @@
 use Rattle.std.proofs.Common.{[], ◌∷◌, refl, subst}
 use Rattle.write_pipeline.specs.Order.{opened, shaken}
-use Rattle.write_pipeline.specs.Standing.{MaySend, StandsFor, step_of}
+use Rattle.write_pipeline.specs.Standing.{StandsFor, step_of}
 use Rattle.stream_tests.proofs.writing.close_one.Goals as goal
 
 pub sent-requires : goal.sent-requires

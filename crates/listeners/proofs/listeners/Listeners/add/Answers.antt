@@ -1,4 +1,4 @@
-use Rattle.std.proofs.Common.{◌≡◌, ◌∙◌, ℕ, false, None, Some, IsTrue, ap, refl, subst}
+use Rattle.std.proofs.Common.{◌≡◌, ◌∙◌, false, None, Some, IsTrue, ap, refl, subst}
 use Rattle.views.specs.Viewed.{Viewed}
 use Rattle.listeners.specs.Places.{place_of, stands_at}
 use Rattle.listeners.specs.Table.{Listening, viewed}

@@ -1,4 +1,4 @@
-use Rattle.std.proofs.Common.{◌≡◌, SFits, ℤ, to_z, of_z, w32, List, [], ◌∷◌, ◌++◌, Some, rules, sym, ap, subst, ◌∙◌}
+use Rattle.std.proofs.Common.{◌≡◌, SFits, ℤ, to_z, of_z, w32, List, [], ◌∷◌, ◌++◌, Some, rules, ap, subst, ◌∙◌}
 use Rattle.std.proofs.lemmas.Int.{to_z-of_z}
 use Rattle.listeners.specs.Table.{Changes, ChangesTarget, Table, fresh}
 use Rattle.sync_engine.specs.Standing.{Kept}

@@ -1,4 +1,4 @@
-use Rattle.std.proofs.Common.{◌≡◌, ℕ, ◌<◌, ℤ, pos, nat_eq, if◌then◌else◌, List, [], ◌++◌, map as each, refl, sym, ap, subst, ◌∙◌, arith}
+use Rattle.std.proofs.Common.{ℕ, ◌<◌, ℤ, pos, nat_eq, if◌then◌else◌, List, [], ◌++◌, map as each, refl, sym, ap, subst, ◌∙◌, arith}
 use Rattle.std.specs.List.{All, AllPairs, list_any}
 use Rattle.client_events.specs.declared.event.Event.TheVariants as event
 use Rattle.durable_state.specs.Rows.{HasRow}

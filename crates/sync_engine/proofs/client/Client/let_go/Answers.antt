@@ -1,17 +1,16 @@
-use Rattle.std.proofs.Common.{◌≡◌, ℕ, ℤ, nat_eq, List, [], if◌then◌else◌, refl, sym, ap, subst, ◌∙◌}
+use Rattle.std.proofs.Common.{ℕ, ℤ, nat_eq, List, [], if◌then◌else◌, sym, ap, subst, ◌∙◌}
 use Rattle.std.specs.List.{list_any}
-use Rattle.host_api.specs.Host.{View}
 use Rattle.limbo_listens.specs.Listens.{Listens, limbo_at}
 use Rattle.limbo_resolver.specs.Limbo.{Limbo}
 use Rattle.listeners.specs.Table.{Table}
 use Rattle.local_store.specs.Files.{Moves}
-use Rattle.local_store.specs.State.{Fits, State, committed}
+use Rattle.local_store.specs.State.{Fits, committed}
 use Rattle.local_store.specs.Store.{Store}
 use Rattle.record_codec.specs.declared.commit.Commit.TheVariants.{Drop}
 use Rattle.client_turns.specs.LimboListens.{without_all}
 use Rattle.sync_engine.specs.Dropping.{Drops}
 use Rattle.sync_engine.specs.Standing.{Kept, limbo_in}
-use Rattle.sync_engine.specs.Telling.{ForgetsAll, RemovesAll}
+use Rattle.sync_engine.specs.Telling.{RemovesAll}
 use Rattle.sync_engine.specs.declared.watch_stream.WatchStream.{WatchStream}
 use Rattle.sync_engine.proofs.client.Client.let_go.Goals as goal
 
