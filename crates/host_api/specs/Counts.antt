@@ -1,6 +1,8 @@
--- Counts of faults. A fault is told just where its count rose.
-use Rattle.std.specs.Prelude.{◌≡◌, ℕ, ◌+◌, ◌-◌, ◌^◌, ◌≤◌, min, Result, IsErr, IsErrOf}
+-- Counts of faults, and of lines. A fault is told just where its count rose.
+use Rattle.std.specs.Prelude.{◌≡◌, ℕ, ◌+◌, ◌-◌, ◌^◌, ◌≤◌, min, Result, Ok, Err, IsErr, IsErrOf}
 use Rattle.host_api.specs.declared.host.Failed.{Failed}
+use Rattle.host_api.specs.declared.source.Line.{Line}
+use Rattle.host_api.specs.declared.source.Line.TheVariants.{End}
 use Rattle.host_api.specs.declared.source.SourceFault.{SourceFault}
 use Rattle.host_api.specs.declared.source.SourceFault.TheVariants as fault
 
@@ -21,3 +23,9 @@ Counts result old new = RisesAt (IsErr result) old new
 -- the count of a source, which may also find no memory
 abbrev pub SourceCounts : {T : Type 0} → Result T SourceFault → ℕ → ℕ → Type 0
 SourceCounts result old new = RisesAt (IsErrOf result fault.Failed) old new
+
+-- The count of the lines that a source gave, up to the last value of a `u64`: a line counts just where the call answered it.
+abbrev pub CountsTaken : {E : Type 0} → Result Line E → ℕ → ℕ → Type 0
+CountsTaken (Ok End) old new = new ≡ old
+CountsTaken (Ok _) old new = new ≡ min (old + 1) (2 ^ 64 - 1)
+CountsTaken (Err _) old new = new ≡ old

@@ -14,6 +14,8 @@ pub record Reading : Type 0 where
   -- how many calls there were
   pub calls : ℕ
   pub faults : ℕ
+  -- how many lines were taken
+  pub taken : ℕ
 
 -- no newline is among these bytes
 abbrev pub IsLine : List ℕ → Type 0
