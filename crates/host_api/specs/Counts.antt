@@ -6,9 +6,13 @@ use Rattle.host_api.specs.declared.source.Line.TheVariants.{End}
 use Rattle.host_api.specs.declared.source.SourceFault.{SourceFault}
 use Rattle.host_api.specs.declared.source.SourceFault.TheVariants as fault
 
+-- a count that is one more, up to the last value of a `u64`
+abbrev pub one_more : ℕ → ℕ
+one_more count = min (count + 1) (2 ^ 64 - 1)
+
 -- A count rose: it grew, or it stands at the last value of a `u64`.
 abbrev pub Rises : ℕ → ℕ → Type 0
-Rises old new = min (old + 1) (2 ^ 64 - 1) ≤ new
+Rises old new = one_more old ≤ new
 
 -- the count rose where this fault is told, and else stands as it did
 pub record RisesAt (fault : Type 0) (old new : ℕ) : Type 0 where
@@ -24,8 +28,8 @@ Counts result old new = RisesAt (IsErr result) old new
 abbrev pub SourceCounts : {T : Type 0} → Result T SourceFault → ℕ → ℕ → Type 0
 SourceCounts result old new = RisesAt (IsErrOf result fault.Failed) old new
 
--- The count of the lines that a source gave, up to the last value of a `u64`: a line counts just where the call answered it.
+-- The count of the lines that were taken from a source: a line counts just where the call answered it.
 abbrev pub CountsTaken : {E : Type 0} → Result Line E → ℕ → ℕ → Type 0
 CountsTaken (Ok End) old new = new ≡ old
-CountsTaken (Ok _) old new = new ≡ min (old + 1) (2 ^ 64 - 1)
+CountsTaken (Ok _) old new = new ≡ one_more old
 CountsTaken (Err _) old new = new ≡ old
