@@ -28,8 +28,12 @@ Counts result old new = RisesAt (IsErr result) old new
 abbrev pub SourceCounts : {T : Type 0} → Result T SourceFault → ℕ → ℕ → Type 0
 SourceCounts result old new = RisesAt (IsErrOf result fault.Failed) old new
 
--- The count of the lines that were taken from a source: a line counts just where the call answered it.
+-- The count of the lines that were taken from a source, over a call that answered this: one more, unless nothing was left.
+abbrev pub CountsLine : Line → ℕ → ℕ → Type 0
+CountsLine End old new = new ≡ old
+CountsLine _ old new = new ≡ one_more old
+
+-- a line counts just where the call answered it
 abbrev pub CountsTaken : {E : Type 0} → Result Line E → ℕ → ℕ → Type 0
-CountsTaken (Ok End) old new = new ≡ old
-CountsTaken (Ok _) old new = new ≡ one_more old
+CountsTaken (Ok line) old new = CountsLine line old new
 CountsTaken (Err _) old new = new ≡ old
