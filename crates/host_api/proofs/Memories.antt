@@ -6,11 +6,12 @@ use Rattle.host_api.specs.declared.host.FileId.{FileId}
 use Rattle.host_api.specs.declared.host.FileId.TheVariants.{Zero, One}
 use Rattle.host_api.specs.declared.memory_host.Outcome.{Outcome}
 use Rattle.host_api.specs.declared.memory_host.Outcome.TheVariants.{Done, Failing, Starved}
+use Rattle.host_api.specs.Counts.{Rises}
 use Rattle.host_api.specs.Host.{Files, View, Torn, Cut, Steps, Stays, Writes, Cuts, Syncs, Emits, IsPart, IsOnDisk, over}
 use Rattle.host_api.specs.Past.{Past, Step, emit, write, cut, sync, Grows, disk_at, output_at, MayLeave, view_of}
 use Rattle.host_api.specs.PastLaws.{whole_at}
 use Rattle.host_api.specs.Disk.{IsPicked}
-use Rattle.host_api.specs.Memory.{Memory, IsFresh, host_view, OneMore, Worked, Blames, Explains}
+use Rattle.host_api.specs.Memory.{Memory, IsFresh, host_view, Worked, Blames, Explains}
 use Rattle.host_api.specs.Outcome.{Tried, Counted, StarvedBy, Answers, Settled}
 use Rattle.host_api.proofs.Images.{image_fresh, image_picked, torn_same, cut_same}
 use Rattle.host_api.proofs.Pasts.{output_one}
@@ -73,7 +74,7 @@ explains steps refused outcome result old mid new tried counted settled =
     on_err (Ok done) answer = tt
     on_err (Err failed) answer = ⊎_elim
         (λ is. let w = went Failing is in inl (w.1 ∙ counted.starved, w.0))
-        (λ is. let w = went Starved is in inr (subst (λ (n : ℕ). OneMore n new.starved) counted.starved w.1, w.0))
+        (λ is. let w = went Starved is in inr (subst (λ (n : ℕ). Rises n new.starved) counted.starved w.1, w.0))
         answer
 
 pub writes : (file : FileId) (at : ℕ) (piece : List ℕ) (outcome : Outcome) (result : Result (Unit {0}) Failed) (old mid new : Memory) → at ≤ length ((host_view old).bytes file)

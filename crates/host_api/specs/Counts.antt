@@ -1,8 +1,6 @@
--- Counts of faults, and of lines. A fault is told just where its count rose.
+-- Counts of faults, and of answers. A fault is told just where its count rose.
 use Rattle.std.specs.Prelude.{◌≡◌, ℕ, ◌+◌, ◌-◌, ◌^◌, ◌≤◌, min, Result, Ok, Err, IsErr, IsErrOf}
 use Rattle.host_api.specs.declared.host.Failed.{Failed}
-use Rattle.host_api.specs.declared.source.Line.{Line}
-use Rattle.host_api.specs.declared.source.Line.TheVariants.{End}
 use Rattle.host_api.specs.declared.source.SourceFault.{SourceFault}
 use Rattle.host_api.specs.declared.source.SourceFault.TheVariants as fault
 
@@ -10,9 +8,9 @@ use Rattle.host_api.specs.declared.source.SourceFault.TheVariants as fault
 abbrev pub one_more : ℕ → ℕ
 one_more count = min (count + 1) (2 ^ 64 - 1)
 
--- A count rose: it grew, or it stands at the last value of a `u64`.
+-- A count rose: it is one more, or stands at the last value of a `u64`.
 abbrev pub Rises : ℕ → ℕ → Type 0
-Rises old new = one_more old ≤ new
+Rises old new = new ≡ one_more old
 
 -- the count rose where this fault is told, and else stands as it did
 pub record RisesAt (fault : Type 0) (old new : ℕ) : Type 0 where
@@ -28,12 +26,7 @@ Counts result old new = RisesAt (IsErr result) old new
 abbrev pub SourceCounts : {T : Type 0} → Result T SourceFault → ℕ → ℕ → Type 0
 SourceCounts result old new = RisesAt (IsErrOf result fault.Failed) old new
 
--- The count of the lines that were taken from a source, over a call that answered this: one more, unless nothing was left.
-abbrev pub CountsLine : Line → ℕ → ℕ → Type 0
-CountsLine End old new = new ≡ old
-CountsLine _ old new = new ≡ one_more old
-
--- a line counts just where the call answered it
-abbrev pub CountsTaken : {E : Type 0} → Result Line E → ℕ → ℕ → Type 0
-CountsTaken (Ok line) old new = CountsLine line old new
-CountsTaken (Err _) old new = new ≡ old
+-- the count of the calls that were answered: an error leaves it
+abbrev pub CountsAnswered : {T E : Type 0} → Result T E → ℕ → ℕ → Type 0
+CountsAnswered (Ok _) old new = Rises old new
+CountsAnswered (Err _) old new = new ≡ old

@@ -1,5 +1,6 @@
 -- A host in memory, as its contracts see it.
-use Rattle.std.specs.Prelude.{◌≡◌, ℕ, ◌+◌, ◌-◌, ◌^◌, ◌<◌, min, Bool, true, false, List, [], length, Contains, Result, OnOk, OnErr, ◌⊎◌}
+use Rattle.std.specs.Prelude.{◌≡◌, ℕ, ◌+◌, ◌-◌, ◌^◌, ◌<◌, Bool, true, false, List, [], length, Contains, Result, OnOk, OnErr, ◌⊎◌}
+use Rattle.host_api.specs.Counts.{Rises}
 use Rattle.host_api.specs.Host.{Files, View}
 use Rattle.host_api.specs.Past.{Past, Step, Grows, view_of}
 use Rattle.host_api.specs.declared.host.Failed.{Failed}
@@ -39,10 +40,6 @@ pub record IsFresh (file0 file1 listed : List ℕ) (memory : Memory) : Type 0 wh
   pub sink_faults : memory.sink_faults ≡ 0
   pub disk_faults : memory.disk_faults ≡ 0
 
--- one more, up to the last value of a `u64`
-abbrev pub OneMore : ℕ → ℕ → Type 0
-OneMore old new = new ≡ min (old + 1) (2 ^ 64 - 1)
-
 -- The call was done, and made these steps: it isn't one of those that fail, and wasn't refused.
 abbrev pub Worked : List Step → Type 0 → Memory → Memory → Type 0
 Worked steps refused old new = (IsListed old → ⊥) × (refused → ⊥) × Grows steps old.past new.past
@@ -58,12 +55,12 @@ Starves steps refused old new = (refused → ⊥) × (IsFull old → ⊥) × (Is
 
 -- why a call failed: the number of those that found no memory rose by one just where it is one of them
 abbrev pub Blames : List Step → Type 0 → Memory → Memory → Type 0
-Blames steps refused old new = ((new.starved ≡ old.starved) × Missed steps refused old new) ⊎ (OneMore old.starved new.starved × Starves steps refused old new)
+Blames steps refused old new = ((new.starved ≡ old.starved) × Missed steps refused old new) ⊎ (Rises old.starved new.starved × Starves steps refused old new)
 
 -- When a call fails that may be refused for this cause, and what it does: the steps are those of a call that was done and
 -- of one that failed.
 pub record Explains {T : Type 0} (steps : Bool → List Step) (refused : Type 0) (result : Result T Failed) (old new : Memory) : Type 0 where
   pub ok : OnOk result ((new.starved ≡ old.starved) × Worked (steps true) refused old new)
   pub err : OnErr result (Blames (steps false) refused old new)
-  pub number : OneMore old.past.calls new.past.calls
+  pub number : Rises old.past.calls new.past.calls
   pub failing : new.failing ≡ old.failing

@@ -1,6 +1,7 @@
 -- How a call of a host in memory went.
 use Rattle.std.specs.Prelude.{◌≡◌, ℕ, Bool, true, false, List, Result, Ok, Err, ◌⊎◌}
-use Rattle.host_api.specs.Memory.{Memory, OneMore, Worked, Missed, Starves}
+use Rattle.host_api.specs.Counts.{Rises}
+use Rattle.host_api.specs.Memory.{Memory, Worked, Missed, Starves}
 use Rattle.host_api.specs.Past.{Step}
 use Rattle.host_api.specs.declared.host.Failed.{Failed}
 use Rattle.host_api.specs.declared.memory_host.Outcome.{Outcome}
@@ -14,7 +15,7 @@ Tried steps refused Starved old new = Starves (steps false) refused old new
 
 -- what only a fault changes stays, and the call was counted
 pub record Counted (old new : Memory) : Type 0 where
-  pub number : OneMore old.past.calls new.past.calls
+  pub number : Rises old.past.calls new.past.calls
   pub failing : new.failing ≡ old.failing
   pub starved : new.starved ≡ old.starved
   pub sink_faults : new.sink_faults ≡ old.sink_faults
@@ -24,7 +25,7 @@ pub record Counted (old new : Memory) : Type 0 where
 abbrev pub StarvedBy : Outcome → ℕ → ℕ → Type 0
 StarvedBy Done old new = new ≡ old
 StarvedBy Failing old new = new ≡ old
-StarvedBy Starved old new = OneMore old new
+StarvedBy Starved old new = Rises old new
 
 -- the answer of a call that went so
 abbrev pub Answers : Outcome → Result (Unit {0}) Failed → Type 0

@@ -1,5 +1,6 @@
 -- A source in memory, as its contracts see it.
-use Rattle.std.specs.Prelude.{◌≡◌, ℕ, ◌+◌, ◌-◌, ◌^◌, ◌==◌, ◌≤◌, min, Bool, true, false, List, [], ◌∷◌, length, take, drop, All, Contains, IsTrue, if◌then◌else◌}
+use Rattle.std.specs.Prelude.{◌≡◌, ℕ, ◌+◌, ◌==◌, ◌≤◌, Bool, true, false, List, [], ◌∷◌, length, take, drop, All, Contains, IsTrue, if◌then◌else◌}
+use Rattle.host_api.specs.Counts.{one_more}
 use Rattle.host_api.specs.Items.{limit}
 use Rattle.host_api.specs.declared.source.Line.{Line}
 use Rattle.host_api.specs.declared.source.Line.TheVariants as line
@@ -14,8 +15,8 @@ pub record Reading : Type 0 where
   -- how many calls there were
   pub calls : ℕ
   pub faults : ℕ
-  -- how many lines were taken
-  pub taken : ℕ
+  -- how many of them were answered
+  pub answered : ℕ
 
 -- no newline is among these bytes
 abbrev pub IsLine : List ℕ → Type 0
@@ -52,13 +53,14 @@ pub record SkipsAll (reading : Reading) : Type 0 where
 
 -- the number of the next call
 abbrev pub next_number : Reading → ℕ
-next_number reading = min (reading.calls + 1) (2 ^ 64 - 1)
+next_number reading = one_more reading.calls
 
 -- the counts stay, and the list of calls that fail
 pub record SameCounts (old new : Reading) : Type 0 where
   pub failing : new.failing ≡ old.failing
   pub calls : new.calls ≡ old.calls
   pub faults : new.faults ≡ old.faults
+  pub answered : new.answered ≡ old.answered
 
 -- the next call is one of those that fail
 abbrev pub IsListed : Reading → Type 0

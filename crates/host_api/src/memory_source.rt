@@ -1,6 +1,6 @@
 ghost use Rattle.std.specs.Prelude.{◌≡◌, ◌≤◌, ◌<◌, ◌⊎◌, false, [], length, drop, IsTrue, MatchBool, MatchOption, IfOk, OnErr, IsErrOf};
 ghost use Rattle.host_api.specs.Items.{split, item_of, Next, IsSuffix};
-ghost use Rattle.host_api.specs.Counts.{SourceCounts, CountsTaken};
+ghost use Rattle.host_api.specs.Counts.{SourceCounts, CountsAnswered};
 ghost use Rattle.host_api.specs.Front.{IsFront};
 ghost use Rattle.host_api.specs.Reading.{IsListed, left_of, next_number, SameCounts, IsWholeSkip, EndsSkip, SkipsAll, Refuses, Skips, Leaves};
 
@@ -20,7 +20,7 @@ pub struct MemSource {
     failing: Vec<u64>,
     calls: u64,
     faults: u64,
-    taken: u64,
+    answered: u64,
 }
 
 impl Model for MemSource {
@@ -29,7 +29,7 @@ impl Model for MemSource {
 
     ghost Value = { Reading };
 
-    ghost view = { λ s. record { text = drop s.at s.text.items; skipping = s.skipping; failing = s.failing.items; calls = s.calls; faults = s.faults; taken = s.taken } };
+    ghost view = { λ s. record { text = drop s.at s.text.items; skipping = s.skipping; failing = s.failing.items; calls = s.calls; faults = s.faults; answered = s.answered } };
 
     ghost invariant = { λ s. s.at ≤ length s.text.items };
 }
@@ -84,7 +84,7 @@ impl MemSource {
           failing = failing.items;
           calls = 0;
           faults = 0;
-          taken = 0;
+          answered = 0;
         } }
     {
         MemSource {
@@ -94,7 +94,7 @@ impl MemSource {
             failing,
             calls: 0,
             faults: 0,
-            taken: 0,
+            answered: 0,
         }
     }
 
@@ -104,7 +104,7 @@ impl MemSource {
         ensures number { self.new.calls ≡ next_number self.old }
         ensures rest { (self.new.text ≡ self.old.text) × (self.new.skipping ≡ self.old.skipping) }
         ensures counts { (self.new.failing ≡ self.old.failing) × (self.new.faults ≡ self.old.faults) }
-        ensures taken { self.new.taken ≡ self.old.taken }
+        ensures answered { self.new.answered ≡ self.old.answered }
     {
         self.calls = self.calls.saturating_add(1);
         self.failing.contains(&self.calls)
@@ -129,7 +129,6 @@ impl MemSource {
         ensures behind { IsTrue result → self.new.skipping ≡ false }
         ensures bound { MatchBool result (SkipsAll self.old → ⊥) (Skips self.old self.new) }
         ensures counts { SameCounts self.old self.new }
-        ensures taken { self.new.taken ≡ self.old.taken }
     {
         if !self.skipping {
             return true;
@@ -152,7 +151,6 @@ impl MemSource {
         ensures leaves { IfOk result (λ line. Leaves line self.old self.new) }
         ensures stays { OnErr result (self.new ≡ self.old) }
         ensures counts { SameCounts self.old self.new }
-        ensures taken { self.new.taken ≡ self.old.taken }
     {
         match front_of(self.rest()) {
             Front::Nothing => Ok(Line::End),
@@ -180,7 +178,7 @@ impl Source for MemSource {
 
     ghost faults = { λ s. s.faults };
 
-    ghost taken = { λ s. s.taken };
+    ghost answered = { λ s. s.answered };
 
     fn line(&mut self, _alloc: Global, out: &mut Vec<u8>) -> Result<Line, SourceFault>
         ensures takes { IfOk result (λ line. Next (item_of line out.new.items)
@@ -188,7 +186,7 @@ impl Source for MemSource {
         ensures stays { OnErr result (left_of self.new ≡ left_of self.old) }
         ensures suffix { OnErr result (IsSuffix (left_of self.old) (left_of self.new)) }
         ensures cause { SourceCounts result self.old.faults self.new.faults }
-        ensures counted { CountsTaken result self.old.taken self.new.taken }
+        ensures counted { CountsAnswered result self.old.answered self.new.answered }
         ensures leaves { IfOk result (λ line. Leaves line self.old self.new) }
         ensures failed { IsErrOf result SourceFault.Failed → Refuses self.old self.new
             ⊎ Skips self.old self.new }
@@ -202,9 +200,7 @@ impl Source for MemSource {
         }
         out.clear();
         let line = self.take_line(out)?;
-        if line != Line::End {
-            self.taken = self.taken.saturating_add(1);
-        }
+        self.answered = self.answered.saturating_add(1);
         Ok(line)
     }
 }

@@ -1,6 +1,6 @@
 ghost use Rattle.std.specs.Prelude.{◌≡◌, ◌<◌, ℕ, Bool, List, length, take, slice_index, IsTrue, MatchOption, IfOk, OnErr};
 ghost use Rattle.host_api.specs.Items.{split, item_of, Next, IsSuffix};
-ghost use Rattle.host_api.specs.Counts.{SourceCounts, CountsTaken};
+ghost use Rattle.host_api.specs.Counts.{SourceCounts, CountsAnswered};
 ghost use Rattle.host_api.specs.Reading.{IsLine};
 
 use std::alloc::{AllocError, Global};
@@ -51,27 +51,27 @@ impl From<AllocError> for SourceFault {
 
 /// Lines, one at a time.
 pub trait Source {
-    // whether the source tells which bytes are left
+    // whether the source tells which bytes are left, and counts its answers
     ghost tells: { Bool };
     // the bytes that are left; after a line that is too long they begin past it
     ghost left: { Self → List ℕ };
     // how often the source has failed
     ghost faults: { Self → ℕ };
-    // how many lines were taken, up to the last value of a `u64`
-    ghost taken: { Self → ℕ };
+    // how many calls were answered, where that is told, up to the last value of a `u64`
+    ghost answered: { Self → ℕ };
 
     /// Clears `out` and puts the next line there, without its newline. A last line without a newline counts
     /// where it isn't empty. After [`Line::TooLong`] and [`Line::End`] nothing is said of `out`.
     ///
     /// # Errors
-    /// `Failed` only where the count of faults rose, `NoMemory` where the line found no room. After either, no line
-    /// was taken, the bytes left are a suffix of those before, and nothing is said of `out`. A line is counted as taken
-    /// just where the call answered it.
+    /// `Failed` only where the count of faults rose by one, `NoMemory` where the line found no room. After either, no line
+    /// was taken, the bytes left are a suffix of those before, and nothing is said of `out`. A call counts as answered just
+    /// where it met neither.
     fn line(&mut self, alloc: Global, out: &mut Vec<u8>) -> Result<Line, SourceFault>
         ensures takes { IsTrue tells → IfOk result
             (λ line. Next (item_of line out.new.items) (split (left self.old))
             (split (left self.new))) }
         ensures suffix { IsTrue tells → OnErr result (IsSuffix (left self.old) (left self.new)) }
-        ensures counted { IsTrue tells → CountsTaken result (taken self.old) (taken self.new) }
+        ensures counted { IsTrue tells → CountsAnswered result (answered self.old) (answered self.new) }
         ensures cause { SourceCounts result (faults self.old) (faults self.new) };
 }

@@ -126,7 +126,7 @@ impl<B: BufRead + Drop> Source for StdSource<B> {
 
     ghost faults = { stream_faults };
 
-    ghost taken = { λ _. 0 };
+    ghost answered = { λ _. 0 };
 
     fn line(&mut self, _alloc: Global, out: &mut Vec<u8>) -> Result<Line, SourceFault> {
         let result = self.take_line(out);
