@@ -167,7 +167,7 @@ module _ (backend : Backend) (call : Call) where
       end_by how history left run (inr unsynced) c may = first_sound c (unsynced.before.crash c may)
 
 -- a run over the files of a store keeps the clause
-pub agrees : (call : Call) (status : Status) (left : List ℕ) (old new : View) → FindsState old.bytes call.first → Ran call status left old new → AgreesWithAll call old new
+pub agrees : {before later : ℕ} (call : Call) (status : Status) (left : List ℕ) (old new : View) → FindsState old.bytes call.first → Ran call status left before later old new → AgreesWithAll call old new
 agrees call status left old new finds ran backend starts = record {
   snapshots = snapshots backend call old.bytes finds starts.reads;
   handled = sound_behind backend call old.bytes finds starts.reads;

@@ -51,29 +51,29 @@ nothing_ran : {call : Call} → IsRun call []
 nothing_ran = record { turns = tt; read = tt; spelled = tt }
 
 -- the disk failed before the first line
-pub disk_first : {H : Type 0} (view : H → View) → ((h : H) → OnlyNow (view h)) → (root : Root) (left : List ℕ) (s : State) (budget : ℕ) (tells_out : Bool) (old new : View) → 1 ≤ budget → new.out ≡ old.out → FindsState old.bytes s → Stays old new ⊎ Settled view old new
-    → Ran (called root left s budget tells_out old.out) DiskFault left old new
-disk_first view only_now root left s budget tells_out old new some same finds how =
+pub disk_first : {H : Type 0} {before later : ℕ} (view : H → View) → ((h : H) → OnlyNow (view h)) → (root : Root) (left : List ℕ) (s : State) (budget : ℕ) (tells_out : Bool) (old new : View) → 1 ≤ budget → new.out ≡ old.out → FindsState old.bytes s → Stays old new ⊎ Settled view old new
+    → later ≡ before → Ran (called root left s budget tells_out old.out) DiskFault left before later old new
+disk_first view only_now root left s budget tells_out old new some same finds how uncounted =
     let call = called root left s budget tells_out old.out in
     let nothing : TookNothing call [] left = record { none = refl; others = refl } in
     record {
       history = [];
       run = nothing_ran;
       within = omega arith;
-      ends = record { handled = omega (arith, some); taken = inr nothing; written = λ told. same ∙ sym (append-nil old.out) };
+      ends = record { handled = omega (arith, some); taken = inr (nothing, uncounted); written = λ told. same ∙ sym (append-nil old.out) };
       crash = λ out. ⊎_elim (λ stays. inr (record { stopped = inl refl; nothing = nothing; before = stays })) (settled_crashes view only_now DiskFault call left refl finds (λ c h. inl h)) how;
     }
 
 -- there was no memory before the first line
-pub memory_first : {H : Type 0} (view : H → View) → ((h : H) → OnlyNow (view h)) → (root : Root) (left : List ℕ) (s : State) (budget : ℕ) (tells_out : Bool) (old new : View) → 1 ≤ budget → new.out ≡ old.out → FindsState old.bytes s → Stays old new ⊎ Settled view old new
-    → Ran (called root left s budget tells_out old.out) NoMemory left old new
-memory_first view only_now root left s budget tells_out old new some same finds how =
+pub memory_first : {H : Type 0} {before later : ℕ} (view : H → View) → ((h : H) → OnlyNow (view h)) → (root : Root) (left : List ℕ) (s : State) (budget : ℕ) (tells_out : Bool) (old new : View) → 1 ≤ budget → new.out ≡ old.out → FindsState old.bytes s → Stays old new ⊎ Settled view old new
+    → later ≡ before → Ran (called root left s budget tells_out old.out) NoMemory left before later old new
+memory_first view only_now root left s budget tells_out old new some same finds how uncounted =
     let call = called root left s budget tells_out old.out in
     record {
       history = [];
       run = nothing_ran;
       within = omega arith;
-      ends = record { handled = omega (arith, some); taken = inl (record { rest = left; others = refl; suffix = ([], refl) }); written = λ told. same ∙ sym (append-nil old.out) };
+      ends = record { handled = omega (arith, some); taken = inl (record { rest = left; others = refl; suffix = ([], refl) }, uncounted); written = λ told. same ∙ sym (append-nil old.out) };
       crash = λ out. ⊎_elim (λ stays. inr (record { stopped = inr refl; nothing = record { none = refl; others = refl }; before = stays })) (settled_crashes view only_now NoMemory call left refl finds (λ c h. inl h)) how;
     }
 
@@ -105,7 +105,7 @@ crashes_from view only_now how call history left {old} {mid} {new} out same find
     at_end (inr unsynced) c now = none_leaves how call history c unsynced.stopped unsynced.nothing.none (same_finds finds (settled.crash c (unsynced.before.crash c now)))
 
 -- an opening wrote nothing
-pub ran_from : {H : Type 0} (view : H → View) → ((h : H) → OnlyNow (view h)) → (how : Status) (call : Call) (left : List ℕ) {old mid new : View} → call.out ≡ old.out → mid.out ≡ old.out → FindsState old.bytes call.first → Settled view old mid → Ran call how left mid new → Ran call how left old new
+pub ran_from : {H : Type 0} {before later : ℕ} (view : H → View) → ((h : H) → OnlyNow (view h)) → (how : Status) (call : Call) (left : List ℕ) {old mid new : View} → call.out ≡ old.out → mid.out ≡ old.out → FindsState old.bytes call.first → Settled view old mid → Ran call how left before later mid new → Ran call how left before later old new
 ran_from view only_now how call left out same finds settled it = record {
   history = it.history;
   run = it.run;
@@ -139,7 +139,7 @@ causes_from disk sink causes = record {
 }
 
 -- a run in which no count rose came to its end
-pub completed : (how : Status) {call : Call} {left : List ℕ} {mid old new : View} {before after_it : ℕ} → Ran call how left mid new → Causes how before after_it old new → length call.items < call.budget → NoFaults before after_it old new → (how ≡ Done) ⊎ (how ≡ NoMemory)
+pub completed : (how : Status) {call : Call} {left : List ℕ} {mid old new : View} {taken_before taken_after before after_it : ℕ} → Ran call how left taken_before taken_after mid new → Causes how before after_it old new → length call.items < call.budget → NoFaults before after_it old new → (how ≡ Done) ⊎ (how ≡ NoMemory)
 completed Done ran causes few none = inl refl
 completed NoMemory ran causes few none = inr refl
 completed Usage ran causes few none = absurd ran.ends

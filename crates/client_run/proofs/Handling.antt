@@ -14,7 +14,7 @@ use Rattle.client_events.specs.declared.event.Event.{Event}
 use Rattle.client_turns.specs.Turns.{after}
 use Rattle.client_turns.specs.Past.{Turn, Past}
 use Rattle.sync_engine.specs.Standing.{IsStanding, Kept, StandsFor}
-use Rattle.sync_engine.specs.Telling.{HandsOut, Makes, MovesBy}
+use Rattle.sync_engine.specs.Telling.{HandsOut, Makes, MakesOne, MovesBy}
 use Rattle.client_turns.specs.Turn.{SettlesAfter, heard_then, is_heard}
 use Rattle.client_turns.specs.declared.refusal.Refusal.{Refusal}
 use Rattle.sync_engine.specs.declared.out.Outcome.{Outcome}
@@ -22,7 +22,7 @@ use Rattle.client_run.specs.Printed.{printed}
 use Rattle.record_codec.specs.declared.commit.Commit.{Commit}
 use Rattle.sync_engine.proofs.Committed.{stored_finds}
 use Rattle.client_run.specs.Taken.{IsTaken, MovesLine}
-use Rattle.client_run.specs.Turn.{LineTurn, IsLineTurn, CommitsNext, and_heard, of_event, refusal_in, unheard, unread_turn}
+use Rattle.client_run.specs.Turn.{LineTurn, IsLineTurn, CommitsNext, CommitsOne, and_heard, of_event, refusal_in, unheard, unread_turn}
 use Rattle.client_run.specs.Turned.{Coming, FindsCommit, HasTurn, InTurn, IsHandled, Turned, WrotePart, coming, text_of_turn}
 use Rattle.client_run.specs.declared.taken.Taken.{Taken}
 use Rattle.client_run.specs.declared.taken.Taken.TheVariants.{Unread as NoEvent, Heard}
@@ -66,6 +66,9 @@ event_moves {s} {past} {e} it = record { commit = it.commit; commits = by it.com
     by : (made : Option Commit) → IfSome made (Makes s past e) → IfSome made (λ made. CommitsNext s past (an_event e) (Some made))
     by None makes = tt
     by (Some made) makes = (makes.0, makes.1, sym makes.2)
+
+pub event_commits : {s : State} {past : Past} {e : Event} → MakesOne s past e → CommitsOne s past (an_event e)
+event_commits it = record { made = it.made; commits = (it.makes.0, it.makes.1, sym it.makes.2) }
 
 pub nothing_moves_line : {s : State} {past : Past} {old new : View} (refusal : Unread) → Moves s s old new → MovesLine s past (Refused refusal) old new
 nothing_moves_line refusal moves = record { commit = None; commits = tt; moves = moves }

@@ -3,7 +3,7 @@ use Rattle.std.proofs.Common.{◌≡◌, ◌≢◌, ◌⊎◌, inl, inr, ⊎_eli
 use Rattle.std.specs.List.{AllZip}
 use Rattle.std.proofs.lemmas.List.{take_more, length-append, length-drop, append_assoc, append-nil}
 use Rattle.std.proofs.Math.Seq.{drop-cons}
-use Rattle.host_api.specs.Counts.{RisesAt}
+use Rattle.host_api.specs.Counts.{RisesAt, one_more}
 use Rattle.host_api.specs.Items.{Item, Next, item_of, split}
 use Rattle.host_api.specs.declared.source.Line.{Line}
 use Rattle.host_api.specs.declared.source.Line.TheVariants.{Text, TooLong, End}
@@ -23,10 +23,10 @@ use Rattle.client_run.specs.Causes.{Causes, IsServed}
 use Rattle.client_run.specs.Crash.{Keeps, IsAsBefore, Synced, FindsHandled, FindsNext, FindsAtEnd, Survives, Crashes}
 use Rattle.client_run.specs.History.{Handled, History, IsNext, now, heard, output_of, readings_of}
 use Rattle.client_run.specs.Laws.{IsCounted}
-use Rattle.client_run.specs.Output.{Call, IsRun, out_after, TookNext, EndsAs}
+use Rattle.client_run.specs.Output.{Call, IsRun, out_after, raised_by, TookNext, EndsAs}
 use Rattle.client_run.specs.Printed.{printed}
 use Rattle.client_run.specs.Run.{Ran, LeavesAll, Kept as KeptAtEnd}
-use Rattle.client_run.specs.Turn.{LineTurn, CommitsNext}
+use Rattle.client_run.specs.Turn.{LineTurn, CommitsNext, CommitsOne}
 use Rattle.client_run.specs.Turned.{Coming, FindsCommit, IsHandled, Stopped, Turned, TurnCounts, coming, status_of}
 use Rattle.client_run.specs.declared.turn_fault.TurnFault.{TurnFault}
 use Rattle.client_run.specs.declared.turn_fault.TurnFault.TheVariants as fault
@@ -154,6 +154,20 @@ took_one {call} {done = done} {rest = rest} it line text left open_still next =
     let place : suc done ≡ length it.history + 1 = omega (arith, it.count) in
     record { below = omega (arith, below, it.count); others = sym others ∙ ap (λ k. drop k call.items) place }
 
+one_later : (n before : ℕ) → one_more (raised_by n before) ≡ raised_by (n + 1) before
+one_later n before = let place : suc n ≡ n + 1 = omega arith in ap (λ k. raised_by k before) place
+
+-- the source answered once more
+pub answered_more : (n before : ℕ) {mid next : ℕ} → mid ≡ raised_by n before → next ≡ one_more mid → next ≡ raised_by (n + 1) before
+answered_more n before same rises = rises ∙ ap one_more same ∙ one_later n before
+
+-- so often for what was handled, and for the next item
+pub answered_handled : {call : Call} {done : ℕ} {rest : List Item} {client : Kept} {old v : View} (it : Serving call done rest client old v) (before : ℕ) {mid next : ℕ} → mid ≡ raised_by done before → next ≡ mid → next ≡ raised_by (length it.history) before
+answered_handled it before so same = same ∙ so ∙ ap (λ n. raised_by n before) (sym it.count)
+
+pub answered_next : {call : Call} {done : ℕ} {rest : List Item} {client : Kept} {old v : View} (it : Serving call done rest client old v) (before : ℕ) {mid next : ℕ} → mid ≡ raised_by done before → next ≡ one_more mid → next ≡ raised_by (length it.history + 1) before
+answered_next {done = done} it before so rises = answered_more done before so rises ∙ ap (λ n. raised_by (n + 1) before) (sym it.count)
+
 -- nothing was done
 pub stays_none : (v : View) → Stays v v
 stays_none v = record { bytes = refl; crash = λ c left. left; time = spans_none v (λ o c. (o ≡ v.out) × v.may_leave c) }
@@ -186,8 +200,8 @@ synced_from how call history {old} {mid} {new} only_now out same stays finds spa
 }
 
 -- a run that stops between two items
-pub stops : {call : Call} {done : ℕ} {rest : List Item} {client : Kept} {old new : View} (how : Status) (left : List ℕ) (it : Serving call done rest client old new) → OnlyNow old → call.out ≡ old.out → ¬ (IsStoreSpent client.store) → IsStored client.store new
-    → EndsAs how call it.history left new.out → ((c : Files) → FindsHandled call it.history c → FindsAtEnd how call it.history c) → Ran call how left old new
+pub stops : {call : Call} {done before later : ℕ} {rest : List Item} {client : Kept} {old new : View} (how : Status) (left : List ℕ) (it : Serving call done rest client old new) → OnlyNow old → call.out ≡ old.out → ¬ (IsStoreSpent client.store) → IsStored client.store new
+    → EndsAs how call it.history left before later new.out → ((c : Files) → FindsHandled call it.history c → FindsAtEnd how call it.history c) → Ran call how left before later old new
 stops {call} {done = done} {old = old} how left it only_now same whole is ends leaves = record {
   history = it.history;
   run = it.run;
@@ -303,39 +317,41 @@ module _ {call : Call} {done : ℕ} {rest more : List Item} {client : Kept} {old
   stopped_as why stopped told = subst (λ (r : Root). Stopped (coming r (now call.first history) (heard history) reading (done + 1)) why mid.out new.out) it.root (stopped told (now call.first history) (heard history) it.stands)
 
 -- a run that stops within an item
-pub stops_within : {call : Call} {done : ℕ} {rest : List Item} {client : Kept} {old mid new : View} (why : TurnFault) (left : List ℕ) (reading : Reading) (it : Serving call done rest client old mid) → OnlyNow old → call.out ≡ old.out
+pub stops_within : {call : Call} {done before later : ℕ} {rest : List Item} {client : Kept} {old mid new : View} (why : TurnFault) (left : List ℕ) (reading : Reading) (it : Serving call done rest client old mid) → OnlyNow old → call.out ≡ old.out
     → Nexts call.root call.items (readings_of it.history) reading (split left) → done + 1 < 2 ^ 64 → Handles (done + 1) reading client mid new
     → (IsTrue call.tells_out → (s : State) (past : Past) → StandsFor client s past → Stopped (coming client.root s past reading (done + 1)) why mid.out new.out)
-    → done < call.budget → Ran call (status_of why) left old new
-stops_within {call} {done = done} {new = new} fault.DiskFault left reading it only_now same nexts few handles stopped below = record {
+    → (why ≡ fault.DiskFault → (s : State) (past : Past) → StandsFor client s past → CommitsOne s past reading)
+    → later ≡ raised_by (length it.history + 1) before
+    → done < call.budget → Ran call (status_of why) left before later old new
+stops_within {call} {done = done} {new = new} fault.DiskFault left reading it only_now same nexts few handles stopped meets answered below = record {
   history = it.history;
   run = it.run;
   within = omega (arith, it.within, it.count);
   ends = record {
     handled = omega (arith, below, it.count);
-    taken = inl (took_next nexts);
+    taken = inl (record { others = took_next nexts; reading = reading; read = nexts.read; spelled = handles.spelled; commits = meets refl (now call.first it.history) (heard it.history) it.stands }, answered);
     written = λ told. stopped_as reading it nexts few handles fault.DiskFault stopped told ∙ it.wrote told;
   };
   crash = crashes_within reading it nexts few handles DiskFault left only_now same (λ c h. h);
 }
-stops_within {call} {done = done} {new = new} fault.NoMemory left reading it only_now same nexts few handles stopped below = record {
+stops_within {call} {done = done} {new = new} fault.NoMemory left reading it only_now same nexts few handles stopped meets answered below = record {
   history = it.history;
   run = it.run;
   within = omega (arith, it.within, it.count);
   ends = record {
     handled = omega (arith, below, it.count);
-    taken = inr (took_next nexts);
+    taken = inr (took_next nexts, answered);
     written = λ told. stopped_as reading it nexts few handles fault.NoMemory stopped told ∙ it.wrote told;
   };
   crash = crashes_within reading it nexts few handles NoMemory left only_now same (λ c h. h);
 }
-stops_within {call} {done = done} {new = new} fault.SinkFault left reading it only_now same nexts few handles stopped below = record {
+stops_within {call} {done = done} {new = new} fault.SinkFault left reading it only_now same nexts few handles stopped meets answered below = record {
   history = it.history;
   run = it.run;
   within = omega (arith, it.within, it.count);
   ends = record {
     handled = omega (arith, below, it.count);
-    taken = took_next nexts;
+    taken = (took_next nexts, answered);
     written = λ told.
         let stopped_part = stopped_as reading it nexts few handles fault.SinkFault stopped told in
         let long : done + 1 ≡ length it.history + 1 = ap (λ n. n + 1) (sym it.count) in
@@ -373,7 +389,7 @@ pub record SameFaults (old new : View) : Type 0 where
 pub rises_as : {P Q : Type 0} {old mid new : ℕ} → mid ≡ old → (Q → P) → (P → Q) → RisesAt P mid new → RisesAt Q old new
 rises_as same to back counts = record {
   later = omega (arith, same, counts.later);
-  failed = λ q. let rises = counts.failed (to q) in omega (arith, same, rises);
+  failed = λ q. counts.failed (to q) ∙ ap one_more same;
   stays = λ never. counts.stays (λ p. never (back p)) ∙ same;
 }
 

@@ -1,14 +1,17 @@
 -- Clause *Output* of a run over the files of a store: which items of the source it handled and
--- took, and what it wrote.
-use Rattle.std.specs.Prelude.{◌≡◌, ◌≢◌, ◌⊎◌, ℕ, ◌+◌, ◌<◌, List, [], ◌∷◌, ◌++◌, length, drop, IsTrue, Bool}
+-- took, how often the source answered, and what it wrote.
+use Rattle.std.specs.Prelude.{◌≡◌, ◌≢◌, ◌⊎◌, ℕ, zero, suc, ◌+◌, ◌<◌, List, [], ◌∷◌, ◌++◌, length, drop, IsTrue, Bool}
+use Rattle.host_api.specs.Counts.{one_more}
 use Rattle.host_api.specs.Host.{IsPart}
 use Rattle.host_api.specs.Items.{Item, split, IsSuffix}
 use Rattle.document_keys.specs.Names.{Root}
 use Rattle.line_reader.specs.Reading.{AreRead}
 use Rattle.line_reader.specs.Spelled.{IsSpelledReading}
+use Rattle.line_reader.specs.declared.reading.Reading.{Reading}
 use Rattle.local_store.specs.State.{State}
-use Rattle.client_run.specs.History.{Handled, History, AreTurns, IsNext, output_of, readings_of}
+use Rattle.client_run.specs.History.{Handled, History, AreTurns, IsNext, heard, now, output_of, readings_of}
 use Rattle.client_run.specs.Printed.{printed}
+use Rattle.client_run.specs.Turn.{CommitsOne}
 use Rattle.client_run.specs.declared.status.Status.{Status}
 use Rattle.client_run.specs.declared.status.Status.TheVariants as ended
 
@@ -54,8 +57,8 @@ Took call n left = split left ≡ drop n call.items
 abbrev pub TookHandled : Call → History → List ℕ → Type 0
 TookHandled call history left = Took call (length history) left
 
--- The same, but the source failed in the next item, and of the bytes behind a front may be gone.
-pub record TookAndFailed (call : Call) (history : History) (left : List ℕ) : Type 0 where
+-- The same, but a front of the bytes behind them may be gone, as a call of the source leaves it that has no line.
+pub record TookNoMore (call : Call) (history : History) (left : List ℕ) : Type 0 where
   pub rest : List ℕ
   pub others : TookHandled call history rest
   pub suffix : IsSuffix rest left
@@ -65,10 +68,33 @@ pub record TookNext (call : Call) (history : History) (left : List ℕ) : Type 0
   pub below : length history < length call.items
   pub others : Took call (length history + 1) left
 
+-- the same, and the next one makes a commit
+pub record TookCommit (call : Call) (history : History) (left : List ℕ) : Type 0 where
+  pub others : TookNext call history left
+  pub reading : Reading
+  pub read : AreRead call.root call.items (readings_of history ++ reading ∷ [])
+  pub spelled : IsSpelledReading reading
+  pub commits : CommitsOne (now call.first history) (heard history) reading
+
 -- nothing was handled, and nothing taken
 pub record TookNothing (call : Call) (history : History) (left : List ℕ) : Type 0 where
   pub none : history ≡ []
   pub others : Took call 0 left
+
+-- ---- how many calls of the source were answered, where it counts so many before the run and after it
+
+-- a count that is raised by so many
+abbrev pub raised_by : ℕ → ℕ → ℕ
+raised_by zero count = count
+raised_by (suc n) count = one_more (raised_by n count)
+
+-- one for each line that was handled
+abbrev pub AnsweredHandled : History → ℕ → ℕ → Type 0
+AnsweredHandled history before after = after ≡ raised_by (length history) before
+
+-- these and the next one
+abbrev pub AnsweredNext : History → ℕ → ℕ → Type 0
+AnsweredNext history before after = after ≡ raised_by (length history + 1) before
 
 -- ---- what was written, where the output is this then
 
@@ -113,18 +139,23 @@ SpentBudget call history = length history ≡ call.budget
 abbrev pub BelowBudget : Call → History → Type 0
 BelowBudget call history = length history < call.budget
 
--- how many items were handled, which were taken, and what was written
-abbrev pub EndsAs : Status → Call → History → List ℕ → List ℕ → Type 0
-EndsAs ended.Done c rs left out =
-    Ends (HandledAll c rs) (TookHandled c rs left) (WroteHandled c rs out)
-EndsAs ended.Budget c rs left out =
-    Ends (SpentBudget c rs) (TookHandled c rs left) (WroteHandled c rs out)
-EndsAs ended.SourceFault c rs left out =
-    Ends (BelowBudget c rs) (TookAndFailed c rs left) (WroteHandled c rs out)
-EndsAs ended.DiskFault c rs left out =
-    Ends (BelowBudget c rs) (TookNext c rs left ⊎ TookNothing c rs left) (WroteHandled c rs out)
-EndsAs ended.SinkFault c rs left out =
-    Ends (BelowBudget c rs) (TookNext c rs left) (WrotePart c rs out)
-EndsAs ended.NoMemory c rs left out =
-    Ends (BelowBudget c rs) (TookAndFailed c rs left ⊎ TookNext c rs left) (WroteHandled c rs out)
-EndsAs _ c rs left out = ⊥
+-- How many items were handled, which were taken, by how many answers of the source, and what was written. At Done its last answer
+-- was that nothing is left.
+abbrev pub EndsAs : Status → Call → History → List ℕ → ℕ → ℕ → List ℕ → Type 0
+EndsAs ended.Done c rs left before after out =
+    Ends (HandledAll c rs) (TookHandled c rs left × AnsweredNext rs before after) (WroteHandled c rs out)
+EndsAs ended.Budget c rs left before after out =
+    Ends (SpentBudget c rs) (TookHandled c rs left × AnsweredHandled rs before after) (WroteHandled c rs out)
+EndsAs ended.SourceFault c rs left before after out =
+    Ends (BelowBudget c rs) (TookNoMore c rs left × AnsweredHandled rs before after) (WroteHandled c rs out)
+EndsAs ended.DiskFault c rs left before after out =
+    Ends (BelowBudget c rs)
+    ((TookCommit c rs left × AnsweredNext rs before after) ⊎ (TookNothing c rs left × (after ≡ before)))
+    (WroteHandled c rs out)
+EndsAs ended.SinkFault c rs left before after out =
+    Ends (BelowBudget c rs) (TookNext c rs left × AnsweredNext rs before after) (WrotePart c rs out)
+EndsAs ended.NoMemory c rs left before after out =
+    Ends (BelowBudget c rs)
+    ((TookNoMore c rs left × AnsweredHandled rs before after) ⊎ (TookNext c rs left × AnsweredNext rs before after))
+    (WroteHandled c rs out)
+EndsAs _ c rs left before after out = ⊥

@@ -8,12 +8,13 @@ use Rattle.local_store.specs.Files.{FindsState}
 use Rattle.client_run.specs.declared.status.Status.{Status}
 use Rattle.client_run.specs.declared.status.Status.TheVariants as ended
 
--- Some items were handled, one after another; the history has what they are, and their turns.
-pub record Ran (call : Call) (status : Status) (left : List ℕ) (old new : View) : Type 0 where
+-- Some items were handled, one after another; the history has what they are, and their turns. The source has these bytes left,
+-- and it counted so many answers before and after.
+pub record Ran (call : Call) (status : Status) (left : List ℕ) (before after : ℕ) (old new : View) : Type 0 where
   pub history : History
   pub run : IsRun call history
   pub within : length history ≤ length call.items
-  pub ends : EndsAs status call history left new.out
+  pub ends : EndsAs status call history left before after new.out
   pub crash : IsTrue call.tells_out → Crashes status call history left old new
 
 -- So many items were handled, and the files find the state after their commits.

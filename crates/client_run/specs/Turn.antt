@@ -50,6 +50,11 @@ abbrev pub CommitsNext : State → Past → Reading → Option Commit → Type 0
 CommitsNext s past (Refused refusal) commit = commit ≡ None
 CommitsNext s past (an_event e) commit = (answer : Turn) × Answers s past e answer × (commit ≡ answer.commit)
 
+-- the line makes a commit
+pub record CommitsOne (s : State) (past : Past) (reading : Reading) : Type 0 where
+  pub made : Commit
+  pub commits : CommitsNext s past reading (Some made)
+
 -- why the client refused the event of a line, if it did
 abbrev pub refusal_in : Option Cause → Option Refusal
 refusal_in None = None

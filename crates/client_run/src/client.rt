@@ -27,7 +27,7 @@ use std::alloc::Global;
 /// `Usage` exactly where the words aren't such, or else `NoMemory`: DIR isn't empty and doesn't begin with `-`, and DATABASE is
 /// `projects/{project}/databases/{database}` with two segments; nothing is read or written then. `NotAStore` exactly where the
 /// files, being read, aren't those of a store: nothing is changed then. `SourceFault`, `DiskFault` and `SinkFault` only where
-/// that count rose, and no other rose then; `Budget` exactly where 4,294,967,296 lines were handled; or `NoMemory`.
+/// that count of faults rose by one, and no other one rose then; `Budget` exactly where 4,294,967,296 lines were handled; or `NoMemory`.
 pub fn run_client<S: Source, H: Host>(
     alloc: Global,
     words: &[String],
@@ -43,7 +43,8 @@ pub fn run_client<S: Source, H: Host>(
         → AsksRun (map string_bytes words.now) root
         → (s : State) → FindsState (H.view host.old).bytes s
         → Ran (called root (S.left source.old) s 4294967296 H.tells_out (H.view host.old).out)
-        result (S.left source.new) (H.view host.old) (H.view host.new) }
+        result (S.left source.new) (S.answered source.old) (S.answered source.new)
+        (H.view host.old) (H.view host.new) }
     ensures kept { IsTrue S.tells → IsTrue H.tells_files → (root : Root)
         → AsksRun (map string_bytes words.now) root
         → (s : State) → FindsState (H.view host.old).bytes s

@@ -1,6 +1,6 @@
 //! One line, from its reading to its answer.
 
-ghost use Rattle.std.specs.Prelude.{◌≡◌, ◌<◌, ◌^◌, IsTrue, IfErr, IfSome, OnOk};
+ghost use Rattle.std.specs.Prelude.{◌≡◌, ◌<◌, ◌^◌, IsTrue, IfErr, IsErrOf, IfSome, OnOk};
 ghost use Rattle.line_reader.specs.Spelled.{IsSpelledReading};
 ghost use Rattle.local_store.specs.State.{State};
 ghost use Rattle.local_store.specs.Store.{IsStored};
@@ -8,6 +8,7 @@ ghost use Rattle.client_turns.specs.Past.{Past};
 ghost use Rattle.sync_engine.specs.Standing.{IsLive, IsStanding, StandsFor};
 ghost use Rattle.client_turns.specs.Writing.{first_batch};
 ghost use Rattle.client_run.specs.Laws.{IsCounted};
+ghost use Rattle.client_run.specs.Turn.{CommitsOne};
 ghost use Rattle.client_run.specs.Turned.{IsHandled, Stopped, Turned, TurnCounts, coming};
 
 use crate::printing::print_taken;
@@ -66,6 +67,8 @@ pub fn handle<H: Host>(
     ensures files { IsTrue H.tells_files → (s : State) (past : Past) → StandsFor client.old s past
         → Turned (coming client.old.root s past reading number)
         (H.view host.old) (H.view host.new) }
+    ensures meets { IsErrOf result TurnFault.DiskFault → (s : State) (past : Past)
+        → StandsFor client.old s past → CommitsOne s past reading }
     ensures counts { TurnCounts result (H.view host.old) (H.view host.new) }
 {
     let _number = client.store().number();

@@ -33,7 +33,8 @@ fn serve<S: Source, H: Host>(
     requires standing { IsStanding client.old }
     ensures run { IsTrue S.tells → IsTrue H.tells_files → (s : State) → StandsFor client.old s []
         → Ran (called client.old.root (S.left source.old) s budget H.tells_out (H.view host.old).out)
-        result (S.left source.new) (H.view host.old) (H.view host.new) }
+        result (S.left source.new) (S.answered source.old) (S.answered source.new)
+        (H.view host.old) (H.view host.new) }
     ensures kept { IsTrue S.tells → IsTrue H.tells_files → (s : State) → StandsFor client.old s []
         → Kept result (called client.old.root (S.left source.old) s budget H.tells_out (H.view host.old).out)
         (H.view host.new).bytes }
@@ -69,7 +70,8 @@ fn serve<S: Source, H: Host>(
 ///
 /// # Errors
 /// `NotAStore` exactly where the files, being read, aren't those of a store. Over such files nothing is changed, written or
-/// taken, whatever the answer. `SourceFault`, `DiskFault` and `SinkFault` only where that count rose, and no other rose then;
+/// taken, whatever the answer. `SourceFault`, `DiskFault` and `SinkFault` only where that count of faults rose by one, and no
+/// other one rose then;
 /// `Budget` exactly where as many lines were handled as the budget allows; `Done` exactly at the end of the source before
 /// that; or `NoMemory`.
 pub fn run_within<S: Source, H: Host>(
@@ -82,7 +84,8 @@ pub fn run_within<S: Source, H: Host>(
     requires budget { 1 ≤ budget }
     ensures run { IsTrue S.tells → IsTrue H.tells_files → (s : State) → FindsState (H.view host.old).bytes s
         → Ran (called root (S.left source.old) s budget H.tells_out (H.view host.old).out)
-        result (S.left source.new) (H.view host.old) (H.view host.new) }
+        result (S.left source.new) (S.answered source.old) (S.answered source.new)
+        (H.view host.old) (H.view host.new) }
     ensures kept { IsTrue S.tells → IsTrue H.tells_files → (s : State)
         → FindsState (H.view host.old).bytes s
         → Kept result (called root (S.left source.old) s budget H.tells_out (H.view host.old).out)

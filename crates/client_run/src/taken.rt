@@ -9,6 +9,7 @@ ghost use Rattle.local_store.specs.Store.{IsStored};
 ghost use Rattle.client_turns.specs.Past.{Past};
 ghost use Rattle.sync_engine.specs.Standing.{IsLive, IsStanding, StandsFor};
 ghost use Rattle.client_run.specs.Taken.{IsTaken, MovesLine};
+ghost use Rattle.client_run.specs.Turn.{CommitsOne};
 
 use crate::turn_fault::TurnFault;
 use host_api::Host;
@@ -43,6 +44,8 @@ pub fn take<H: Host>(
     ensures stored { IsTrue H.tells_files → IsStored client.new.store (H.view host.new) }
     ensures files { IsTrue H.tells_files → (s : State) (past : Past) → StandsFor client.old s past
         → MovesLine s past reading (H.view host.old) (H.view host.new) }
+    ensures meets { IsErrOf result TurnFault.DiskFault → (s : State) (past : Past)
+        → StandsFor client.old s past → CommitsOne s past reading }
     ensures out { KeepsOut (H.view host.old) (H.view host.new) }
     ensures counts { RisesAt (IsErrOf result TurnFault.DiskFault)
         (H.view host.old).disk_faults (H.view host.new).disk_faults }

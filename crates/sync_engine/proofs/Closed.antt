@@ -39,7 +39,7 @@ use Rattle.client_turns.specs.Lines.{rejected, result, send}
 use Rattle.client_turns.specs.Past.{Past, Turn, steps_by, steps_of}
 use Rattle.client_turns.specs.Settling.{Stance}
 use Rattle.sync_engine.specs.Standing.{Kept, IsQuiet, GoesOn, StandsFor, StandsOn, limbo_in, stance_in}
-use Rattle.sync_engine.specs.Telling.{HandsSettled, IsQuietOrAmong, IsShown, KeepsRest, MovesBy, Raises}
+use Rattle.sync_engine.specs.Telling.{HandsSettled, IsQuietOrAmong, IsShown, KeepsRest, MakesOne, MovesBy, Raises}
 use Rattle.client_turns.specs.Turn.{answered_next, is_heard}
 use Rattle.client_turns.specs.Turns.{after, answered, commits, refused}
 use Rattle.client_turns.specs.Writing.{IsWritten, WrittenTurn, acknowledges, bad_turn, closed_turn, closes, fails, first_batch, is_open, member_name, opened_turn, rejects, settles, shakes}
@@ -50,7 +50,7 @@ use Rattle.client_turns.specs.declared.refusal.Refusal.{Refusal}
 use Rattle.client_turns.specs.declared.refusal.Refusal.TheVariants.{BadMessage, IdsSpent, StreamState}
 use Rattle.sync_engine.specs.declared.watch_stream.Due.TheVariants.{Nothing}
 use Rattle.sync_engine.specs.declared.write_stream.WriteStream.{WriteStream}
-use Rattle.sync_engine.proofs.Committed.{moves_by}
+use Rattle.sync_engine.proofs.Committed.{makes_by, moves_by}
 use Rattle.sync_engine.proofs.Following.{AreQuiet, IsPlain, are_quiet, follows_plain, quiet_kept}
 use Rattle.sync_engine.proofs.Handing.{Handed, as_done, as_refused, handed, keeps_all, no_reset, raises_none}
 use Rattle.client_turns.specs.Asking.{resets_by}
@@ -276,6 +276,18 @@ pub moves_rejected : {old : Kept} {past : Past} {before later : View} (batch : B
 moves_rejected {old} {past} batch status stands few first opening such moves =
     moves_by (commits (Reject batch.id) (rejected batch.id (old.store.state.number + 1) status ∷ []))
     (sym (rejects_is old.store.state batch status few first) ∙ closed_rejects stands status opening such) moves
+
+pub makes_rejected : {old : Kept} {past : Past} (batch : Batch) (status : RpcStatus) → StandsFor old old.store.state past → old.store.state.number < most_commits → first_batch old.store.state ≡ Some batch → old.writes.is_open ≡ true → closing_of (steps_of past) status.code ≡ Rejects
+    → MakesOne old.store.state past (event.Closed stream.Write status)
+makes_rejected {old} batch status stands few first opening such =
+    makes_by (commits (Reject batch.id) (rejected batch.id (old.store.state.number + 1) status ∷ [])) (Reject batch.id)
+    (sym (rejects_is old.store.state batch status few first) ∙ closed_rejects stands status opening such) refl
+
+pub makes_acknowledged : {old : Kept} {past : Past} (batch : Batch) (time : Timestamp) (response : WriteResponse) → StandsFor old old.store.state past → old.store.state.number < most_commits → first_batch old.store.state ≡ Some batch → response.commit_time ≡ Some time → old.writes.is_open ≡ true
+    → Fits (steps_of past) (first_batch old.store.state) response Acknowledges → MakesOne old.store.state past (event.Written response)
+makes_acknowledged {old} batch time response stands few first at opening fits =
+    makes_by (commits (Acknowledge batch.id time response.results) (result batch.id (old.store.state.number + 1) time ∷ [])) (Acknowledge batch.id time response.results)
+    (written_as stands response _ opening (acknowledges batch time first at fits (sym (settles_is old.store.state batch.id time response.results few)))) refl
 
 pub moves_acknowledged : {old : Kept} {past : Past} {before later : View} (batch : Batch) (time : Timestamp) (response : WriteResponse) → StandsFor old old.store.state past → old.store.state.number < most_commits → first_batch old.store.state ≡ Some batch → response.commit_time ≡ Some time → old.writes.is_open ≡ true
     → Fits (steps_of past) (first_batch old.store.state) response Acknowledges → Moves old.store.state (committed old.store.state (Acknowledge batch.id time response.results)) before later → MovesBy old.store.state past (event.Written response) before later

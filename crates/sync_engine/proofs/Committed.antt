@@ -1,5 +1,5 @@
 -- What a store's files find.
-use Rattle.std.proofs.Common.{◌≡◌, ◌⊎◌, inl, ℕ, Option, Some, None, IfSome, List, refl}
+use Rattle.std.proofs.Common.{◌≡◌, ◌⊎◌, inl, ℕ, Option, Some, None, IfSome, List, Result, Ok, Err, OnErr, refl}
 use Rattle.std.specs.Option.{ForSome}
 use Rattle.host_api.specs.Host.{Files, View, Emits}
 use Rattle.host_api.proofs.Spans.{spans_none}
@@ -12,7 +12,7 @@ use Rattle.client_events.specs.declared.event.Event.{Event}
 use Rattle.record_codec.specs.declared.commit.Commit.{Commit}
 use Rattle.client_turns.specs.Answers.{Answers}
 use Rattle.client_turns.specs.Past.{Past, Turn}
-use Rattle.sync_engine.specs.Telling.{Makes, MovesBy}
+use Rattle.sync_engine.specs.Telling.{Makes, MakesOne, MovesBy}
 use Rattle.client_turns.specs.Turns.{after}
 
 over_finds : {s : State} {v : View} (place : Option Place) → (place ≡ None → ⊥) → ForSome place (IsOver s v) → (c : Files) → v.may_leave c → FindsState c s
@@ -48,6 +48,15 @@ moves_by {s} {past} {e} answer answers moves = record { commit = answer.commit; 
     by : (made : Option Commit) → answer.commit ≡ made → IfSome made (Makes s past e)
     by None is = tt
     by (Some made) is = (answer, answers, is)
+
+-- an answer with a commit makes it
+pub makes_by : {s : State} {past : Past} {e : Event} (answer : Turn) (made : Commit) → Answers s past e answer → answer.commit ≡ Some made → MakesOne s past e
+makes_by answer made answers is = record { made = made; makes = (answer, answers, is) }
+
+-- what is so, is so where an error is told
+pub on_err : {T E P : Type 0} (result : Result T E) → P → OnErr result P
+on_err (Ok value) is = tt
+on_err (Err error) is = is
 
 -- what moves nowhere does so at each event
 pub moves_still : {s : State} {past : Past} {e : Event} {old new : View} → Moves s s old new → MovesBy s past e old new

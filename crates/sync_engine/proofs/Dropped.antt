@@ -36,7 +36,7 @@ use Rattle.client_turns.specs.Settling.{current_with, HasTargetRow}
 use Rattle.client_turns.specs.LimboListens.{heard_limbo, is_running, is_sought, limbo_of, without_all}
 use Rattle.sync_engine.specs.Standing.{IsDue, IsQuiet, Kept, StandsFor, StandsOn, Watches, limbo_in, stance_in, standing_in}
 use Rattle.sync_engine.specs.Stream.{EndsAll, Hears, resets_of}
-use Rattle.sync_engine.specs.Telling.{AreListenersIn, HandsSettled, IsShown, MovesBy, RemovesAll}
+use Rattle.sync_engine.specs.Telling.{AreListenersIn, HandsSettled, IsShown, MakesOne, MovesBy, RemovesAll}
 use Rattle.client_turns.specs.Turn.{answered_next}
 use Rattle.client_turns.specs.Turns.{after, refused}
 use Rattle.client_turns.specs.Watching.{calls_by, calls_of, current_keys, hears, if_so, is_point, is_dropped_by, is_wanted, is_watched, keys_at_point, listened, listened_in, passed, requested_by, told_after}
@@ -49,7 +49,7 @@ use Rattle.sync_engine.specs.declared.watch_stream.Due.TheVariants.{Nothing}
 use Rattle.sync_engine.specs.declared.watch_stream.WatchStream.{WatchStream}
 use Rattle.client_turns.proofs.Among.{among_any, any_among}
 use Rattle.sync_engine.proofs.Blanked.{if_or, nat_eq_turned}
-use Rattle.sync_engine.proofs.Committed.{moves_by}
+use Rattle.sync_engine.proofs.Committed.{makes_by, moves_by}
 use Rattle.sync_engine.proofs.Emptied.{after_blank, batches_blank, blank_blanks, blank_drops, blank_resets, blank_turn, quiet_blank, rows_state, spent_blanks}
 use Rattle.sync_engine.proofs.Following.{AreQuiet, Follows}
 use Rattle.sync_engine.proofs.Handing.{as_done, handed, keeps_all, no_reset, raises_none}
@@ -190,6 +190,13 @@ module _ {client : Kept} {past : Past} (response : ListenResponse) (ids : List �
 
   pub end_spent : (rows those : List ℕ) → AreDropped client.limbo.limbo ids [] → HaveRows client.store.state.rows ids rows → AreListenersIn client.listeners ids those → IsAnyHeld client.store.state.rows rows → most_commits ≤ client.store.state.number → Answers client.store.state past (event.Watch response) (refused IdsSpent)
   end_spent rows those none have are it many = end_answers rows those (refused IdsSpent) (none_dropped none) have (listeners_of_past those are) (spent_blanks client.store.state rows (each (λ id. error id status) those) it many)
+
+  pub makes_end : (rows those : List ℕ) (blanks : Bool) → blanks ≡ true → AreDropped client.limbo.limbo ids [] → HaveRows client.store.state.rows ids rows → AreListenersIn client.listeners ids those → IsTrue blanks ↔ IsAnyHeld client.store.state.rows rows → (blanks ≡ true → client.store.state.number < most_commits)
+      → MakesOne client.store.state past (event.Watch response)
+  makes_end rows those blanks so none have are tells left =
+      let turn = blank_turn blanks rows (each (λ id. error id status) those) in
+      makes_by turn (Reset rows) (end_answers rows those turn (none_dropped none) have (listeners_of_past those are) (blank_blanks client.store.state blanks rows (each (λ id. error id status) those) tells left))
+      (ap (λ b. if b then Some (Reset rows) else None) so)
 
   pub moves_end : {before now : View} (rows those : List ℕ) (blanks : Bool) → AreDropped client.limbo.limbo ids [] → HaveRows client.store.state.rows ids rows → AreListenersIn client.listeners ids those → IsTrue blanks ↔ IsAnyHeld client.store.state.rows rows → (blanks ≡ true → client.store.state.number < most_commits)
       → Moves client.store.state (blanked_state blanks client.store.state rows) before now → MovesBy client.store.state past (event.Watch response) before now

@@ -1,5 +1,5 @@
 -- the turn by which documents in limbo go whose listens the backend ended
-use Rattle.std.proofs.Common.{◌≡◌, ◌≢◌, ◌⊎◌, ⊎_elim, inl, inr, ℕ, ◌<◌, ◌≤◌, ℤ, pos, nat_eq, Bool, true, false, ◌&&◌, ◌||◌, List, [], ◌∷◌, ◌++◌, map as each, Option, Some, None, option_map, IfSome, if◌then◌else◌, Vec, Global, refl, sym, ap, subst, ◌∙◌}
+use Rattle.std.proofs.Common.{◌≡◌, ◌≢◌, ⊎_elim, inl, inr, ℕ, ◌<◌, ◌≤◌, ℤ, pos, nat_eq, Bool, true, false, ◌&&◌, ◌||◌, List, [], ◌∷◌, ◌++◌, map as each, Option, Some, None, option_map, IfSome, if◌then◌else◌, Vec, Global, refl, sym, ap, subst, ◌∙◌}
 use Rattle.std.proofs.lemmas.Bool.{and_parts, lt-ltb, le-ltb, true≢false}
 use Rattle.std.proofs.lemmas.Option.{none-some}
 use Rattle.std.proofs.lemmas.List.Elements.{Contains-append_cases, Contains-append_left, Contains-append_right}
@@ -50,7 +50,7 @@ use Rattle.client_turns.specs.Asking.{resets_by}
 use Rattle.client_turns.specs.Settling.{current_with, HasTargetRow}
 use Rattle.sync_engine.specs.Standing.{IsQuiet, Kept, StandsFor, limbo_in, stance_in, standing_in}
 use Rattle.sync_engine.specs.Stream.{Hears, resets_of}
-use Rattle.sync_engine.specs.Telling.{AreListenersIn, HandsSettled, IsQuietOrAmong, IsShown, KeepsRest, MovesBy, Raises, RemovesAll, ResetsAsDue}
+use Rattle.sync_engine.specs.Telling.{AreListenersIn, HandsSettled, IsQuietOrAmong, IsShown, KeepsRest, MakesOne, MovesBy, Raises, RemovesAll, ResetsAsDue}
 use Rattle.client_turns.specs.Turn.{answered_next}
 use Rattle.client_turns.specs.Turns.{commits, refused}
 use Rattle.client_turns.specs.Watching.{calls_of, current_keys}
@@ -61,7 +61,7 @@ use Rattle.sync_engine.specs.declared.out.Outcome.TheVariants.{Done}
 use Rattle.client_turns.specs.declared.refusal.Refusal.TheVariants.{IdsSpent}
 use Rattle.sync_engine.specs.declared.watch_stream.Due.TheVariants.{Nothing}
 use Rattle.sync_engine.specs.declared.watch_stream.WatchStream.{WatchStream}
-use Rattle.sync_engine.proofs.Committed.{moves_by}
+use Rattle.sync_engine.proofs.Committed.{makes_by, moves_by}
 use Rattle.client_turns.proofs.Given.{EndsTargets, ended_change}
 use Rattle.sync_engine.proofs.Dropped.{errors_raise, errors_shown, follows, listed_among, listeners_of_past, others_apart}
 use Rattle.sync_engine.proofs.Emptied.{held_blanked, quiet_over, row_blanked}
@@ -118,6 +118,9 @@ module _ {client : Kept} {past : Past} (response : ListenResponse) (ids : List �
 
   pub dropped_answers : client.store.state.number < most_commits → Answers client.store.state past (event.Watch response) (commits (Drop keys rows) (each (λ id. error id status) those))
   dropped_answers few = as_dropped (commits (Drop keys rows) (each (λ id. error id status) those)) (sym (ap (λ b. if b then commits (Drop keys rows) (each (λ id. error id status) those) else refused IdsSpent) (lt-ltb client.store.state.number most_commits few)))
+
+  pub makes_dropped : client.store.state.number < most_commits → MakesOne client.store.state past (event.Watch response)
+  makes_dropped few = makes_by (commits (Drop keys rows) (each (λ id. error id status) those)) (Drop keys rows) (dropped_answers few) refl
 
   -- what a crash finds
   pub moves_dropped : {before later : View} → client.store.state.number < most_commits → Moves client.store.state (committed client.store.state (Drop keys rows)) before later → MovesBy client.store.state past (event.Watch response) before later

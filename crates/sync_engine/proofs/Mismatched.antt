@@ -30,7 +30,7 @@ use Rattle.client_turns.specs.Asking.{resets_by}
 use Rattle.client_turns.specs.LimboListens.{is_sought, limbo_of}
 use Rattle.sync_engine.specs.Standing.{IsDue, Kept, StandsFor, Watches, standing_in}
 use Rattle.sync_engine.specs.Stream.{Hears, Resets, resets_of}
-use Rattle.sync_engine.specs.Telling.{HandsSettled, IsQuietOrAmong, IsShown, KeepsRest, MovesBy, Raises, ResetsAsDue}
+use Rattle.sync_engine.specs.Telling.{HandsSettled, IsQuietOrAmong, IsShown, KeepsRest, MakesOne, MovesBy, Raises, ResetsAsDue}
 use Rattle.client_turns.specs.Turn.{answered_next}
 use Rattle.client_turns.specs.Turns.{after, refused}
 use Rattle.client_turns.specs.Watching.{calls_of, current_keys, if_so, is_dropped_by, is_mismatch, is_offline, is_wanted, is_watched, listened, online_of}
@@ -40,7 +40,7 @@ use Rattle.client_turns.specs.declared.refusal.Refusal.TheVariants.{IdsSpent}
 use Rattle.sync_engine.specs.declared.watch_stream.Due.{Due}
 use Rattle.sync_engine.specs.declared.watch_stream.Due.TheVariants.{Nothing}
 use Rattle.sync_engine.specs.declared.watch_stream.WatchStream.{WatchStream}
-use Rattle.sync_engine.proofs.Committed.{moves_by}
+use Rattle.sync_engine.proofs.Committed.{makes_by, moves_by}
 use Rattle.client_turns.proofs.Among.{one_among}
 use Rattle.sync_engine.proofs.Emptied.{after_blank, batches_blank, blank_blanks, blank_drops, blank_resets, blank_turn, quiet_blank, rows_state, spent_blanks}
 use Rattle.sync_engine.proofs.Following.{Follows}
@@ -68,6 +68,11 @@ module _ {client : Kept} {past : Past} (response : ListenResponse) (id : ℤ) (t
 
   pub mismatch_spent : IsAnyHeld client.store.state.rows rows → most_commits ≤ client.store.state.number → Answers client.store.state past (event.Watch response) (refused IdsSpent)
   mismatch_spent it many = mismatch_answers (refused IdsSpent) (spent_blanks client.store.state rows [] it many)
+
+  pub makes_mismatch : (blanks : Bool) → blanks ≡ true → IsTrue blanks ↔ IsAnyHeld client.store.state.rows rows → (blanks ≡ true → client.store.state.number < most_commits) → MakesOne client.store.state past (event.Watch response)
+  makes_mismatch blanks so tells left =
+      makes_by (blank_turn blanks rows []) (Reset rows) (mismatch_answers (blank_turn blanks rows []) (blank_blanks client.store.state blanks rows [] tells left))
+      (ap (λ b. if b then Some (Reset rows) else None) so)
 
   pub moves_mismatch : {before now : View} (blanks : Bool) → IsTrue blanks ↔ IsAnyHeld client.store.state.rows rows → (blanks ≡ true → client.store.state.number < most_commits) → Moves client.store.state (blanked_state blanks client.store.state rows) before now → MovesBy client.store.state past (event.Watch response) before now
   moves_mismatch {before} {now} blanks tells left moves =

@@ -1,5 +1,5 @@
 -- the turn of a point that is committed
-use Rattle.std.proofs.Common.{◌≡◌, ◌↔◌, ◌⊎◌, ⊎_elim, inl, inr, ℕ, ℤ, pos, ◌+◌, ◌-◌, ◌*◌, ◌==◌, ◌<◌, ◌<ℤ◌, ◌≤◌, suc, zero, Bool, true, false, ◌&&◌, ◌||◌, not, nat_eq, List, [], ◌∷◌, length, cond, Option, Some, None, option_map, is_some, IfSome, IsTrue, IsSome, if◌then◌else◌, Vec, Global, refl, sym, ap, subst, ◌∙◌, arith}
+use Rattle.std.proofs.Common.{◌≡◌, ◌↔◌, ⊎_elim, inl, inr, ℕ, ℤ, pos, ◌+◌, ◌-◌, ◌*◌, ◌==◌, ◌<◌, ◌<ℤ◌, ◌≤◌, suc, zero, Bool, true, false, ◌&&◌, ◌||◌, not, nat_eq, List, [], ◌∷◌, length, cond, Option, Some, None, option_map, is_some, IfSome, IsTrue, IsSome, if◌then◌else◌, Vec, Global, refl, sym, ap, subst, ◌∙◌, arith}
 use Rattle.std.proofs.lemmas.Bool.{eqb-true, lt-ltb, true≢false}
 use Rattle.std.proofs.lemmas.Bool.Decides.{Decides-int_eq}
 use Rattle.std.proofs.lemmas.Option.{none-some}
@@ -68,7 +68,7 @@ use Rattle.client_turns.specs.Settling.{IsHeldRow, Stance, current_with, stance_
 use Rattle.client_turns.specs.LimboListens.{heard_limbo, limbo_of}
 use Rattle.sync_engine.specs.Standing.{IsDue, IsQuiet, Kept, StandsFor, Watches, limbo_in, stance_in, standing_in}
 use Rattle.sync_engine.specs.Stream.{Applies, Hears, resets_of}
-use Rattle.sync_engine.specs.Telling.{HandsSettled, IsQuietOrAmong, IsShown, KeepsRest, MovesBy, Raises}
+use Rattle.sync_engine.specs.Telling.{HandsSettled, IsQuietOrAmong, IsShown, KeepsRest, MakesOne, MovesBy, Raises}
 use Rattle.client_turns.specs.Turn.{answered_next}
 use Rattle.client_turns.specs.Turns.{after, commits, refused}
 use Rattle.client_turns.specs.Watching.{calls_of, current_keys, if_so, is_mismatch, is_point, is_wanted, keys_at_point, listened, passed}
@@ -79,7 +79,7 @@ use Rattle.sync_engine.specs.declared.out.Outcome.TheVariants.{Done}
 use Rattle.client_turns.specs.declared.refusal.Refusal.TheVariants.{IdsSpent}
 use Rattle.sync_engine.specs.declared.watch_stream.Due.TheVariants.{Nothing}
 use Rattle.sync_engine.specs.declared.watch_stream.WatchStream.{WatchStream}
-use Rattle.sync_engine.proofs.Committed.{moves_by}
+use Rattle.sync_engine.proofs.Committed.{makes_by, moves_by}
 use Rattle.sync_engine.proofs.Following.{Follows, are_quiet}
 use Rattle.sync_engine.proofs.Heard.{heard_still}
 use Rattle.sync_engine.proofs.Quiet.{quiet_uncurrent}
@@ -431,6 +431,12 @@ module _ {client : Kept} {past : Past} (response : ListenResponse) (at : Timesta
   -- no number is left
   pub point_spent : most_commits ≤ client.store.state.number → Answers client.store.state past (event.Watch response) (refused IdsSpent)
   point_spent many = subst (λ (b : Bool). HeardTurn client.store.state past response b (refused IdsSpent)) (sym (sym stands.watch.opening ∙ opening)) (hearing.point_spent at gives time many refl)
+
+  pub makes_point : (entries : List KeyedEntry) (rows : List PointRow) → client.store.state.number < most_commits → IsPointCommit client.store.state (came response ∷ calls_of past) at entries rows → MakesOne client.store.state past (event.Watch response)
+  makes_point entries rows few commit =
+      makes_by (commits (Point at entries rows) []) (Point at entries rows)
+      (as_point entries rows (commits (Point at entries rows) []) commit (sym (ap (λ b. if b then commits (Point at entries rows) [] else refused IdsSpent) (lt-ltb client.store.state.number most_commits few))))
+      refl
 
   -- what a crash finds
   pub moves_point : {before later : View} (entries : List KeyedEntry) (rows : List PointRow) → client.store.state.number < most_commits → IsPointCommit client.store.state (came response ∷ calls_of past) at entries rows

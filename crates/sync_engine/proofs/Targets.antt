@@ -9,7 +9,7 @@ use Rattle.record_codec.specs.declared.commit.Commit.TheVariants.{Allocate}
 use Rattle.target_cache.specs.Cache.{TellsId, id_at}
 use Rattle.target_cache.specs.declared.row.Row.{Row}
 use Rattle.client_turns.specs.Answers.{are_left, last_target}
-use Rattle.sync_engine.specs.Targets.{GivesTarget, MovesForTarget, given_state}
+use Rattle.sync_engine.specs.Targets.{GivesTarget, MakesRow, MovesForTarget, given_state}
 
 and_false : (a : Bool) → (a && false) ≡ false
 and_false true = refl
@@ -84,6 +84,9 @@ module _ (s : State) (target : Target) (rows : List Row) (same : rows ≡ s.rows
       id = ap Some (at ∙ ap pos id_is) ∙ ap (λ b. if b then Some (pos (id_at (length s.rows))) else None) (sym left);
       state = moved ∙ sym given_left;
     }
+
+    pub makes_new : MakesRow s target
+    makes_new = record { tells = as_state None tells; left = left }
 
     pub moves_new : {old new : View} → Moves s (committed s (Allocate id target)) old new → MovesForTarget s target old new
     moves_new {old} {new} moves = record { found = None; tells = as_state None tells; moves = subst (λ (t : State). Moves s t old new) (sym given_left) moves }

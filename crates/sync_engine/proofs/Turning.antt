@@ -40,13 +40,13 @@ use Rattle.sync_engine.specs.Standing.{IsQuiet, Kept, StandsFor, StandsOn, Watch
 use Rattle.sync_engine.specs.declared.watch_stream.Due.TheVariants.{Nothing, One}
 use Rattle.sync_engine.specs.declared.watch_stream.WatchStream.{WatchStream}
 use Rattle.sync_engine.specs.declared.write_stream.WriteStream.{WriteStream}
-use Rattle.sync_engine.specs.Targets.{GivesTarget, HasBegun, MovesForTarget, given_id, given_state}
-use Rattle.sync_engine.specs.Telling.{HandsSettled, IsQuietOrAmong, IsShown, KeepsListeners, KeepsRest, MovesBy, Raises}
+use Rattle.sync_engine.specs.Targets.{GivesTarget, HasBegun, MakesRow, MovesForTarget, given_id, given_state}
+use Rattle.sync_engine.specs.Telling.{HandsSettled, IsQuietOrAmong, IsShown, KeepsListeners, KeepsRest, MakesOne, MovesBy, Raises}
 use Rattle.sync_engine.specs.declared.out.Out.{Out}
 use Rattle.sync_engine.specs.declared.out.Out.TheVariants.{Document, Listening, Wrote}
 use Rattle.sync_engine.specs.declared.out.Outcome.TheVariants.{Done}
 use Rattle.client_turns.specs.declared.refusal.Refusal.TheVariants.{IdsSpent, ListenerTaken}
-use Rattle.sync_engine.proofs.Committed.{moves_by}
+use Rattle.sync_engine.proofs.Committed.{makes_by, moves_by}
 use Rattle.sync_engine.proofs.Following.{Follows, are_quiet, follows_plain, quiet_as, quiet_kept}
 use Rattle.sync_engine.proofs.Handing.{as_done, handed, keeps_all, no_reset, raises_none, same_id}
 use Rattle.sync_engine.proofs.Passing.{watches_began}
@@ -365,7 +365,19 @@ moves_begun {old} {past} {before} {now} id query stands free it =
         by true = refl
         by false = refl
 
+-- the target has no row and gets one, which the event commits
+pub makes_begun : {old : Kept} {past : Past} (id : ℕ) (query : Target) → StandsFor old old.store.state past → viewed old.listeners id ≡ None → MakesRow old.store.state query → MakesOne old.store.state past (event.Listen id query)
+makes_begun {old} {past} id query stands free it =
+    let made = Allocate (id_at (length old.store.state.rows)) query in
+    makes_by (listens old.store.state id query None) made (subst (λ (v : Option Viewed). Begins old.store.state id query v (listens old.store.state id query None)) (sym free ∙ stands.listeners id) (None, it.tells, refl))
+    (ap (λ b. (if b then commits made (listening id (pos (id_at (length old.store.state.rows))) (old.store.state.number + 1) ∷ []) else refused IdsSpent).commit) it.left)
+
 -- ---- what a crash finds
+
+pub makes_written : {s : State} {past : Past} (at : Timestamp) (writes : List Write) → s.number < most_commits → MakesOne s past (event.Write at writes)
+makes_written {s} at writes few =
+    let made = Enqueue (record { id = s.next_batch; at = at; writes = writes }) in
+    makes_by (commits made (wrote s.next_batch (s.number + 1) ∷ [])) made (sym (enqueued_is s at writes few)) refl
 
 pub moves_written : {s : State} {past : Past} {before now : View} (id : ℕ) (at : Timestamp) (writes : List Write) → id ≡ s.next_batch → s.number < most_commits → Moves s (committed s (Enqueue (record { id = id; at = at; writes = writes }))) before now → MovesBy s past (event.Write at writes) before now
 moves_written {s} {past} {before} {now} id at writes same few moves =

@@ -1,5 +1,5 @@
 -- The id of a listener's target.
-use Rattle.std.specs.Prelude.{◌≡◌, ℕ, ℤ, pos, length, List, [], ◌∷◌, Option, Some, None, if◌then◌else◌}
+use Rattle.std.specs.Prelude.{◌≡◌, ℕ, ℤ, pos, true, length, List, [], ◌∷◌, Option, Some, None, if◌then◌else◌}
 use Rattle.host_api.specs.Host.{View}
 use Rattle.listeners.specs.Table.{Changes, ChangesTarget, fresh}
 use Rattle.local_store.specs.Files.{Moves}
@@ -36,6 +36,11 @@ pub record MovesForTarget (s : State) (target : Target) (old new : View) : Type 
   pub found : Option ℤ
   pub tells : TellsId s.rows target found
   pub moves : Moves s (given_state s target found) old new
+
+-- the target has no row, and gets one
+pub record MakesRow (s : State) (target : Target) : Type 0 where
+  pub tells : TellsId s.rows target None
+  pub left : are_left s ≡ true
 
 -- The listener of the query began, at this target, and raised its first snapshot, if it has one.
 pub record HasBegun (id : ℕ) (query : Target) (target : ℤ) (old new : Kept) (outs : List Out) : Type 0 where

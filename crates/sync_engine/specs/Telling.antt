@@ -110,9 +110,14 @@ pub record HandsOut (s : State) (past : Past) (event : Event) (handed : Outcome)
       (heard_then (record { state = s; event = event; turn = turn }) past)
   pub outcome : IsOutcome handed client turn
 
--- the event makes this commit
+-- it makes this one
 abbrev pub Makes : State → Past → Event → Commit → Type 0
 Makes s past event made = (answer : Turn) × Answers s past event answer × (answer.commit ≡ Some made)
+
+-- the event makes a commit
+pub record MakesOne (s : State) (past : Past) (event : Event) : Type 0 where
+  pub made : Commit
+  pub makes : Makes s past event made
 
 -- a crash finds the state before the event, or the one after its commit, if it makes one
 pub record MovesBy (s : State) (past : Past) (event : Event) (old new : View) : Type 0 where

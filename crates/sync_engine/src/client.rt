@@ -10,7 +10,7 @@ ghost use Rattle.local_store.specs.Store.{IsFoundIn, IsStored};
 ghost use Rattle.client_turns.specs.Past.{Past};
 ghost use Rattle.write_pipeline.specs.Order.{latest_token};
 ghost use Rattle.sync_engine.specs.Standing.{ComesAs, IsLive, IsSpent, IsStanding, StandsFor};
-ghost use Rattle.sync_engine.specs.Telling.{HandsOut, Lends, MovesBy};
+ghost use Rattle.sync_engine.specs.Telling.{HandsOut, Lends, MakesOne, MovesBy};
 ghost use Rattle.client_turns.specs.Writing.{is_stream_open};
 
 use crate::fault::ClientFault;
@@ -105,8 +105,8 @@ impl Client {
     /// has heard, as it does once it is open and behind each event that it took.
     ///
     /// # Errors
-    /// `Spent` exactly where the client is spent: nothing was done. `DiskFault` only where the count of disk faults rose, and
-    /// `NoMemory`: the event's commit may have been made, and the client is spent.
+    /// `Spent` exactly where the client is spent: nothing was done. `DiskFault` only where the count of disk faults rose, at an
+    /// event that makes a commit, and `NoMemory`: the event's commit may have been made, and the client is spent.
     pub fn event<H: Host>(
         &mut self,
         alloc: Global,
@@ -128,6 +128,8 @@ impl Client {
         ensures files { IsTrue H.tells_files → ¬ (IsSpent self.old)
             → (s : State) (past : Past) → StandsFor self.old s past
             → MovesBy s past event (H.view host.old) (H.view host.new) }
+        ensures meets { IsErrOf result ClientFault.DiskFault → (s : State) (past : Past)
+            → StandsFor self.old s past → MakesOne s past event }
         ensures out { KeepsOut (H.view host.old) (H.view host.new) }
         ensures counts { RisesAt (IsErrOf result ClientFault.DiskFault)
             (H.view host.old).disk_faults (H.view host.new).disk_faults }

@@ -23,7 +23,7 @@ ghost use Rattle.client_turns.specs.Hearing.{AreDropped};
 ghost use Rattle.client_turns.specs.Past.{Past};
 ghost use Rattle.sync_engine.specs.Requesting.{CallsAre};
 ghost use Rattle.sync_engine.specs.Standing.{StandsFor};
-ghost use Rattle.sync_engine.specs.Telling.{HandsSettled, MovesBy};
+ghost use Rattle.sync_engine.specs.Telling.{HandsSettled, MakesOne, MovesBy};
 ghost use Rattle.sync_engine.specs.declared.watch_stream.Due.TheVariants.{Nothing};
 
 use crate::client::Client;
@@ -334,6 +334,8 @@ impl Client {
         ensures stored { IsTrue H.tells_files → IsStored self.new.store (H.view host.new) }
         ensures files { IsTrue H.tells_files → (s : State) (past : Past) → StandsFor self.old s past
             → MovesBy s past (event.Watch response.now) (H.view host.old) (H.view host.new) }
+        ensures meets { IsErrOf result ClientFault.DiskFault → (s : State) (past : Past)
+            → StandsFor self.old s past → MakesOne s past (event.Watch response.now) }
         ensures out { KeepsOut (H.view host.old) (H.view host.new) }
         ensures unspent { IsErrOf result ClientFault.Spent → ⊥ }
         ensures counts { RisesAt (IsErrOf result ClientFault.DiskFault)

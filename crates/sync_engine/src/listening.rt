@@ -1,6 +1,6 @@
 //! The turns of listeners.
 
-ghost use Rattle.std.specs.Prelude.{◌≡◌, ◌↔◌, IsTrue, true, None, IfOk, OnOk, IsErrOf};
+ghost use Rattle.std.specs.Prelude.{◌≡◌, ◌↔◌, IsTrue, true, None, IfOk, OnOk, OnErr, IsErrOf};
 ghost use Rattle.host_api.specs.Counts.{RisesAt};
 ghost use Rattle.host_api.specs.Host.{KeepsOut};
 ghost use Rattle.client_events.specs.Spelled.{IsSpelledEvent};
@@ -12,8 +12,8 @@ ghost use Rattle.target_codec.specs.Spelling.{IsSpelledTarget};
 ghost use Rattle.client_turns.specs.Past.{Past};
 ghost use Rattle.sync_engine.specs.Standing.{StandsFor};
 ghost use Rattle.sync_engine.specs.declared.watch_stream.Due.TheVariants.{Nothing};
-ghost use Rattle.sync_engine.specs.Telling.{HandsSettled, MovesBy, KeepsListeners};
-ghost use Rattle.sync_engine.specs.Targets.{GivesTarget, HasBegun, MovesForTarget};
+ghost use Rattle.sync_engine.specs.Telling.{HandsSettled, KeepsListeners, MakesOne, MovesBy};
+ghost use Rattle.sync_engine.specs.Targets.{GivesTarget, HasBegun, MakesRow, MovesForTarget};
 
 use crate::client::Client;
 use crate::fault::ClientFault;
@@ -48,6 +48,7 @@ impl Client {
         ensures stored { IsTrue H.tells_files → IsStored self.new.store (H.view host.new) }
         ensures files { IsTrue H.tells_files
             → MovesForTarget self.old.store.state target.now (H.view host.old) (H.view host.new) }
+        ensures meets { OnErr result (MakesRow self.old.store.state target.now) }
         ensures out { KeepsOut (H.view host.old) (H.view host.new) }
         ensures unspent { IsErrOf result ClientFault.Spent → ⊥ }
         ensures counts { RisesAt (IsErrOf result ClientFault.DiskFault)
@@ -112,6 +113,8 @@ impl Client {
         ensures stored { IsTrue H.tells_files → IsStored self.new.store (H.view host.new) }
         ensures files { IsTrue H.tells_files → (s : State) (past : Past) → StandsFor self.old s past
             → MovesBy s past (event.Listen id query) (H.view host.old) (H.view host.new) }
+        ensures meets { IsErrOf result ClientFault.DiskFault → (s : State) (past : Past)
+            → StandsFor self.old s past → MakesOne s past (event.Listen id query) }
         ensures out { KeepsOut (H.view host.old) (H.view host.new) }
         ensures unspent { IsErrOf result ClientFault.Spent → ⊥ }
         ensures counts { RisesAt (IsErrOf result ClientFault.DiskFault)

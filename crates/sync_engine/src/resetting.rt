@@ -1,6 +1,6 @@
 //! The turns by which targets are reset, or end.
 
-ghost use Rattle.std.specs.Prelude.{◌≡◌, ◌↔◌, ◌⊎◌, ◌<◌, ◌^◌, ℕ, [], map as each, IsTrue, true, IfOk, OnOk, IsErrOf};
+ghost use Rattle.std.specs.Prelude.{◌≡◌, ◌↔◌, ◌⊎◌, ◌<◌, ◌^◌, ℕ, [], map as each, IsTrue, true, IfOk, OnOk, OnErr, IsErrOf};
 ghost use Rattle.std.specs.List.{All, Contains};
 ghost use Rattle.durable_state.specs.Rows.{IsHeld};
 ghost use Rattle.listeners.specs.Ids.{has_id};
@@ -18,7 +18,7 @@ ghost use Rattle.client_turns.specs.Hearing.{AreDropped, HaveRows, IsAnyHeld};
 ghost use Rattle.client_turns.specs.Past.{Past};
 ghost use Rattle.sync_engine.specs.Requesting.{CallsAre};
 ghost use Rattle.sync_engine.specs.Standing.{StandsFor};
-ghost use Rattle.sync_engine.specs.Telling.{AreListenersIn, ForgetsAll, HandsSettled, KeepsListeners, KeepsStreams, MovesBy, RefusesAll, RemovesAll};
+ghost use Rattle.sync_engine.specs.Telling.{AreListenersIn, ForgetsAll, HandsSettled, KeepsListeners, KeepsStreams, MakesOne, MovesBy, RefusesAll, RemovesAll};
 ghost use Rattle.sync_engine.specs.declared.out.Out.TheVariants.{Error};
 ghost use Rattle.sync_engine.specs.declared.watch_stream.Due.TheVariants.{Nothing};
 
@@ -149,6 +149,7 @@ impl Client {
         ensures files { IsTrue H.tells_files
             → Moves self.old.store.state (blanked_state blanks self.old.store.state ids.items)
             (H.view host.old) (H.view host.new) }
+        ensures meets { OnErr result (IsTrue blanks) }
         ensures out { KeepsOut (H.view host.old) (H.view host.new) }
         ensures unspent { IsErrOf result ClientFault.Spent → ⊥ }
         ensures counts { RisesAt (IsErrOf result ClientFault.DiskFault)
@@ -208,6 +209,8 @@ impl Client {
         ensures stored { IsTrue H.tells_files → IsStored self.new.store (H.view host.new) }
         ensures files { IsTrue H.tells_files → (s : State) (past : Past) → StandsFor self.old s past
             → MovesBy s past (event.Watch response.now) (H.view host.old) (H.view host.new) }
+        ensures meets { IsErrOf result ClientFault.DiskFault → (s : State) (past : Past)
+            → StandsFor self.old s past → MakesOne s past (event.Watch response.now) }
         ensures out { KeepsOut (H.view host.old) (H.view host.new) }
         ensures unspent { IsErrOf result ClientFault.Spent → ⊥ }
         ensures counts { RisesAt (IsErrOf result ClientFault.DiskFault)
@@ -252,6 +255,8 @@ impl Client {
         ensures stored { IsTrue H.tells_files → IsStored self.new.store (H.view host.new) }
         ensures files { IsTrue H.tells_files → (s : State) (past : Past) → StandsFor self.old s past
             → MovesBy s past (event.Watch response.now) (H.view host.old) (H.view host.new) }
+        ensures meets { IsErrOf result ClientFault.DiskFault → (s : State) (past : Past)
+            → StandsFor self.old s past → MakesOne s past (event.Watch response.now) }
         ensures out { KeepsOut (H.view host.old) (H.view host.new) }
         ensures unspent { IsErrOf result ClientFault.Spent → ⊥ }
         ensures counts { RisesAt (IsErrOf result ClientFault.DiskFault)
@@ -296,6 +301,8 @@ impl Client {
         ensures stored { IsTrue H.tells_files → IsStored self.new.store (H.view host.new) }
         ensures files { IsTrue H.tells_files → (s : State) (past : Past) → StandsFor self.old s past
             → MovesBy s past (event.Watch response.now) (H.view host.old) (H.view host.new) }
+        ensures meets { IsErrOf result ClientFault.DiskFault → (s : State) (past : Past)
+            → StandsFor self.old s past → MakesOne s past (event.Watch response.now) }
         ensures out { KeepsOut (H.view host.old) (H.view host.new) }
         ensures unspent { IsErrOf result ClientFault.Spent → ⊥ }
         ensures counts { RisesAt (IsErrOf result ClientFault.DiskFault)

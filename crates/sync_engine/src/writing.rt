@@ -14,7 +14,7 @@ ghost use Rattle.client_turns.specs.Past.{Past};
 ghost use Rattle.sync_engine.specs.Standing.{ComesAs, StandsFor};
 ghost use Rattle.sync_engine.specs.declared.watch_stream.Due.TheVariants.{Nothing};
 ghost use Rattle.value_model.specs.declared.message.StreamName.TheVariants as stream;
-ghost use Rattle.sync_engine.specs.Telling.{HandsSettled, MovesBy};
+ghost use Rattle.sync_engine.specs.Telling.{HandsSettled, MakesOne, MovesBy};
 ghost use Rattle.client_turns.specs.Writing.{first_batch, member_name as member_name_of};
 
 use crate::client::Client;
@@ -128,6 +128,8 @@ impl Client {
         ensures stored { IsTrue H.tells_files → IsStored self.new.store (H.view host.new) }
         ensures files { IsTrue H.tells_files → (s : State) (past : Past) → StandsFor self.old s past
             → MovesBy s past (event.Closed stream.Write status) (H.view host.old) (H.view host.new) }
+        ensures meets { IsErrOf result ClientFault.DiskFault → (s : State) (past : Past)
+            → StandsFor self.old s past → MakesOne s past (event.Closed stream.Write status) }
         ensures out { KeepsOut (H.view host.old) (H.view host.new) }
         ensures unspent { IsErrOf result ClientFault.Spent → ⊥ }
         ensures counts { RisesAt (IsErrOf result ClientFault.DiskFault)
@@ -174,6 +176,8 @@ impl Client {
         ensures stored { IsTrue H.tells_files → IsStored self.new.store (H.view host.new) }
         ensures files { IsTrue H.tells_files → (s : State) (past : Past) → StandsFor self.old s past
             → MovesBy s past (event.Closed stream.Write status) (H.view host.old) (H.view host.new) }
+        ensures meets { IsErrOf result ClientFault.DiskFault → (s : State) (past : Past)
+            → StandsFor self.old s past → MakesOne s past (event.Closed stream.Write status) }
         ensures out { KeepsOut (H.view host.old) (H.view host.new) }
         ensures unspent { IsErrOf result ClientFault.Spent → ⊥ }
         ensures counts { RisesAt (IsErrOf result ClientFault.DiskFault)
@@ -277,6 +281,8 @@ impl Client {
         ensures stored { IsTrue H.tells_files → IsStored self.new.store (H.view host.new) }
         ensures files { IsTrue H.tells_files → (s : State) (past : Past) → StandsFor self.old s past
             → MovesBy s past (event.Written response) (H.view host.old) (H.view host.new) }
+        ensures meets { IsErrOf result ClientFault.DiskFault → (s : State) (past : Past)
+            → StandsFor self.old s past → MakesOne s past (event.Written response) }
         ensures out { KeepsOut (H.view host.old) (H.view host.new) }
         ensures unspent { IsErrOf result ClientFault.Spent → ⊥ }
         ensures counts { RisesAt (IsErrOf result ClientFault.DiskFault)
@@ -335,6 +341,8 @@ impl Client {
         ensures stored { IsTrue H.tells_files → IsStored self.new.store (H.view host.new) }
         ensures files { IsTrue H.tells_files → (s : State) (past : Past) → StandsFor self.old s past
             → MovesBy s past (event.Written response) (H.view host.old) (H.view host.new) }
+        ensures meets { IsErrOf result ClientFault.DiskFault → (s : State) (past : Past)
+            → StandsFor self.old s past → MakesOne s past (event.Written response) }
         ensures out { KeepsOut (H.view host.old) (H.view host.new) }
         ensures unspent { IsErrOf result ClientFault.Spent → ⊥ }
         ensures counts { RisesAt (IsErrOf result ClientFault.DiskFault)

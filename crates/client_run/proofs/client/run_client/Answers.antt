@@ -9,7 +9,7 @@ use Rattle.client_run.proofs.Wording.{asked_once}
 use Rattle.client_run.proofs.client.run_client.Goals as goal
 
 pub returns-in_default-clause-run : goal.returns-in_default-clause-run
-returns-in_default-clause-run g c = λ tells told root asks s finds. memory_first g.H.Host.view (λ h o x left. g.met.H.Host.only_now h o x told left) _ _ _ _ _ _ _ (omega arith) refl finds (inl (stays_none _))
+returns-in_default-clause-run g c = λ tells told root asks s finds. memory_first g.H.Host.view (λ h o x left. g.met.H.Host.only_now h o x told left) _ _ _ _ _ _ _ (omega arith) refl finds (inl (stays_none _)) refl
 
 pub returns-in_default-asked-clause-run : goal.returns-in_default-asked-clause-run
 returns-in_default-asked-clause-run g c = λ tells told root asks. absurd (rw c.in_default-asked.is at c.in-Ok.ensures root asks)
@@ -26,7 +26,7 @@ returns-in_default-asked-clause-completes g c = λ tells told root asks keeps fe
 pub returns-clause-run : goal.returns-clause-run
 returns-clause-run g c = λ tells told root asks s finds.
     let same = asked_once _ c.in-Some.root root (rw c.in-Some.is at c.in-Ok.ensures) asks in
-    subst (λ (r : Root). Ran (called r (g.S.Source.left c.args.source.now) s 4294967296 g.H.Host.tells_out (g.H.Host.view c.args.host.now).out) c.run_within.result (g.S.Source.left c.run_within.new.source) (g.H.Host.view c.args.host.now) (g.H.Host.view c.run_within.new.host)) same (c.run_within.ensures.run tells told s finds)
+    subst (λ (r : Root). Ran (called r (g.S.Source.left c.args.source.now) s 4294967296 g.H.Host.tells_out (g.H.Host.view c.args.host.now).out) c.run_within.result (g.S.Source.left c.run_within.new.source) (g.S.Source.answered c.args.source.now) (g.S.Source.answered c.run_within.new.source) (g.H.Host.view c.args.host.now) (g.H.Host.view c.run_within.new.host)) same (c.run_within.ensures.run tells told s finds)
 
 pub returns-in_default-clause-agreement : goal.returns-in_default-clause-agreement
 returns-in_default-clause-agreement g c = λ tells told root asks s finds. agrees _ _ _ _ _ finds (returns-in_default-clause-run g c tells told root asks s finds)

@@ -10,12 +10,12 @@ use Rattle.client_run.proofs.run.run_within.Goals as goal
 pub returns-in-Err-DiskFault-clause-run : goal.returns-in-Err-DiskFault-clause-run
 returns-in-Err-DiskFault-clause-run g c = λ tells told s finds.
     let settled = rw c.in-Err-DiskFault.field-0-is at c.in-Err-DiskFault.ensures.settled told in
-    disk_first g.H.Host.view (λ h o x left. g.met.H.Host.only_now h o x told left) _ _ _ _ _ (g.H.Host.view c.args.host.now) (g.H.Host.view c.open.new.host) c.requires.budget c.in-Err-DiskFault.ensures.out.out finds settled
+    disk_first g.H.Host.view (λ h o x left. g.met.H.Host.only_now h o x told left) _ _ _ _ _ (g.H.Host.view c.args.host.now) (g.H.Host.view c.open.new.host) c.requires.budget c.in-Err-DiskFault.ensures.out.out finds settled refl
 
 pub returns-in-Err-NoMemory-clause-run : goal.returns-in-Err-NoMemory-clause-run
 returns-in-Err-NoMemory-clause-run g c = λ tells told s finds.
     let settled = rw c.in-Err-NoMemory.field-0-is at c.in-Err-NoMemory.ensures.settled told in
-    memory_first g.H.Host.view (λ h o x left. g.met.H.Host.only_now h o x told left) _ _ _ _ _ (g.H.Host.view c.args.host.now) (g.H.Host.view c.open.new.host) c.requires.budget c.in-Err-NoMemory.ensures.out.out finds (inr settled)
+    memory_first g.H.Host.view (λ h o x left. g.met.H.Host.only_now h o x told left) _ _ _ _ _ (g.H.Host.view c.args.host.now) (g.H.Host.view c.open.new.host) c.requires.budget c.in-Err-NoMemory.ensures.out.out finds (inr settled) refl
 
 pub returns-in-Err-NotAStore-clause-run : goal.returns-in-Err-NotAStore-clause-run
 returns-in-Err-NotAStore-clause-run g c = λ tells told s finds.
@@ -34,7 +34,7 @@ pub returns-clause-run : goal.returns-clause-run
 returns-clause-run g c = λ tells told s finds.
     let ran = c.serve-status.ensures.run tells told s (opened_stands c.in-Ok.ensures.stands (c.in-Ok.ensures.found told) finds) in
     ran_from g.H.Host.view (λ h o x left. g.met.H.Host.only_now h o x told left) _ _ _ refl c.in-Ok.ensures.out.out finds (c.in-Ok.ensures.settled told)
-    (subst (λ (o : List ℕ). Ran (called c.args.root (g.S.Source.left c.args.source.now) s c.args.budget g.H.Host.tells_out o) c.serve-status.result (g.S.Source.left c.serve-status.new.source) (g.H.Host.view c.open.new.host) (g.H.Host.view c.serve-status.new.host)) c.in-Ok.ensures.out.out (subst (λ (r : Root). Ran (called r (g.S.Source.left c.args.source.now) s c.args.budget g.H.Host.tells_out (g.H.Host.view c.open.new.host).out) c.serve-status.result (g.S.Source.left c.serve-status.new.source) (g.H.Host.view c.open.new.host) (g.H.Host.view c.serve-status.new.host)) c.in-Ok.ensures.root ran))
+    (subst (λ (o : List ℕ). Ran (called c.args.root (g.S.Source.left c.args.source.now) s c.args.budget g.H.Host.tells_out o) c.serve-status.result (g.S.Source.left c.serve-status.new.source) (g.S.Source.answered c.args.source.now) (g.S.Source.answered c.serve-status.new.source) (g.H.Host.view c.open.new.host) (g.H.Host.view c.serve-status.new.host)) c.in-Ok.ensures.out.out (subst (λ (r : Root). Ran (called r (g.S.Source.left c.args.source.now) s c.args.budget g.H.Host.tells_out (g.H.Host.view c.open.new.host).out) c.serve-status.result (g.S.Source.left c.serve-status.new.source) (g.S.Source.answered c.args.source.now) (g.S.Source.answered c.serve-status.new.source) (g.H.Host.view c.open.new.host) (g.H.Host.view c.serve-status.new.host)) c.in-Ok.ensures.root ran))
 
 pub returns-in-Err-DiskFault-clause-agreement : goal.returns-in-Err-DiskFault-clause-agreement
 returns-in-Err-DiskFault-clause-agreement g c = λ tells told s finds. agrees _ _ _ _ _ finds (returns-in-Err-DiskFault-clause-run g c tells told s finds)

@@ -1,6 +1,6 @@
 use Rattle.std.proofs.Common.{◌≡◌, [], IsTrue}
 use Rattle.host_api.specs.Items.{split}
-use Rattle.client_run.specs.Output.{called}
+use Rattle.client_run.specs.Output.{called, raised_by}
 use Rattle.local_store.specs.State.{State}
 use Rattle.local_store.specs.Store.{IsStored}
 use Rattle.sync_engine.specs.Standing.{IsLive, IsStanding, StandsFor}
@@ -16,4 +16,5 @@ invariant-loop-handled g l = record {
       → Serving (called l.fn.client.root (g.S.Source.left l.fn.source) s l.fn.budget g.H.Host.tells_out (g.H.Host.view l.fn.host).out) l.handled (split (g.S.Source.left l.source)) l.client (g.H.Host.view l.fn.host) (g.H.Host.view l.host);
   counts : SameFaults (g.H.Host.view l.fn.host) (g.H.Host.view l.host);
   source : g.S.Source.faults l.source ≡ g.S.Source.faults l.fn.source;
+  answered : IsTrue g.S.Source.tells → g.S.Source.answered l.source ≡ raised_by l.handled (g.S.Source.answered l.fn.source);
 }

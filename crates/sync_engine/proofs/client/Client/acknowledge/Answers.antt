@@ -8,7 +8,7 @@ use Rattle.write_pipeline.specs.Order.{acknowledged, kept}
 use Rattle.sync_engine.specs.Concerned.{AreConcerned}
 use Rattle.client_turns.specs.Past.{steps_of}
 use Rattle.sync_engine.specs.Standing.{GoesOn, Kept}
-use Rattle.sync_engine.specs.Telling.{HandsSettled, MovesBy}
+use Rattle.sync_engine.specs.Telling.{HandsSettled, MovesBy, MakesOne}
 use Rattle.client_turns.specs.Turns.{refused}
 use Rattle.sync_engine.specs.declared.out.Out.{Out}
 use Rattle.sync_engine.specs.declared.out.Out.TheVariants.{Result}
@@ -17,7 +17,7 @@ use Rattle.client_turns.specs.declared.refusal.Refusal.TheVariants.{IdsSpent}
 use Rattle.sync_engine.specs.declared.write_stream.WriteStream.{WriteStream}
 use Rattle.local_store.specs.Files.{Moves}
 use Rattle.write_pipeline.specs.Standing.{HasTransforms}
-use Rattle.sync_engine.proofs.Closed.{some_moment, acknowledge_fits, hands_acknowledged, moves_acknowledged, spent_acknowledges}
+use Rattle.sync_engine.proofs.Closed.{some_moment, acknowledge_fits, hands_acknowledged, moves_acknowledged, spent_acknowledges, makes_acknowledged}
 use Rattle.sync_engine.proofs.Committed.{nothing_moves}
 use Rattle.sync_engine.proofs.Handing.{hands_refused}
 use Rattle.sync_engine.proofs.Sent.{comes_some}
@@ -70,3 +70,7 @@ returns-clause-turn g c = λ s past stands. by_state (λ (t : State). HandsSettl
 
 pub commit-requires-clause-spelled : goal.commit-requires-clause-spelled
 commit-requires-clause-spelled g c = record { id = omega arith; moment = some_moment c.in-Some-commit_time.is c.requires.spelled.time; each = c.requires.spelled.results }
+
+pub returns-in_err-commit-clause-meets : goal.returns-in_err-commit-clause-meets
+returns-in_err-commit-clause-meets g c = λ is s past stands. by_state (λ (t : State). MakesOne t past (event.Written c.args.response)) stands (λ st.
+    makes_acknowledged c.in-Some.first.now c.in-Some-commit_time.time c.args.response st (omega (arith, c.if-number-ge-MOST_COMMITS.false, (c.number-number.ensures.number ∙ ap (λ (k : Kept). k.store.state.number) c.self.view_is))) (sym c.first_pending.ensures ∙ ap (option_map (λ b. b.now)) c.in-Some.is) c.in-Some-commit_time.is c.requires.opening (c.requires.fits (steps_of past) st.writes.pipeline))

@@ -20,3 +20,6 @@ returns-in-Watch-clause-files g c = λ told s past stands. rw (c.in-Watch.is)
 
 pub returns-in-Write-clause-files : goal.returns-in-Write-clause-files
 returns-in-Write-clause-files g c = λ told s past stands. rw (c.in-Write.is) (c.close_writes.ensures.files told s past stands)
+
+pub returns-in-Write-clause-meets : goal.returns-in-Write-clause-meets
+returns-in-Write-clause-meets g c = λ is s past stands. rw (c.in-Write.is) (c.close_writes.ensures.meets is s past stands)

@@ -8,14 +8,14 @@ use Rattle.record_codec.specs.declared.commit.Commit.TheVariants.{Drop}
 use Rattle.sync_engine.specs.Dropping.{AreMovedBy, Drops}
 use Rattle.sync_engine.specs.Standing.{Kept, limbo_in}
 use Rattle.sync_engine.specs.Stream.{Hears}
-use Rattle.sync_engine.specs.Telling.{HandsSettled, MovesBy, RemovesAll}
+use Rattle.sync_engine.specs.Telling.{HandsSettled, MovesBy, RemovesAll, MakesOne}
 use Rattle.client_turns.specs.LimboListens.{without_all}
 use Rattle.client_turns.specs.Watching.{calls_of}
 use Rattle.sync_engine.specs.declared.out.Out.TheVariants.{Error}
 use Rattle.sync_engine.specs.declared.out.Outcome.TheVariants.{Done, Refused}
 use Rattle.client_turns.specs.declared.refusal.Refusal.TheVariants.{IdsSpent}
 use Rattle.sync_engine.proofs.Dropped.{some_length}
-use Rattle.sync_engine.proofs.DroppedDocuments.{dropped_spent, gone_of, hands_drop, moves_dropped}
+use Rattle.sync_engine.proofs.DroppedDocuments.{dropped_spent, gone_of, hands_drop, moves_dropped, makes_dropped}
 use Rattle.sync_engine.proofs.Following.{by_state, nothing_done}
 use Rattle.sync_engine.proofs.Handing.{hands_refused}
 use Rattle.sync_engine.proofs.client.Client.drop_documents.Goals as goal
@@ -102,3 +102,9 @@ returns-clause-turn g c = λ s past stands.
     (subst (λ (r : List ℤ). Drops ids c.in_ok-going.going.blanked.items r c.heard.new.self c.let_go.new.self.watch) going.resets gone.watch))
     c.settle.ensures.rest (c.as_slice-3.ensures.value ∙ c.in_ok-moved.ensures.moved) c.in_ok-settle.ensures.raises
     (c.in_ok-outs.ensures ∙ ap (λ (l : List ℕ). each (λ id. Error id c.args.status.now) l) c.as_slice.ensures.value))
+
+pub returns-in_err-moved-clause-meets : goal.returns-in_err-moved-clause-meets
+returns-in_err-moved-clause-meets g c = λ is s past stands. by_state (λ (t : State). MakesOne t past (event.Watch c.args.response.now)) stands (λ st.
+    makes_dropped c.args.response.now c.args.ids.now c.args.status.now c.args.keys c.in_ok-going.going.rows.items c.in_ok-listeners.listeners.items st c.requires.opening (c.requires.gives (calls_of past) st.watch.calls) c.requires.dropped c.requires.some
+    (c.in_ok-going.ensures.going (calls_of past) st.watch.calls).rows c.in_ok-listeners.ensures
+    (omega (arith, c.if-number-ge-MOST_COMMITS.false, (c.number.ensures.number ∙ ap (λ (k : Kept). k.store.state.number) c.self.view_is))))

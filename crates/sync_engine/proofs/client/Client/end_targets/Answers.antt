@@ -12,14 +12,14 @@ use Rattle.client_turns.specs.Blanking.{IsBlanking, blanked_state}
 use Rattle.client_turns.specs.Hearing.{IsAnyHeld}
 use Rattle.sync_engine.specs.Standing.{Kept, limbo_in}
 use Rattle.sync_engine.specs.Stream.{EndsAll, Hears}
-use Rattle.sync_engine.specs.Telling.{ForgetsAll, HandsSettled, MovesBy, RemovesAll}
+use Rattle.sync_engine.specs.Telling.{ForgetsAll, HandsSettled, MovesBy, RemovesAll, MakesOne}
 use Rattle.client_turns.specs.LimboListens.{without_all}
 use Rattle.client_turns.specs.Watching.{calls_of}
 use Rattle.sync_engine.specs.declared.out.Out.TheVariants.{Error}
 use Rattle.sync_engine.specs.declared.out.Outcome.TheVariants.{Done, Refused}
 use Rattle.client_turns.specs.declared.refusal.Refusal.TheVariants.{IdsSpent}
 use Rattle.sync_engine.specs.declared.watch_stream.WatchStream.{WatchStream}
-use Rattle.sync_engine.proofs.Dropped.{end_spent, hands_end, moves_end}
+use Rattle.sync_engine.proofs.Dropped.{end_spent, hands_end, moves_end, makes_end}
 use Rattle.sync_engine.proofs.Emptied.{blanking}
 use Rattle.sync_engine.proofs.Following.{by_state, nothing_done}
 use Rattle.sync_engine.proofs.Handing.{hands_refused}
@@ -115,3 +115,12 @@ returns-clause-turn g c = λ s past stands.
     (subst (λ (w : WatchStream). Hears c.args.response.now c.args.self.now.watch w) (sym c.blank.ensures.rest.watch) (subst (λ (k : Kept). Hears c.args.response.now k.watch c.heard.new.self) c.self.view_is c.in_ok-heard.ensures))
     (subst (λ (w : WatchStream). EndsAll c.args.ids.now w c.ended.new.self) (ap (λ (k : Kept). k.watch) c.self-2.view_is ∙ c.remove_listeners.ensures.rest.watch) c.ended.ensures)
     (c.in_ok-outs.ensures ∙ ap (λ (l : List ℕ). each (λ id. Error id c.args.status.now) l) c.as_slice-2.ensures.value))
+
+pub returns-in_err-blank-clause-meets : goal.returns-in_err-blank-clause-meets
+returns-in_err-blank-clause-meets g c = λ is s past stands. by_state (λ (t : State). MakesOne t past (event.Watch c.args.response.now)) stands (λ st.
+    makes_end c.args.response.now c.args.ids.now c.args.status.now st c.requires.opening (c.requires.gives (calls_of past) st.watch.calls) c.in_ok-rows.rows.items c.in_ok-listeners.listeners.items c.is_any_held-blanks.result c.in_err-blank.ensures.meets c.requires.none c.in_ok-rows.ensures.rows c.in_ok-listeners.ensures
+    (subst (λ (l : List ℕ). IsTrue c.is_any_held-blanks.result ↔ IsAnyHeld c.args.self.now.store.state.rows l) c.as_slice.ensures.value c.is_any_held-blanks.ensures)
+    (λ so. elim c.else-blanks.branch [
+      | else-blanks-via-then-blanks+else-number-ge-MOST_COMMITS w ↦ omega (arith, w.if-number-ge-MOST_COMMITS.false, (w.number.ensures.number ∙ ap (λ (k : Kept). k.store.state.number) c.self.view_is))
+      | else-blanks-via-else-blanks w ↦ absurd (true≢false (sym so ∙ w.if-blanks.false))
+    ]))

@@ -6,8 +6,8 @@ use Rattle.local_store.specs.Store.{Store}
 use Rattle.queries.specs.declared.target.Target.{Target}
 use Rattle.client_turns.specs.Turns.{refused}
 use Rattle.sync_engine.specs.Standing.{Kept}
-use Rattle.sync_engine.specs.Targets.{GivesTarget, HasBegun, MovesForTarget}
-use Rattle.sync_engine.specs.Telling.{HandsSettled, MovesBy}
+use Rattle.sync_engine.specs.Targets.{GivesTarget, HasBegun, MovesForTarget, MakesRow}
+use Rattle.sync_engine.specs.Telling.{HandsSettled, MovesBy, MakesOne}
 use Rattle.sync_engine.specs.declared.out.Outcome.TheVariants.{Done, Refused}
 use Rattle.client_turns.specs.declared.refusal.Refusal.TheVariants.{IdsSpent, ListenerTaken}
 use Rattle.sync_engine.proofs.Committed.{nothing_moves}
@@ -16,7 +16,7 @@ use Rattle.target_cache.specs.Cache.{id_at}
 use Rattle.target_cache.specs.declared.row.Row.{Row}
 use Rattle.sync_engine.proofs.Showing.{given_back}
 use Rattle.sync_engine.proofs.Following.{by_state}
-use Rattle.sync_engine.proofs.Turning.{hands_begun, moves_begun, moves_none, spent_answers, spent_stands, taken_answers}
+use Rattle.sync_engine.proofs.Turning.{hands_begun, moves_begun, moves_none, spent_answers, spent_stands, taken_answers, makes_begun}
 use Rattle.sync_engine.specs.declared.watch_stream.Due.TheVariants.{One}
 use Rattle.sync_engine.specs.declared.watch_stream.WatchStream.{WatchStream}
 use Rattle.sync_engine.proofs.client.Client.listen.Goals as goal
@@ -60,3 +60,8 @@ returns-clause-turn g c = λ s past stands.
     (subst (λ (l : Table). Changes id (Some (fresh query)) l begun.mid.listeners) rest.listeners begun.listeners)
     (subst (λ (l : Table). ChangesTarget id (Some c.in-Some.target) l begun.mid.listeners) rest.listeners begun.targets)
     begun.rest begun.raises refl)
+
+pub returns-in_err-target-clause-meets : goal.returns-in_err-target-clause-meets
+returns-in_err-target-clause-meets g c = λ is s past stands. by_state (λ (t : State). MakesOne t past (event.Listen c.args.id c.args.query)) stands (λ st.
+    makes_begun c.args.id c.args.query st (sym (ap (λ (k : Kept). viewed k.listeners c.args.id) c.self.view_is) ∙ none_viewed _ c.view.result _ c.is_none.result c.view.ensures c.is_none.ensures c.if-not-is_none.false)
+    (subst (λ (q : Target). MakesRow c.args.self.now.store.state q) c.as_target.ensures.same c.in_err-target.ensures.meets))

@@ -10,7 +10,7 @@ use Rattle.client_turns.specs.Blanking.{IsBlanking, blanked_state}
 use Rattle.client_turns.specs.Hearing.{HaveRows, IsAnyHeld}
 use Rattle.sync_engine.specs.Standing.{Kept}
 use Rattle.sync_engine.specs.Stream.{Hears, Resets}
-use Rattle.sync_engine.specs.Telling.{HandsSettled, MovesBy}
+use Rattle.sync_engine.specs.Telling.{HandsSettled, MovesBy, MakesOne}
 use Rattle.client_turns.specs.Watching.{calls_of}
 use Rattle.sync_engine.specs.declared.out.Outcome.TheVariants.{Done, Refused}
 use Rattle.client_turns.specs.declared.refusal.Refusal.TheVariants.{IdsSpent}
@@ -18,7 +18,7 @@ use Rattle.sync_engine.specs.declared.watch_stream.WatchStream.{WatchStream}
 use Rattle.sync_engine.proofs.Emptied.{blanking}
 use Rattle.sync_engine.proofs.Following.{by_state, nothing_done}
 use Rattle.sync_engine.proofs.Handing.{hands_refused}
-use Rattle.sync_engine.proofs.Mismatched.{hands_mismatch, mismatch_spent, moves_mismatch}
+use Rattle.sync_engine.proofs.Mismatched.{hands_mismatch, mismatch_spent, moves_mismatch, makes_mismatch}
 use Rattle.sync_engine.proofs.client.Client.mismatch.Goals as goal
 use Rattle.sync_engine.proofs.client.Client.mismatch.Goals.{else-blanks-via-then-blanks+else-number-ge-MOST_COMMITS, else-blanks-via-else-blanks}
 
@@ -136,3 +136,16 @@ returns-clause-turn g c = λ s past stands.
     c.settle.ensures.rest
     c.as_slice-2.ensures.value c.in_ok-settle.ensures.raises
     c.new-outs.ensures.items)
+
+pub returns-in_err-blank-clause-meets : goal.returns-in_err-blank-clause-meets
+returns-in_err-blank-clause-meets g c = λ is s past stands.
+    let fits : SFits w32 c.args.id.now = search rules in
+    by_state (λ (t : State). MakesOne t past (event.Watch c.args.response.now)) stands (λ st.
+    makes_mismatch c.args.response.now c.args.id.now c.requires.gives.0 c.requires.gives.1.0 c.in_ok-rows.rows.items st c.requires.opening (c.requires.gives.1.1 (calls_of past) st.watch.calls)
+    (subst (λ (z : ℤ). HaveRows c.args.self.now.store.state.rows (z ∷ []) c.in_ok-rows.rows.items) (to_z-of_z w32 c.args.id.now fits) c.in_ok-rows.ensures.rows)
+    c.is_any_held-blanks.result c.in_err-blank.ensures.meets
+    (subst (λ (l : List ℕ). IsTrue c.is_any_held-blanks.result ↔ IsAnyHeld c.args.self.now.store.state.rows l) c.as_slice.ensures.value c.is_any_held-blanks.ensures)
+    (λ so. elim c.else-blanks.branch [
+      | else-blanks-via-then-blanks+else-number-ge-MOST_COMMITS w ↦ omega (arith, w.if-number-ge-MOST_COMMITS.false, (w.number.ensures.number ∙ ap (λ (k : Kept). k.store.state.number) c.self.view_is))
+      | else-blanks-via-else-blanks w ↦ absurd (true≢false (sym so ∙ w.if-blanks.false))
+    ]))

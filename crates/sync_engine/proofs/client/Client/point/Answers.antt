@@ -6,14 +6,14 @@ use Rattle.local_store.specs.State.{State, committed}
 use Rattle.record_codec.specs.declared.commit.Commit.TheVariants.{Point}
 use Rattle.sync_engine.specs.Stream.{Hears}
 use Rattle.sync_engine.specs.Standing.{Kept}
-use Rattle.sync_engine.specs.Telling.{HandsSettled, MovesBy}
+use Rattle.sync_engine.specs.Telling.{HandsSettled, MovesBy, MakesOne}
 use Rattle.client_turns.specs.Watching.{calls_of}
 use Rattle.sync_engine.specs.declared.out.Outcome.TheVariants.{Done, Refused}
 use Rattle.sync_engine.specs.declared.watch_stream.WatchStream.{WatchStream}
 use Rattle.client_turns.specs.declared.refusal.Refusal.TheVariants.{IdsSpent}
 use Rattle.sync_engine.proofs.Following.{by_state, nothing_done}
 use Rattle.sync_engine.proofs.Handing.{hands_refused}
-use Rattle.sync_engine.proofs.Pointed.{current_as, hands_point, made_commit, made_spelled, moved_as, parts_as, moves_point, parts_of, point_ascends, point_moment, point_spent}
+use Rattle.sync_engine.proofs.Pointed.{current_as, hands_point, made_commit, made_spelled, moved_as, parts_as, moves_point, parts_of, point_ascends, point_moment, point_spent, makes_point}
 use Rattle.sync_engine.proofs.Turning.{moves_none}
 use Rattle.sync_engine.proofs.Committed.{nothing_moves}
 use Rattle.client_turns.specs.Turns.{refused}
@@ -98,3 +98,8 @@ returns-clause-turn g c = λ s past stands. by_state (λ (t : State). HandsSettl
     })
     st c.requires.idle c.requires.opening c.requires.spelled (c.requires.gives (calls_of past) st.watch.calls) c.requires.time (omega (arith, c.if-number-ge-MOST_COMMITS.false, (c.number-number.ensures.number ∙ ap (λ (k : Kept). k.store.state.number) c.self.view_is)))
     c.settle.ensures.rest c.as_slice-4.ensures.value c.in_ok-settle.ensures.raises c.new-outs.ensures.items)
+
+pub returns-in_err-commit-clause-meets : goal.returns-in_err-commit-clause-meets
+returns-in_err-commit-clause-meets g c = λ is s past stands. by_state (λ (t : State). MakesOne t past (event.Watch c.args.response.now)) stands (λ st.
+    makes_point c.args.response.now c.args.at st c.requires.opening (c.requires.gives (calls_of past) st.watch.calls) c.requires.time c.from_vec-entries.result c.from_vec-rows.result (omega (arith, c.if-number-ge-MOST_COMMITS.false, (c.number-number.ensures.number ∙ ap (λ (k : Kept). k.store.state.number) c.self.view_is)))
+    (made_commit (c.tables.ensures ∙ ap (λ (k : Kept). k.store.state) c.self.view_is) c.from_vec-entries.ensures c.from_vec-rows.ensures (c.in_ok-made.ensures.commit (came c.args.response.now ∷ calls_of past) (parts_as refl c.as_slice.ensures.value (parts_of c.args.response.now (subst (λ (k : Kept). Hears c.args.response.now k.watch c.heard.new.self) c.self.view_is c.in_ok-heard.ensures) c.in_ok-entries.ensures st.watch.calls)))))

@@ -9,14 +9,14 @@ use Rattle.sync_engine.specs.Concerned.{AreConcerned}
 use Rattle.value_model.specs.declared.message.StreamName.TheVariants as stream
 use Rattle.client_turns.specs.Past.{steps_of}
 use Rattle.sync_engine.specs.Standing.{GoesOn, Kept}
-use Rattle.sync_engine.specs.Telling.{HandsSettled, MovesBy}
+use Rattle.sync_engine.specs.Telling.{HandsSettled, MovesBy, MakesOne}
 use Rattle.client_turns.specs.Turns.{refused}
 use Rattle.sync_engine.specs.declared.out.Out.{Out}
 use Rattle.sync_engine.specs.declared.out.Out.TheVariants.{Rejected}
 use Rattle.sync_engine.specs.declared.out.Outcome.TheVariants.{Done, Refused}
 use Rattle.client_turns.specs.declared.refusal.Refusal.TheVariants.{IdsSpent}
 use Rattle.sync_engine.specs.declared.write_stream.WriteStream.{WriteStream}
-use Rattle.sync_engine.proofs.Closed.{hands_rejected, moves_rejected, spent_rejects}
+use Rattle.sync_engine.proofs.Closed.{hands_rejected, moves_rejected, spent_rejects, makes_rejected}
 use Rattle.sync_engine.proofs.Committed.{nothing_moves}
 use Rattle.sync_engine.proofs.Handing.{hands_refused}
 use Rattle.sync_engine.proofs.Following.{by_state}
@@ -59,3 +59,7 @@ returns-in_err-settle-clause-files g c = λ told s past stands. by_state (λ (t 
 pub returns-clause-files : goal.returns-clause-files
 returns-clause-files g c = λ told s past stands. by_state (λ (t : State). MovesBy t past (event.Closed stream.Write c.args.status) (g.H.Host.view c.args.host.now) (g.H.Host.view c.commit.new.host)) stands (λ st. moves_rejected c.in-Some.first.now c.args.status st (omega (arith, c.if-number-ge-MOST_COMMITS.false, (c.number-number.ensures.number ∙ ap (λ (k : Kept). k.store.state.number) c.self.view_is))) (sym c.first_pending.ensures ∙ ap (option_map (λ b. b.now)) c.in-Some.is) c.requires.opening (c.requires.rejects (steps_of past) st.writes.pipeline)
     (subst (λ (n : ℕ). Moves c.args.self.now.store.state (committed c.args.self.now.store.state (Reject n)) (g.H.Host.view c.args.host.now) (g.H.Host.view c.commit.new.host)) c.id_of-batch.ensures (c.commit.ensures.files told)))
+
+pub returns-in_err-commit-clause-meets : goal.returns-in_err-commit-clause-meets
+returns-in_err-commit-clause-meets g c = λ is s past stands. by_state (λ (t : State). MakesOne t past (event.Closed stream.Write c.args.status)) stands (λ st.
+    makes_rejected c.in-Some.first.now c.args.status st (omega (arith, c.if-number-ge-MOST_COMMITS.false, (c.number-number.ensures.number ∙ ap (λ (k : Kept). k.store.state.number) c.self.view_is))) (sym c.first_pending.ensures ∙ ap (option_map (λ b. b.now)) c.in-Some.is) c.requires.opening (c.requires.rejects (steps_of past) st.writes.pipeline))

@@ -6,9 +6,9 @@ use Rattle.queries.specs.declared.target.Target.{Target}
 use Rattle.target_cache.specs.Cache.{id_at}
 use Rattle.target_cache.specs.declared.row.Row.{Row}
 use Rattle.sync_engine.specs.Standing.{Kept}
-use Rattle.sync_engine.proofs.Committed.{nothing_moves}
+use Rattle.sync_engine.proofs.Committed.{nothing_moves, on_err}
 use Rattle.sync_engine.proofs.Showing.{id_back, pos_back}
-use Rattle.sync_engine.proofs.Targets.{allocation_fits, gives_found, gives_new, gives_no_id, gives_no_number, moves_found, moves_new, moves_no_id, moves_no_number}
+use Rattle.sync_engine.proofs.Targets.{allocation_fits, gives_found, gives_new, gives_no_id, gives_no_number, moves_found, moves_new, moves_no_id, moves_no_number, makes_new}
 use Rattle.sync_engine.proofs.client.Client.target_for.Goals as goal
 
 pub returns-in-Some-clause-found : goal.returns-in-Some-clause-found
@@ -43,3 +43,9 @@ returns-clause-files g c = λ told. moves_new c.args.self.now.store.state c.args
 
 pub returns-clause-found : goal.returns-clause-found
 returns-clause-found g c = gives_new c.args.self.now.store.state c.args.target.now c.targets-2.result.now.rows (c.targets-2.ensures ∙ ap (λ (k : Kept). k.store.state.rows) c.self.view_is) c.next_id-id.result (c.next_id-id.ensures.id ∙ ap (λ (l : List Row). id_at (length l)) (c.targets.ensures ∙ sym c.targets-2.ensures)) c.in_default.ensures (omega (arith, c.if-number-ge-MOST_COMMITS.false, (c.number-number.ensures.number ∙ ap (λ (k : Kept). k.store.state.number) c.self.view_is))) (omega (arith, c.if-id-gt-LAST_TARGET.false)) _ (pos_back c.next_id-id.result (omega (arith, c.if-id-gt-LAST_TARGET.false))) (c.in_ok-commit.ensures.state ∙ ap (λ (t : Target). committed c.args.self.now.store.state (Allocate c.next_id-id.result t)) c.in_ok-target.ensures)
+
+pub returns-in_err-target-clause-meets : goal.returns-in_err-target-clause-meets
+returns-in_err-target-clause-meets g c = on_err c.from_residual.result (makes_new c.args.self.now.store.state c.args.target.now c.targets-2.result.now.rows (c.targets-2.ensures ∙ ap (λ (k : Kept). k.store.state.rows) c.self.view_is) c.next_id-id.result (c.next_id-id.ensures.id ∙ ap (λ (l : List Row). id_at (length l)) (c.targets.ensures ∙ sym c.targets-2.ensures)) c.in_default.ensures (omega (arith, c.if-number-ge-MOST_COMMITS.false, (c.number-number.ensures.number ∙ ap (λ (k : Kept). k.store.state.number) c.self.view_is))) (omega (arith, c.if-id-gt-LAST_TARGET.false)))
+
+pub returns-in_err-commit-clause-meets : goal.returns-in_err-commit-clause-meets
+returns-in_err-commit-clause-meets g c = on_err c.from_residual-in_err-commit.result (makes_new c.args.self.now.store.state c.args.target.now c.targets-2.result.now.rows (c.targets-2.ensures ∙ ap (λ (k : Kept). k.store.state.rows) c.self.view_is) c.next_id-id.result (c.next_id-id.ensures.id ∙ ap (λ (l : List Row). id_at (length l)) (c.targets.ensures ∙ sym c.targets-2.ensures)) c.in_default.ensures (omega (arith, c.if-number-ge-MOST_COMMITS.false, (c.number-number.ensures.number ∙ ap (λ (k : Kept). k.store.state.number) c.self.view_is))) (omega (arith, c.if-id-gt-LAST_TARGET.false)))
