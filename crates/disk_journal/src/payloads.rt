@@ -1,19 +1,20 @@
 //! The payloads of a file, lent from the buffer that was read, which shrinks as they are left behind.
 
-ghost use Rattle.std.specs.Prelude.{◌≡◌, ℕ, ◌+◌, ◌≤◌, List, [], length, drop, flat_map, map, slice_get, option_map, All, IfOk, MatchOption};
+ghost use Rattle.std.specs.Prelude.{◌≡◌, ℕ, ◌+◌, ◌-◌, ◌≤◌, List, [], length, take, drop, flat_map, map, slice_get, option_map, All, IfOk, MatchOption};
 ghost use Rattle.disk_journal.specs.File.{record_of};
 ghost use Rattle.disk_journal.specs.Parts.{IsRecords};
-ghost use Rattle.disk_journal.specs.Lent.{lent, IsInside};
+ghost use Rattle.disk_journal.specs.Lent.{lent, IsInside, Follow};
 
 use crate::entry::{Entry, entry_at};
 use std::alloc::{AllocError, Global};
 use std::marker::Model;
 
-/// Where a payload stands in the file: its first byte, and the one behind its last.
+/// Where a payload stands, told from the end of the file, which is the same where bytes in front of it are gone.
 #[derive(Clone, Copy)]
 pub(crate) struct Span {
-    start: usize,
-    end: usize,
+    // the bytes of the file from the payload's first one on
+    left: usize,
+    len: usize,
 }
 
 /// The payloads of a file, in the order of their appends. Contracts see the list of those that aren't left behind.
@@ -27,14 +28,14 @@ pub struct Payloads {
 
 impl Model for Payloads {
     ghost use Rattle.std.specs.Prelude.{ℕ, ◌≤◌, List, drop, length, map, All};
-    ghost use Rattle.disk_journal.specs.Lent.{lent, IsInside};
+    ghost use Rattle.disk_journal.specs.Lent.{lent, IsInside, Follow};
 
     ghost Value = { List (List ℕ) };
 
     ghost view = { λ p. map (lent p.file.items) (drop p.behind p.spans.items) };
 
     ghost invariant = { λ p. All (IsInside p.file.items) p.spans.items
-        × (p.behind ≤ length p.spans.items) };
+        × Follow p.spans.items × (p.behind ≤ length p.spans.items) };
 }
 
 impl Payloads {
@@ -86,11 +87,12 @@ impl Payloads {
         ensures { option_map (λ payload. payload.now) result ≡ slice_get self.now index }
     {
         let span = self.spans[self.behind..].get(index)?;
-        Some(&self.file[span.start..span.end])
+        let from = self.file.len() - span.left;
+        Some(&self.file[from..from + span.len])
     }
 
-    /// The payloads behind the first one. Where less than half of the buffer is theirs, they move to one of their size,
-    /// and its memory is given back.
+    /// The payloads behind the first one. Where they take less than half of the buffer, they move to its front, and the
+    /// rest of its memory is given back.
     ///
     /// # Errors
     /// `AllocError`
@@ -99,43 +101,63 @@ impl Payloads {
     {
         let mut rest = self;
         rest.behind = (rest.behind + 1).min(rest.spans.len());
-        if rest.size() < rest.file.len() / 2 {
-            return rest.moved(alloc);
-        }
-        Ok(rest)
+        rest.cut(alloc)
     }
 
-    // The bytes of the buffer from the first payload on.
-    fn size(&self) -> usize {
-        match self.spans.get(self.behind) {
-            Some(span) => self.file.len() - span.start,
-            None => 0,
-        }
-    }
-
-    // The payloads in a buffer of their size.
-    fn moved(&self, alloc: Global) -> Result<Payloads, AllocError>
-        ensures { IfOk result (λ same. same ≡ self.now) }
+    // The payloads, in less of the buffer where more than half of it is not theirs.
+    fn cut(self, alloc: Global) -> Result<Payloads, AllocError>
+        ensures { IfOk result (λ same. same ≡ self) }
     {
-        let mut file = Vec::with_capacity(alloc, self.size())?;
-        let mut spans = Vec::with_capacity(alloc, self.len())?;
-        for index in 0..self.len() {
-            let Some(payload) = self.at(index) else {
-                unreachable!();
-            };
-            let start = file.len();
-            file.extend_from_slice(payload)?;
-            spans.push(Span {
-                start,
-                end: file.len(),
-            })?;
+        let Payloads {
+            mut file,
+            spans,
+            behind,
+        } = self;
+        let size = size(&spans[behind..]);
+        if file.len() / 2 <= size {
+            return Ok(Payloads {
+                file,
+                spans,
+                behind,
+            });
         }
+        let spans = Vec::from_slice(alloc, &spans[behind..])?;
+        keep_last(&mut file, size);
         Ok(Payloads {
             file,
             spans,
             behind: 0,
         })
     }
+}
+
+// The bytes of the file from the first payload on.
+fn size(spans: &[Span]) -> usize
+    ensures { Follow spans.now → All (λ span. span.left ≤ result) spans.now }
+{
+    match spans.first() {
+        Some(span) => span.left,
+        None => 0,
+    }
+}
+
+// Copies the last bytes of the file, at most half of it, to its front.
+fn copy_to_front(file: &mut [u8], size: usize)
+    requires { size + size ≤ length file.old }
+    ensures { take size file.new ≡ drop (length file.old - size) file.old }
+{
+    let (front, back) = file.split_at_mut(file.len() - size);
+    front[..size].copy_from_slice(back);
+}
+
+// Keeps the last bytes of the buffer, at most half of it, and gives back the memory of the others.
+fn keep_last(file: &mut Vec<u8>, size: usize)
+    requires { size + size ≤ length file.old.items }
+    ensures { file.new.items ≡ drop (length file.old.items - size) file.old.items }
+{
+    copy_to_front(file.as_mut_slice(), size);
+    file.truncate(size);
+    file.shrink_to_fit();
 }
 
 // Where the payloads of the open records stand, and the byte of the closed gate.
@@ -148,7 +170,7 @@ fn spans_in(
     ensures { IfOk result (λ o. MatchOption o
         ((ps : List (List ℕ)) → ¬ IsRecords ps (drop from file.now))
         (λ x. IsRecords (map (lent file.now) x.0.items) (drop from file.now)
-        × All (IsInside file.now) x.0.items
+        × All (IsInside file.now) x.0.items × Follow x.0.items
         × (from + length (flat_map record_of (map (lent file.now) x.0.items)) ≡ x.1)
         × (x.1 ≤ length file.now))) }
 {
@@ -157,10 +179,9 @@ fn spans_in(
     'records: loop {
         match entry_at(rest) {
             Entry::Open(payload, behind) => {
-                let end = file.len() - behind.len();
                 spans.push(Span {
-                    start: end - payload.len(),
-                    end,
+                    left: payload.len() + behind.len(),
+                    len: payload.len(),
                 })?;
                 rest = behind;
             }

@@ -2,14 +2,9 @@ use Rattle.std.proofs.Common.{◌≡◌, ◌+◌, ◌∙◌, IfOk, ap, drop, min
 use Rattle.disk_journal.proofs.Lent.{behind_lent_first}
 use Rattle.disk_journal.proofs.payloads.Payloads.behind_first.Goals as goal
 
-pub returns-then-size-len : goal.returns-then-size-len
-returns-then-size-len c =
-    let next = c.min.ensures ∙ ap (min (c.rest.inside.behind + 1)) (c.len.ensures ∙ c.rest.inside.spans.ok.0) in
-    subst (λ seen. IfOk c.moved.result (λ rest. rest ≡ seen))
-    (behind_lent_first c.rest.inside.file.items c.rest.inside.behind c.rest.inside.spans.items c.min.result next ∙ ap (drop 1) c.rest.view_is)
-    c.moved.ensures
-
 pub returns : goal.returns
 returns c =
     let next = c.min.ensures ∙ ap (min (c.rest.inside.behind + 1)) (c.len.ensures ∙ c.rest.inside.spans.ok.0) in
-    behind_lent_first c.rest.inside.file.items c.rest.inside.behind c.rest.inside.spans.items c.min.result next ∙ ap (drop 1) c.rest.view_is
+    subst (λ seen. IfOk c.cut.result (λ rest. rest ≡ seen))
+    (behind_lent_first c.rest.inside.file.items c.rest.inside.behind c.rest.inside.spans.items c.min.result next ∙ ap (drop 1) c.rest.view_is)
+    c.cut.ensures
