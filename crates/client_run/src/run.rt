@@ -71,9 +71,8 @@ fn serve<S: Source, H: Host>(
 /// # Errors
 /// `NotAStore` exactly where the files, being read, aren't those of a store. Over such files nothing is changed, written or
 /// taken, whatever the answer. `SourceFault`, `DiskFault` and `SinkFault` only where that count of faults rose by one, and no
-/// other one rose then;
-/// `Budget` exactly where as many lines were handled as the budget allows; `Done` exactly at the end of the source before
-/// that; or `NoMemory`.
+/// other one rose then; `Budget` exactly where as many lines were handled as the budget allows; `Done` exactly at the end of
+/// the source before that; or `NoMemory`.
 pub fn run_within<S: Source, H: Host>(
     alloc: Global,
     root: Database,

@@ -1,4 +1,4 @@
-use Rattle.std.proofs.Common.{inl, inr, arith, refl, subst, ◌∙◌}
+use Rattle.std.proofs.Common.{inl, inr, arith, ap, refl, subst, Err, ◌∙◌}
 use Rattle.document_keys.specs.Names.{Root}
 use Rattle.host_api.specs.Items.{item_of}
 use Rattle.line_reader.specs.Reading.{Reads}
@@ -41,7 +41,7 @@ pub returns-in-Err-clause-run : goal.returns-in-Err-clause-run
 returns-in-Err-clause-run g c = λ tells told s stands.
     let it = c.loop-handled.invariant.serving tells told s stands in
     let n = next_read it c.in-Ok.line _ c.as_slice.result.now _ c.in-Ok-read_item.reading c.in_default.not-End c.as_slice.ensures.value (c.in-Ok.ensures.takes tells) (subst (λ (r : Root). Reads r (item_of c.in-Ok.line c.as_slice.result.now) c.in-Ok-read_item.reading) (c.root.ensures ∙ it.root) c.in-Ok-read_item.ensures.is) in
-    rw c.status.ensures (stops_within c.in-Err.fault _ c.in-Ok-read_item.reading it (λ o x left. g.met.H.Host.only_now c.args.host.now o x told left) refl n (omega (arith, c.loop-handled-test.true, c.ranges.budget)) (record { files = c.handle.ensures.files told; counted = c.handle.ensures.counted; spelled = c.in-Ok-read_item.ensures.spelled }) c.in-Err.ensures.stopped c.in-Err.ensures.meets (answered_next it (g.S.Source.answered c.args.source.now) (c.loop-handled.invariant.answered tells) (c.in-Ok.ensures.counted tells)) c.loop-handled-test.true)
+    rw c.status.ensures (stops_within c.in-Err.fault _ c.in-Ok-read_item.reading it (λ o x left. g.met.H.Host.only_now c.args.host.now o x told left) refl n (omega (arith, c.loop-handled-test.true, c.ranges.budget)) (record { files = c.handle.ensures.files told; counted = c.handle.ensures.counted; spelled = c.in-Ok-read_item.ensures.spelled }) c.in-Err.ensures.stopped (λ same. c.in-Err.ensures.meets (ap Err same)) (answered_next it (g.S.Source.answered c.args.source.now) (c.loop-handled.invariant.answered tells) (c.in-Ok.ensures.counted tells)) c.loop-handled-test.true)
 
 pub returns-in-Err-clause-kept : goal.returns-in-Err-clause-kept
 returns-in-Err-clause-kept g c = rw c.status.ensures (λ tells told s stands. nothing_kept c.in-Err.fault _ _)
@@ -63,7 +63,7 @@ loop-handled-preserved g c = record {
       served_more c.in-Ok-read_item.reading it n (omega (arith, c.loop-handled-test.true, c.ranges.budget)) (record { files = c.handle.ensures.files told; counted = c.handle.ensures.counted; spelled = c.in-Ok-read_item.ensures.spelled }) c.handle.ensures.root c.in-Ok-handle.ensures.done;
   counts = same_then c.loop-handled.invariant.counts c.in-Ok-handle.ensures.counts;
   source = c.in-Ok.ensures.cause.stays (λ is. cc) ∙ c.loop-handled.invariant.source;
-  answered = λ tells. answered_more _ _ (c.loop-handled.invariant.answered tells) (c.in-Ok.ensures.counted tells);
+  answered = λ tells. answered_more c.loop-handled.handled (g.S.Source.answered c.args.source.now) (c.loop-handled.invariant.answered tells) (c.in-Ok.ensures.counted tells);
 }
 
 pub returns-clause-run : goal.returns-clause-run
