@@ -17,7 +17,9 @@ def memory_folder():
 
 
 def find_program(given):
-    """The built program: the one that is named, or that of this repository, built first where it must be."""
+    """The built program: the one that is named, or that of this repository, built first where it must be. What is run from here on
+    has its memory in large pages, as the script fsclient begins the program, unless the caller says otherwise."""
+    os.environ.setdefault("GLIBC_TUNABLES", "glibc.malloc.hugetlb=1")
     if given:
         return os.path.abspath(given)
     subprocess.run([os.path.join(ROOT, "fsclient")], stdin=subprocess.DEVNULL, stdout=subprocess.DEVNULL)
