@@ -13,7 +13,7 @@ use Rattle.disk_journal.specs.Parts.{number}
 use Rattle.disk_journal.proofs.Files.{length-record_of}
 use Rattle.disk_journal.proofs.Lists.{mid_part}
 use Rattle.disk_journal.proofs.Parts.{record_parts}
-use Rattle.disk_journal.proofs.Once.{HasRead, reads_none, reads_one, size_read}
+use Rattle.disk_journal.proofs.Once.{HasRead, reads_none, reads_one}
 
 -- the spans of the open records that were read, and the rest is left
 pub record HasLent (file : List ℕ) (from : ℕ) (spans : List Span) (rest : List ℕ) : Type 0 where
@@ -34,10 +34,6 @@ lends_none file from = subst (λ (l : List ℕ). HasLent file from [] l) (sym (w
   before = All-nil (λ (span : Span). length (drop from file) ≤ span.left);
   follow = tt;
 })
-
--- the bytes of the file, from the first on, to the end of what was read
-pub size_lent : {file : List ℕ} {from : ℕ} {spans : List Span} {rest : List ℕ} → from ≤ length file → HasLent file from spans rest → length file ≡ from + length (flat_map record_of (map (lent file) spans)) + length rest
-size_lent {file} {from} within has = omega (arith, within, size_read has.read, length-drop from file)
 
 -- the bytes of a payload and of what follows it
 pub lent_within : (p behind rest : List ℕ) → rest ≡ record_of p ++ behind → length p + length behind ≤ length rest

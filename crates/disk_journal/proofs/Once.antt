@@ -32,9 +32,6 @@ fewer rest p behind e = omega (arith, ap length e, length-append (record_of p) b
 pub ends_shut : {ps : List (List ℕ)} {bytes rest : List ℕ} → HasRead ps bytes rest → IsShut rest → IsRecords ps bytes
 ends_shut {ps} {bytes} {rest} has shut = record { short = has.short; behind = rest; shut = shut; split = has.split }
 
-pub size_read : {ps : List (List ℕ)} {bytes rest : List ℕ} → HasRead ps bytes rest → length bytes ≡ length (flat_map record_of ps) + length rest
-size_read {ps} {bytes} {rest} has = ap length has.split ∙ length-append (flat_map record_of ps) rest
-
 pub ends_broken : {ps : List (List ℕ)} {bytes rest : List ℕ} → HasRead ps bytes rest → ((others : List (List ℕ)) → ¬ IsRecords others rest) → (all : List (List ℕ)) → ¬ IsRecords all bytes
 ends_broken {ps} {bytes} {rest} has none all is =
     let front = open_front ps all rest has.short (subst (λ (l : List ℕ). IsRecords all l) has.split is) in
