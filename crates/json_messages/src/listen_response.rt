@@ -53,7 +53,7 @@ fn clean_listen_under(
             Ok(ListenResponse::Remove(gone))
         }
         "filter" => {
-            let filter = clean_existence_filter(alloc, setting, json)?;
+            let filter = clean_existence_filter(setting, json);
             Ok(ListenResponse::Filter(filter))
         }
         _ => unreachable!(),

@@ -32,7 +32,7 @@ fn clean_id_items(alloc: Global, setting: &Setting<'_>, json: &Json) -> Result<V
     let items = clean_list(setting, Series::TargetIds, json);
     let mut ids = Vec::new(alloc);
     for item in items {
-        ids.push(clean_target_id(alloc, setting, item)?)?;
+        ids.push(clean_target_id(setting, item))?;
     }
     Ok(ids)
 }

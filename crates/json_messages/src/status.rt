@@ -28,20 +28,18 @@ use value_model::RpcStatus;
 
 /// The code under the name; where it is left out it is 0.
 fn clean_code_in(
-    alloc: Global,
     setting: &Setting<'_>,
     object: Object,
     members: &Map<String, Json>,
     name: &str,
-) -> Result<u8, NoMemory>
+) -> u8
     requires clean { AreClean setting.now object (members_view members.now.entries) }
     requires place { HasPlace object (members_view members.now.entries) name.now (places.Leaf leaves.Code) }
-    ensures { IfOk result (λ code. SpellsNumber max_code
-        (given name.now (members_view members.now.entries)) code) }
+    ensures { SpellsNumber max_code (given name.now (members_view members.now.entries)) result }
 {
     match clean_member(setting, object, members, name) {
-        Some(json) => clean_code(alloc, setting, json),
-        None => Ok(0),
+        Some(json) => clean_code(setting, json),
+        None => 0,
     }
 }
 
@@ -60,7 +58,7 @@ pub fn clean_status(
     let object = Object::Status;
     let members = clean_object(setting, object, json);
     Ok(RpcStatus {
-        code: clean_code_in(alloc, setting, object, members, "code")?,
+        code: clean_code_in(setting, object, members, "code"),
         message: parts::text_in(alloc, setting, object, members, "message")?,
     })
 }

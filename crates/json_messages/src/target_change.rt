@@ -77,56 +77,49 @@ pub(crate) fn clean_target_change(
 
 /// The id of a target under the name; where it is left out it is 0.
 fn clean_target_id_in(
-    alloc: Global,
     setting: &Setting<'_>,
     object: Object,
     members: &Map<String, Json>,
     name: &str,
-) -> Result<i32, NoMemory>
+) -> i32
     requires clean { AreClean setting.now object (members_view members.now.entries) }
     requires place { HasPlace object (members_view members.now.entries)
         name.now (places.Leaf leaves.TargetId) }
-    ensures { IfOk result (λ id. SpellsTargetId (given name.now (members_view members.now.entries)) id) }
+    ensures { SpellsTargetId (given name.now (members_view members.now.entries)) result }
 {
     match clean_member(setting, object, members, name) {
-        Some(json) => clean_target_id(alloc, setting, json),
-        None => Ok(0),
+        Some(json) => clean_target_id(setting, json),
+        None => 0,
     }
 }
 
 /// The number of documents under the name; where it is left out it is 0.
 fn clean_count_in(
-    alloc: Global,
     setting: &Setting<'_>,
     object: Object,
     members: &Map<String, Json>,
     name: &str,
-) -> Result<u32, NoMemory>
+) -> u32
     requires clean { AreClean setting.now object (members_view members.now.entries) }
     requires place { HasPlace object (members_view members.now.entries) name.now (places.Leaf leaves.Count) }
-    ensures { IfOk result (λ count. SpellsNumber max_count
-        (given name.now (members_view members.now.entries)) count) }
+    ensures { SpellsNumber max_count (given name.now (members_view members.now.entries)) result }
 {
     match clean_member(setting, object, members, name) {
-        Some(json) => clean_count(alloc, setting, json),
-        None => Ok(0),
+        Some(json) => clean_count(setting, json),
+        None => 0,
     }
 }
 
 /// What `filter` of a message holds.
 #[tactic(auto, unfolding(json_model::specs::Places::existence_filter_rows))]
-pub(crate) fn clean_existence_filter(
-    alloc: Global,
-    setting: &Setting<'_>,
-    json: &Json,
-) -> Result<ExistenceFilter, NoMemory>
+pub(crate) fn clean_existence_filter(setting: &Setting<'_>, json: &Json) -> ExistenceFilter
     requires { IsClean setting.now (places.Object objects.ExistenceFilter) (view json.now) }
-    ensures { IfOk result (λ filter. InObject (view json.now) (λ ms. SpellsExistenceFilter ms filter)) }
+    ensures { InObject (view json.now) (λ ms. SpellsExistenceFilter ms result) }
 {
     let object = Object::ExistenceFilter;
     let members = clean_object(setting, object, json);
-    Ok(ExistenceFilter {
-        target_id: clean_target_id_in(alloc, setting, object, members, "targetId")?,
-        count: clean_count_in(alloc, setting, object, members, "count")?,
-    })
+    ExistenceFilter {
+        target_id: clean_target_id_in(setting, object, members, "targetId"),
+        count: clean_count_in(setting, object, members, "count"),
+    }
 }

@@ -32,7 +32,7 @@ alone [] key json one is = cc
 alone (e ∷ f ∷ entries) key json one is = cc
 
 module _ (name : List ℕ) (inner : Tree) (known : is_unknown (member_place object.Value name) ≡ false) (there : is_left_out (member_place object.Value name) inner ≡ false) where
-  is_given : is_chosen object.Value name inner ≡ true
+  pub is_given : is_chosen object.Value name inner ≡ true
   is_given = rw (known, there) refl
 
   no_fault_of_its_own : (under : List ℕ) → own_faults object.Value under (member name inner no_members) ≡ []

@@ -44,7 +44,7 @@ Spelled _ d = Unit {0}
 abbrev AllSpelled : Object → json.Members → Type 0
 AllSpelled kind ms = OfEach (λ k d. is_left_out (member_place kind k) d ≡ false → Spelled (member_place kind k) d) ms
 
-leaf_spelled : (o : Origin) (kind : Leaf) (d : json.Data) → FitsLeaf o.root kind d → is_scalar kind ≡ true → (v : Data) × SpellsScalar kind d v
+pub leaf_spelled : (o : Origin) (kind : Leaf) (d : json.Data) → FitsLeaf o.root kind d → is_scalar kind ≡ true → (v : Data) × SpellsScalar kind d v
 leaf_spelled o leaf.Null d f is = (null, (f, refl))
 leaf_spelled o leaf.Boolean d f is = (boolean f.0, (f.0, (f.1, refl)))
 leaf_spelled o leaf.Integer d f is = (integer f.0, (f.0, (f.1, refl)))

@@ -16,5 +16,6 @@ pub mod Places
 pub mod Printed
 pub mod Ranks
 pub mod References
+pub mod Scalars
 pub mod Storable
 pub mod Trees

@@ -1,5 +1,5 @@
 -- Whole numbers of 64 bits with sign: JSON numbers without fraction or exponent, but not `-0`, or texts.
-use Rattle.std.specs.Prelude.{◌≡◌, ◌⊎◌, ◌≤◌, ℕ, ℤ, pos, List, codes, FitsSigned}
+use Rattle.std.specs.Prelude.{◌≡◌, ◌≢◌, ◌⊎◌, ◌≤◌, ℕ, ℤ, pos, List, length, get_or, codes, FitsSigned}
 use Rattle.std.specs.Fmt.{signed_decimal}
 use Rattle.std.specs.Int.{w32, w64}
 use Rattle.serde_json.specs.Data.{Data as Json, number, unsigned, negative, string}
@@ -8,6 +8,12 @@ use Rattle.serde_json.specs.Data.{Data as Json, number, unsigned, negative, stri
 pub record SpellsInteger (text : List ℕ) (z : ℤ) : Type 0 where
   pub fits : FitsSigned w64 z
   pub is : (text ≡ signed_decimal z) ⊎ ((text ≡ codes "-0") × (z ≡ pos 0))
+
+-- the text of a number begins with no `+`, and its digits with no 0 that another follows
+pub record IsBare (text : List ℕ) : Type 0 where
+  pub plus : get_or text 0 0 ≢ 43
+  pub minus : get_or text 0 0 ≡ 45 → get_or text 1 0 ≢ 48
+  pub zero : get_or text 0 0 ≡ 48 → length text ≡ 1
 
 -- a JSON number that is kept as an integer
 abbrev pub IsNumber : Json → ℤ → Type 0

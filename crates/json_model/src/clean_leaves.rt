@@ -4,31 +4,30 @@ ghost use Rattle.std.specs.Prelude.{◌≡◌, ℕ, ℤ, true, IfOk, IfSome};
 ghost use Rattle.document_keys.specs.Names.{IsKey, name_text};
 ghost use Rattle.serde_json.specs.Data.{boolean};
 ghost use Rattle.serde_json.specs.View.{view};
-ghost use Rattle.value_model.specs.Storable.{IsStorableKey, IsStorableName, IsStorableSegment};
+ghost use Rattle.value_model.specs.Storable.{IsStorableKey, IsStorableSegment};
 ghost use Rattle.value_model.specs.Time.{IsMoment};
 ghost use Rattle.json_model.specs.declared.place.Place.TheVariants as places;
 ghost use Rattle.json_model.specs.declared.place.Leaf.TheVariants as leaves;
 ghost use Rattle.json_model.specs.declared.fault.JsonFault.TheVariants as json_fault;
 ghost use Rattle.json_model.specs.Clean.{IsClean};
 ghost use Rattle.json_model.specs.Constants.{is_constant};
-ghost use Rattle.json_model.specs.Grammar.{SpellsTime, SpellsName, SpellsText, SpellsBytesTree, SpellsReferenceTree, SpellsPathTree, SpellsId, SpellsParent, SpellsQueryPathTree};
+ghost use Rattle.json_model.specs.Grammar.{SpellsTime, SpellsName, SpellsText, SpellsBytesTree, SpellsPathTree, SpellsId, SpellsParent, SpellsQueryPathTree};
 ghost use Rattle.json_model.specs.Leaves.{FitsLeaf, is_of_text, FitsText, IsDocumentText};
 ghost use Rattle.json_model.specs.Numbers.{SpellsWhole, SpellsShort, SpellsUpTo, max_count, max_code, max_listener_id};
 ghost use Rattle.json_model.specs.Storable.{IsStorablePath, IsStorableQueryPath};
 
 use crate::bytes::read_bytes;
 use crate::fault::JsonFault;
-use crate::names::{
-    is_documents, read_key, read_path, read_query_path, read_reference, read_segment,
-};
+use crate::names::{is_documents, read_key, read_path, read_query_path, read_segment};
 use crate::numbers::{MAX_CODE, MAX_COUNT, MAX_LISTENER_ID, read_short, read_up_to, read_whole};
 use crate::place::{Constants, Leaf};
+use crate::scalars::read_time;
 use crate::setting::Setting;
 use crate::texts::{show_key, show_path, show_segment};
 use document_keys::{Database, DocumentKey, FieldPath, NoMemory, Segment};
 use serde_json::Value as Json;
 use std::alloc::Global;
-use value_model::{RefName, Timestamp};
+use value_model::Timestamp;
 
 /// A fault that is want of memory, as such.
 fn want_of_memory(fault: JsonFault) -> NoMemory
@@ -73,16 +72,13 @@ pub fn clean_boolean(setting: &Setting<'_>, json: &Json) -> bool
 }
 
 /// A whole number.
-///
-/// # Errors
-/// `NoMemory`
-pub fn clean_integer(alloc: Global, setting: &Setting<'_>, json: &Json) -> Result<i64, NoMemory>
+pub fn clean_integer(setting: &Setting<'_>, json: &Json) -> i64
     requires { IsClean setting.now (places.Leaf leaves.Integer) (view json.now) }
-    ensures { IfOk result (λ z. SpellsWhole (view json.now) z) }
+    ensures { SpellsWhole (view json.now) result }
 {
     show_leaf(setting, Leaf::Integer, json);
-    match read_whole(alloc, json)? {
-        Some(number) => Ok(number),
+    match read_whole(json) {
+        Some(number) => number,
         None => unreachable!(),
     }
 }
@@ -93,8 +89,8 @@ pub fn clean_time(setting: &Setting<'_>, json: &Json) -> Timestamp
     ensures time { SpellsTime (view json.now) result }
     ensures moment { IsMoment result }
 {
-    let text = clean_leaf_text(setting, Leaf::Time, json);
-    match Timestamp::read(text) {
+    show_leaf(setting, Leaf::Time, json);
+    match read_time(json) {
         Some(time) => time,
         None => unreachable!(),
     }
@@ -124,26 +120,6 @@ pub fn clean_bytes(alloc: Global, setting: &Setting<'_>, json: &Json) -> Result<
     match read_bytes(alloc, text)? {
         Some(bytes) => Ok(bytes),
         None => unreachable!(),
-    }
-}
-
-/// The name of a document of any database.
-///
-/// # Errors
-/// `NoMemory`
-pub fn clean_reference(
-    alloc: Global,
-    setting: &Setting<'_>,
-    json: &Json,
-) -> Result<RefName, NoMemory>
-    requires { IsClean setting.now (places.Leaf leaves.Reference) (view json.now) }
-    ensures name { IfOk result (λ name. SpellsReferenceTree (view json.now) name) }
-    ensures storable { IfOk result IsStorableName }
-{
-    let text = clean_leaf_text(setting, Leaf::Reference, json);
-    match read_reference(alloc, text) {
-        Ok(name) => Ok(name),
-        Err(fault) => Err(want_of_memory(fault)),
     }
 }
 
@@ -263,85 +239,70 @@ pub fn clean_query_path(
 }
 
 /// The whole number of 32 bits with sign that the tree spells.
-fn clean_short(alloc: Global, json: &Json) -> Result<i32, NoMemory>
+fn clean_short(json: &Json) -> i32
     requires { (z : ℤ) × SpellsShort (view json.now) z }
-    ensures { IfOk result (λ z. SpellsShort (view json.now) z) }
+    ensures { SpellsShort (view json.now) result }
 {
-    match read_short(alloc, json)? {
-        Some(number) => Ok(number),
+    match read_short(json) {
+        Some(number) => number,
         None => unreachable!(),
     }
 }
 
 /// A whole number of 32 bits with sign.
-///
-/// # Errors
-/// `NoMemory`
-pub fn clean_limit(alloc: Global, setting: &Setting<'_>, json: &Json) -> Result<i32, NoMemory>
+pub fn clean_limit(setting: &Setting<'_>, json: &Json) -> i32
     requires { IsClean setting.now (places.Leaf leaves.Limit) (view json.now) }
-    ensures { IfOk result (λ z. SpellsShort (view json.now) z) }
+    ensures { SpellsShort (view json.now) result }
 {
     show_leaf(setting, Leaf::Limit, json);
-    clean_short(alloc, json)
+    clean_short(json)
 }
 
 /// The id of a target.
-///
-/// # Errors
-/// `NoMemory`
-pub fn clean_target_id(alloc: Global, setting: &Setting<'_>, json: &Json) -> Result<i32, NoMemory>
+pub fn clean_target_id(setting: &Setting<'_>, json: &Json) -> i32
     requires { IsClean setting.now (places.Leaf leaves.TargetId) (view json.now) }
-    ensures { IfOk result (λ z. SpellsShort (view json.now) z) }
+    ensures { SpellsShort (view json.now) result }
 {
     show_leaf(setting, Leaf::TargetId, json);
-    clean_short(alloc, json)
+    clean_short(json)
 }
 
 /// The whole number from 0 to the most that the tree spells.
-fn clean_up_to(alloc: Global, most: u32, json: &Json) -> Result<u32, NoMemory>
+fn clean_up_to(most: u32, json: &Json) -> u32
     requires { (n : ℕ) × SpellsUpTo most (view json.now) n }
-    ensures { IfOk result (λ n. SpellsUpTo most (view json.now) n) }
+    ensures { SpellsUpTo most (view json.now) result }
 {
-    match read_up_to(alloc, most, json)? {
-        Some(number) => Ok(number),
+    match read_up_to(most, json) {
+        Some(number) => number,
         None => unreachable!(),
     }
 }
 
 /// A number of documents.
-///
-/// # Errors
-/// `NoMemory`
-pub fn clean_count(alloc: Global, setting: &Setting<'_>, json: &Json) -> Result<u32, NoMemory>
+pub fn clean_count(setting: &Setting<'_>, json: &Json) -> u32
     requires { IsClean setting.now (places.Leaf leaves.Count) (view json.now) }
-    ensures { IfOk result (λ n. SpellsUpTo max_count (view json.now) n) }
+    ensures { SpellsUpTo max_count (view json.now) result }
 {
     show_leaf(setting, Leaf::Count, json);
-    clean_up_to(alloc, MAX_COUNT, json)
+    clean_up_to(MAX_COUNT, json)
 }
 
 /// The code of a status.
-///
-/// # Errors
-/// `NoMemory`
-pub fn clean_code(alloc: Global, setting: &Setting<'_>, json: &Json) -> Result<u8, NoMemory>
+pub fn clean_code(setting: &Setting<'_>, json: &Json) -> u8
     requires { IsClean setting.now (places.Leaf leaves.Code) (view json.now) }
-    ensures { IfOk result (λ n. SpellsUpTo max_code (view json.now) n) }
+    ensures { SpellsUpTo max_code (view json.now) result }
 {
     show_leaf(setting, Leaf::Code, json);
-    Ok(clean_up_to(alloc, MAX_CODE, json)? as u8)
+    clean_up_to(MAX_CODE, json) as u8
 }
 
 /// The id of a listener.
-///
-/// # Errors
-/// `NoMemory`
-pub fn clean_listener_id(alloc: Global, setting: &Setting<'_>, json: &Json) -> Result<u32, NoMemory>
+pub fn clean_listener_id(setting: &Setting<'_>, json: &Json) -> u32
     requires { IsClean setting.now (places.Leaf leaves.ListenerId) (view json.now) }
-    ensures { IfOk result (λ n. SpellsUpTo max_listener_id (view json.now) n) }
+    ensures { SpellsUpTo max_listener_id (view json.now) result }
 {
     show_leaf(setting, Leaf::ListenerId, json);
-    clean_up_to(alloc, MAX_LISTENER_ID, json)
+    clean_up_to(MAX_LISTENER_ID, json)
 }
 
 /// The text of a constant.

@@ -1,4 +1,5 @@
-ghost use Rattle.std.specs.Prelude.{◌≡◌};
+ghost use Rattle.std.specs.Prelude.{◌≡◌, ◌≢◌, OnOk};
+ghost use Rattle.json_model.specs.declared.fault.JsonFault.TheVariants as json_fault;
 ghost use Rattle.json_model.specs.Ranks.{rank as rank_of, better as better_of};
 
 use document_keys::{NoMemory, Text};
@@ -47,11 +48,26 @@ pub enum JsonFault {
     NoMemory,
 }
 
+impl JsonFault {
+    /// Nothing where the fault is one of a tree.
+    ///
+    /// # Errors
+    /// `NoMemory` where it is want of memory.
+    pub fn unless_memory(&self) -> Result<(), NoMemory>
+        ensures { OnOk result (self.now ≢ json_fault.NoMemory) }
+    {
+        match self {
+            JsonFault::NoMemory => Err(NoMemory),
+            _ => Ok(()),
+        }
+    }
+}
+
 impl From<NoMemory> for JsonFault {
     ghost use Rattle.std.specs.Prelude.{◌≡◌};
-    ghost use Rattle.json_model.specs.declared.fault.JsonFault.TheVariants as fault;
+    ghost use Rattle.json_model.specs.declared.fault.JsonFault.TheVariants as json_fault;
 
-    ghost from_gives = { λ _ e. e ≡ fault.NoMemory };
+    ghost from_gives = { λ _ e. e ≡ json_fault.NoMemory };
 
     fn from(_none: NoMemory) -> Self {
         JsonFault::NoMemory

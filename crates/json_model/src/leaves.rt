@@ -69,7 +69,7 @@ fn find_in_integer(alloc: Global, name: &str, json: &Json) -> Result<Option<Json
     ensures { IfOk result (λ found. FirstOf
         (Unless ((z : ℤ) × SpellsWhole (view json.now) z) (json_fault.BadShape name.now)) found) }
 {
-    let number = read_whole(alloc, json)?;
+    let number = read_whole(json);
     bad_shape_unless(alloc, number.is_some(), name)
 }
 
@@ -199,7 +199,7 @@ fn find_in_limit(alloc: Global, name: &str, json: &Json) -> Result<Option<JsonFa
     ensures { IfOk result (λ found. FirstOf
         (Unless ((z : ℤ) × SpellsShort (view json.now) z) (json_fault.BadShape name.now)) found) }
 {
-    let number = read_short(alloc, json)?;
+    let number = read_short(json);
     bad_shape_unless(alloc, number.is_some(), name)
 }
 
@@ -212,7 +212,7 @@ fn find_up_to(
     ensures { IfOk result (λ found. FirstOf
         (Unless ((n : ℕ) × SpellsUpTo most (view json.now) n) (json_fault.BadShape name.now)) found) }
 {
-    let number = read_up_to(alloc, most, json)?;
+    let number = read_up_to(most, json);
     bad_shape_unless(alloc, number.is_some(), name)
 }
 

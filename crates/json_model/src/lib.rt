@@ -5,6 +5,7 @@
 //! say which members an object has (`table.rt`). `find_fault` walks a tree by them and answers its first fault of the least kind,
 //! `check` the same as a `Result`. What has no fault is taken apart by `clean_object`, `clean_list`, `clean_member`,
 //! `clean_choice` and the readers of leaves, which are total. A new message is some rows of tables and a builder over these.
+//! Fields of the usual form are built without a walk: what `plain_fields` builds has no fault (`plain.rt`).
 #![tactic(auto)]
 
 mod bytes;
@@ -20,9 +21,11 @@ mod names;
 mod numbers;
 mod objects;
 mod place;
+mod plain;
 mod printing;
 mod reading;
 mod required;
+mod scalars;
 mod setting;
 mod side;
 mod table;
@@ -34,7 +37,7 @@ pub use clean::{check, clean_choice, clean_list, clean_member, clean_object};
 pub use clean_leaves::{
     clean_boolean, clean_bytes, clean_code, clean_constant, clean_count, clean_id, clean_integer,
     clean_limit, clean_listener_id, clean_name, clean_parent, clean_path, clean_query_path,
-    clean_reference, clean_target_id, clean_text, clean_time,
+    clean_target_id, clean_text, clean_time,
 };
 pub use document::state_text;
 pub use fault::{BadName, JsonFault, NamingFault};
@@ -46,8 +49,10 @@ pub use members::{given, only_choice, refined};
 pub use numbers::{read_integer, read_whole};
 pub use objects::{put_given, put_member, text_tree, unless_empty};
 pub use place::{Constants, Leaf, Object, Place, Series};
+pub use plain::{both_under, only_under, plain_fields};
 pub use printing::{print_fields, print_value, reference_text};
 pub use reading::{MAX_NESTING, clean_fields, clean_value, clean_values, read_fields, read_name};
+pub use scalars::read_time;
 pub use setting::Setting;
 pub use side::Side;
 pub use table::{member_place, value_member};

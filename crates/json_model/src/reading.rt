@@ -15,12 +15,11 @@ ghost use Rattle.json_model.specs.Grammar.{SpellsScalar, SpellsValue, SpellsKind
 ghost use Rattle.json_model.specs.Printed.{printed_fields};
 
 use crate::clean::{check, clean_choice, clean_list, clean_member, clean_object};
-use crate::clean_leaves::{
-    clean_boolean, clean_bytes, clean_integer, clean_name, clean_reference, clean_text, clean_time,
-};
+use crate::clean_leaves::clean_name;
 use crate::fault::JsonFault;
 use crate::members::lone_scalar;
 use crate::place::{Leaf, Object, Place, Series};
+use crate::scalars::read_scalar;
 use crate::setting::Setting;
 use crate::side::Side;
 use crate::table::value_member;
@@ -28,108 +27,26 @@ use crate::texts::show_text;
 use document_keys::{Database, DocumentKey, NoMemory, Text};
 use serde_json::{Map, Value as Json};
 use std::alloc::Global;
-use value_model::{Bytes, Fields, Kind, Value};
+use value_model::{Fields, Value};
 
 /// How many arrays and maps may nest in a field's value.
 pub const MAX_NESTING: u64 = 20;
 
-fn build_null(_setting: &Setting<'_>, _json: &Json) -> Value
-    requires { IsClean _setting.now (places.Leaf leaves.Null) (view _json.now) }
-    ensures found { SpellsScalar leaves.Null (view _json.now) result }
-    ensures storable { IsStorable result }
-{
-    Value { kind: Kind::Null }
-}
-
-fn build_boolean(setting: &Setting<'_>, json: &Json) -> Value
-    requires { IsClean setting.now (places.Leaf leaves.Boolean) (view json.now) }
-    ensures found { SpellsScalar leaves.Boolean (view json.now) result }
-    ensures storable { IsStorable result }
-{
-    let is = clean_boolean(setting, json);
-    Value {
-        kind: Kind::Boolean(is),
-    }
-}
-
-fn build_time(setting: &Setting<'_>, json: &Json) -> Value
-    requires { IsClean setting.now (places.Leaf leaves.Time) (view json.now) }
-    ensures found { SpellsScalar leaves.Time (view json.now) result }
-    ensures storable { IsStorable result }
-{
-    let time = clean_time(setting, json);
-    Value {
-        kind: Kind::Time(time),
-    }
-}
-
-fn build_integer(alloc: Global, setting: &Setting<'_>, json: &Json) -> Result<Value, NoMemory>
-    requires { IsClean setting.now (places.Leaf leaves.Integer) (view json.now) }
-    ensures found { IfOk result (λ v. SpellsScalar leaves.Integer (view json.now) v) }
-    ensures storable { IfOk result IsStorable }
-{
-    let number = clean_integer(alloc, setting, json)?;
-    Ok(Value {
-        kind: Kind::Integer(number),
-    })
-}
-
-fn build_text(alloc: Global, setting: &Setting<'_>, json: &Json) -> Result<Value, NoMemory>
-    requires { IsClean setting.now (places.Leaf leaves.Text) (view json.now) }
-    ensures found { IfOk result (λ v. SpellsScalar leaves.Text (view json.now) v) }
-    ensures storable { IfOk result IsStorable }
-{
-    let text = clean_text(setting, json);
-    show_text(text);
-    let text = Text::from_str(alloc, text)?;
-    Ok(Value {
-        kind: Kind::Text(text),
-    })
-}
-
-fn build_bytes(alloc: Global, setting: &Setting<'_>, json: &Json) -> Result<Value, NoMemory>
-    requires { IsClean setting.now (places.Leaf leaves.Bytes) (view json.now) }
-    ensures found { IfOk result (λ v. SpellsScalar leaves.Bytes (view json.now) v) }
-    ensures storable { IfOk result IsStorable }
-{
-    let bytes = clean_bytes(alloc, setting, json)?;
-    Ok(Value {
-        kind: Kind::Bytes(Bytes::from_vec(bytes)),
-    })
-}
-
-fn build_reference(alloc: Global, setting: &Setting<'_>, json: &Json) -> Result<Value, NoMemory>
-    requires { IsClean setting.now (places.Leaf leaves.Reference) (view json.now) }
-    ensures found { IfOk result (λ v. SpellsScalar leaves.Reference (view json.now) v) }
-    ensures storable { IfOk result IsStorable }
-{
-    let name = clean_reference(alloc, setting, json)?;
-    Ok(Value {
-        kind: Kind::Reference(Box::new(alloc, name)?),
-    })
-}
-
-/// The scalar of that kind.
+/// The scalar that stands under the name of its kind.
 fn build_scalar(
     alloc: Global,
-    setting: &Setting<'_>,
+    _setting: &Setting<'_>,
     leaf: Leaf,
     json: &Json,
 ) -> Result<Value, NoMemory>
     requires scalar { is_scalar leaf ≡ true }
-    requires clean { IsClean setting.now (places.Leaf leaf) (view json.now) }
+    requires clean { IsClean _setting.now (places.Leaf leaf) (view json.now) }
     ensures found { IfOk result (λ v. SpellsScalar leaf (view json.now) v) }
     ensures storable { IfOk result IsStorable }
 {
-    match leaf {
-        Leaf::Null => Ok(build_null(setting, json)),
-        Leaf::Boolean => Ok(build_boolean(setting, json)),
-        Leaf::Integer => build_integer(alloc, setting, json),
-        Leaf::Time => Ok(build_time(setting, json)),
-        Leaf::Text => build_text(alloc, setting, json),
-        Leaf::Bytes => build_bytes(alloc, setting, json),
-        Leaf::Reference => build_reference(alloc, setting, json),
-        _ => unreachable!(),
+    match read_scalar(alloc, leaf, json)? {
+        Some(value) => Ok(value),
+        None => unreachable!(),
     }
 }
 

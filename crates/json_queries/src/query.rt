@@ -80,19 +80,14 @@ fn clean_from(
 }
 
 /// The number under `limit`.
-fn clean_limit_in(
-    alloc: Global,
-    setting: &Setting<'_>,
-    found: Option<&Json>,
-) -> Result<Option<i32>, NoMemory>
+fn clean_limit_in(setting: &Setting<'_>, found: Option<&Json>) -> Option<i32>
     requires { IfSome found (λ json. IsClean setting.now (places.Leaf leaves.Limit) (view json.now)) }
-    ensures limit { IfOk result (λ limit. SpellsLimit
-        (option_map (λ json. view json.now) found.entry) limit) }
-    ensures storable { IfOk result (λ limit. IfSome limit (FitsSigned w32)) }
+    ensures limit { SpellsLimit (option_map (λ json. view json.now) found.entry) result }
+    ensures storable { IfSome result (FitsSigned w32) }
 {
     match found {
-        Some(json) => Ok(Some(clean_limit(alloc, setting, json)?)),
-        None => Ok(None),
+        Some(json) => Some(clean_limit(setting, json)),
+        None => None,
     }
 }
 
@@ -133,11 +128,7 @@ fn clean_structured(
         setting,
         clean_member(setting, kind, members, "endAt"),
     )?;
-    let limit = clean_limit_in(
-        alloc,
-        setting,
-        clean_member(setting, kind, members, "limit"),
-    )?;
+    let limit = clean_limit_in(setting, clean_member(setting, kind, members, "limit"));
     Ok(RawCollection {
         parent,
         from,

@@ -8,3 +8,4 @@ pub mod Parts
 pub mod ReadBack
 pub mod Digits
 pub mod Answered
+pub mod OnePass

@@ -10,8 +10,10 @@ mod condition;
 mod laws;
 mod lists;
 mod mask;
+mod plain;
 mod transform;
 mod write;
 
 pub use laws::{a_tree_spells_one_write, printed_writes_read_back};
+pub use plain::plain_writes;
 pub use write::{clean_write, clean_writes, print_write, read_write};

@@ -30,30 +30,25 @@ use value_model::{Kind, Value};
 
 /// The whole number under its name.
 #[tactic(auto, unfolding(json_model::specs::Places::operand_rows))]
-fn clean_number(
-    alloc: Global,
-    setting: &Setting<'_>,
-    name: &str,
-    json: &Json,
-) -> Result<i64, NoMemory>
+fn clean_number(setting: &Setting<'_>, name: &str, json: &Json) -> i64
     requires known { is_unknown (member_place objects.Operand name.now) ≡ false }
     requires clean { IsClean setting.now (member_place objects.Operand name.now) (view json.now) }
-    ensures { IfOk result (λ number. (name.now ≡ codes "integerValue") × SpellsWhole (view json.now) number) }
+    ensures { (name.now ≡ codes "integerValue") × SpellsWhole (view json.now) result }
 {
     match name {
-        "integerValue" => clean_integer(alloc, setting, json),
+        "integerValue" => clean_integer(setting, json),
         _ => unreachable!(),
     }
 }
 
 /// The operand of an arithmetic transform.
-fn clean_operand(alloc: Global, setting: &Setting<'_>, json: &Json) -> Result<i64, NoMemory>
+fn clean_operand(setting: &Setting<'_>, json: &Json) -> i64
     requires { IsClean setting.now (places.Object objects.Operand) (view json.now) }
-    ensures { IfOk result (λ number. SpellsOperand (view json.now) number) }
+    ensures { SpellsOperand (view json.now) result }
 {
     let members = clean_object(setting, Object::Operand, json);
     let (name, inner) = clean_choice(setting, Object::Operand, members);
-    clean_number(alloc, setting, name, inner)
+    clean_number(setting, name, inner)
 }
 
 /// The elements of a transform of an array.
@@ -87,9 +82,9 @@ fn clean_change(
 {
     match name {
         "setToServerValue" => Ok(Change::ServerTime),
-        "increment" => Ok(Change::Increment(clean_operand(alloc, setting, json)?)),
-        "maximum" => Ok(Change::Maximum(clean_operand(alloc, setting, json)?)),
-        "minimum" => Ok(Change::Minimum(clean_operand(alloc, setting, json)?)),
+        "increment" => Ok(Change::Increment(clean_operand(setting, json))),
+        "maximum" => Ok(Change::Maximum(clean_operand(setting, json))),
+        "minimum" => Ok(Change::Minimum(clean_operand(setting, json))),
         "appendMissingElements" => Ok(Change::Append(clean_elements(alloc, setting, json)?)),
         "removeAllFromArray" => Ok(Change::RemoveAll(clean_elements(alloc, setting, json)?)),
         _ => unreachable!(),

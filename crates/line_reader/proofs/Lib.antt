@@ -3,3 +3,4 @@ pub mod Checked
 pub mod Lined
 pub mod OneReading
 pub mod Targets
+pub mod OnePass

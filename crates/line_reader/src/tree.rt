@@ -10,7 +10,8 @@ ghost use Rattle.json_model.specs.declared.place.Leaf.TheVariants as leaves;
 ghost use Rattle.json_model.specs.declared.place.Object.TheVariants as objects;
 ghost use Rattle.json_model.specs.declared.place.Place.TheVariants as places;
 ghost use Rattle.json_model.specs.Clean.{IsClean, AreClean};
-ghost use Rattle.json_model.specs.Faults.{IsFault};
+ghost use Rattle.json_model.specs.Faults.{IsFault, max_nesting};
+ghost use Rattle.json_model.specs.Fits.{Fits};
 ghost use Rattle.json_model.specs.Forms.{IsGiven, SpellsEach};
 ghost use Rattle.json_model.specs.Grammar.{SpellsTime};
 ghost use Rattle.json_model.specs.Members.{given};
@@ -28,11 +29,12 @@ use crate::refusal::member_of;
 use document_keys::{Database, NoMemory, Text};
 use json_messages::{clean_status, read_listen_response, read_write_response};
 use json_model::{
-    Constants, JsonFault, MAX_NESTING, Object, Place, Setting, Side, check, clean_choice,
-    clean_constant, clean_listener_id, clean_member, clean_name, clean_object, clean_time,
+    Constants, JsonFault, MAX_NESTING, Object, Place, Setting, Side, both_under, check,
+    clean_choice, clean_constant, clean_listener_id, clean_member, clean_name, clean_object,
+    clean_time, only_under, read_time,
 };
 use json_queries::clean_query;
-use json_rpc::clean_writes;
+use json_rpc::{clean_writes, plain_writes};
 use mutations::Writes;
 use queries::RawQuery;
 use serde_json::{Map, Value as Json};
@@ -100,15 +102,14 @@ fn build_get_line(alloc: Global, setting: &Setting<'_>, json: &Json) -> Result<R
 }
 
 /// The id of a listener, 0 where it is left out.
-fn build_id(alloc: Global, setting: &Setting<'_>, found: Option<&Json>) -> Result<u32, NoMemory>
+fn build_id(setting: &Setting<'_>, found: Option<&Json>) -> u32
     requires { IfSome found (λ json. IsClean setting.now (places.Leaf leaves.ListenerId)
         (view json.now)) }
-    ensures { IfOk result (λ id. SpellsListenerId
-        (option_map (λ json. view json.now) found.entry) id) }
+    ensures { SpellsListenerId (option_map (λ json. view json.now) found.entry) result }
 {
     match found {
-        Some(json) => clean_listener_id(alloc, setting, json),
-        None => Ok(0),
+        Some(json) => clean_listener_id(setting, json),
+        None => 0,
     }
 }
 
@@ -145,25 +146,20 @@ fn build_listen_line(
 {
     let members = clean_object(setting, Object::ListenLine, json);
     let found = clean_member(setting, Object::ListenLine, members, "id");
-    let id = build_id(alloc, setting, found)?;
+    let id = build_id(setting, found);
     let query = build_target(alloc, setting, members)?;
     Ok(RawEvent::Listen { id, query })
 }
 
 /// What `unlisten` holds.
-fn build_unlisten_line(
-    alloc: Global,
-    setting: &Setting<'_>,
-    json: &Json,
-) -> Result<RawEvent, NoMemory>
+fn build_unlisten_line(setting: &Setting<'_>, json: &Json) -> RawEvent
     requires { IsClean setting.now (places.Object objects.UnlistenLine) (view json.now) }
-    ensures event { IfOk result (λ event. SpellsNamed setting.now.root (codes "unlisten")
-        (view json.now) event) }
-    ensures storable { IfOk result HoldsStorable }
+    ensures event { SpellsNamed setting.now.root (codes "unlisten") (view json.now) result }
+    ensures storable { HoldsStorable result }
 {
     let members = clean_object(setting, Object::UnlistenLine, json);
     let found = clean_member(setting, Object::UnlistenLine, members, "id");
-    Ok(RawEvent::Unlisten(build_id(alloc, setting, found)?))
+    RawEvent::Unlisten(build_id(setting, found))
 }
 
 /// The stream of a name.
@@ -296,7 +292,7 @@ fn build_named(
         "write" => build_write_line(alloc, setting, json),
         "get" => build_get_line(alloc, setting, json),
         "listen" => build_listen_line(alloc, setting, json),
-        "unlisten" => build_unlisten_line(alloc, setting, json),
+        "unlisten" => Ok(build_unlisten_line(setting, json)),
         "open" => Ok(build_open_line(setting, json)),
         "close" => build_close_line(alloc, setting, json),
         "watch" => build_watch(alloc, setting.root, json),
@@ -317,6 +313,38 @@ fn build_event(alloc: Global, setting: &Setting<'_>, json: &Json) -> Result<RawE
     build_named(alloc, setting, name, inner)
 }
 
+/// What the line of a batch holds, built in one pass: a time, and writes of which each is an update of a document with its fields,
+/// in the form of `plain_fields`. Then the line has no fault. Else none, which says nothing of the line.
+#[tactic(auto, using(crate::proofs::OnePass::line_spelled))]
+fn build_at_once(
+    alloc: Global,
+    setting: &Setting<'_>,
+    json: &Json,
+) -> Result<Option<RawEvent>, NoMemory>
+    ensures fits { IfOk result (λ found. IfSome found (λ _.
+        Fits setting.now max_nesting (places.Object objects.Line) (view json.now))) }
+    ensures event { IfOk result (λ found. IfSome found (λ event.
+        Spells setting.now.root (view json.now) event)) }
+    ensures storable { IfOk result (λ found. IfSome found HoldsStorable) }
+{
+    let Some(line) = only_under(json, "write") else {
+        return Ok(None);
+    };
+    let Some((at, writes)) = both_under(line, "at", "writes") else {
+        return Ok(None);
+    };
+    let Some(at) = read_time(at) else {
+        return Ok(None);
+    };
+    let Some(writes) = plain_writes(alloc, setting, writes)? else {
+        return Ok(None);
+    };
+    Ok(Some(RawEvent::Write {
+        at,
+        writes: Writes::from_vec(writes),
+    }))
+}
+
 /// What the tree of a line spells, with however many writes and whatever query. An unsupported member's value isn't read, and a
 /// message of the backend's has its own faults, which are none of the line.
 ///
@@ -333,6 +361,9 @@ pub(crate) fn read_tree(alloc: Global, root: &Database, json: &Json) -> Result<R
         side: Side::Caller,
         root,
     };
+    if let Some(event) = build_at_once(alloc, &setting, json)? {
+        return Ok(event);
+    }
     let place = Place::Object(Object::Line);
     if let Err(fault) = check(alloc, &setting, MAX_NESTING, place, "", json) {
         return Err(fault);

@@ -19,8 +19,8 @@ clean_target_id-requires c =
 
 pub loop-item-preserved : goal.loop-item-preserved
 loop-item-preserved c =
-    let same = to_z-of_z w32 c.in_ok-clean_target_id.field-0 c.in_ok-clean_target_id.ensures.fits in
-    more_spelled SpellsShort Free _ c.loop-item.item-index c.item-item.result _ _ _ c.loop-item-test.true c.item-item.is c.loop-item.invariant (subst (SpellsShort (view c.item-item.result)) (sym same) c.in_ok-clean_target_id.ensures) tt c.in_ok-push.ensures.items
+    let same = to_z-of_z w32 c.clean_target_id.result c.clean_target_id.ensures.fits in
+    more_spelled SpellsShort Free _ c.loop-item.item-index c.item-item.result _ _ _ c.loop-item-test.true c.item-item.is c.loop-item.invariant (subst (SpellsShort (view c.item-item.result)) (sym same) c.clean_target_id.ensures) tt c.in_ok-push.ensures.items
 
 pub returns : goal.returns
 returns c = all_spelled SpellsShort Free _ c.clean_list-items.result.now.items _ c.loop-item.item-index _ c.clean_list-items.ensures.is c.deref-item-items.ensures.value c.loop-item-test.false c.loop-item.auto.item-index-end c.loop-item.invariant

@@ -4,4 +4,4 @@ use Rattle.json_model.proofs.Kinded.{unless_found}
 use Rattle.json_model.proofs.leaves.find_in_integer.Goals as goal
 
 pub returns : goal.returns
-returns c = unless_found (SpellsWhole (view c.args.json.now)) _ c.in_ok-number.number _ c.bad_shape_unless.result c.in_ok-number.ensures c.is_some.ensures c.bad_shape_unless.ensures
+returns c = unless_found (SpellsWhole (view c.args.json.now)) _ c.read_whole-number.result _ c.bad_shape_unless.result c.read_whole-number.ensures c.is_some.ensures c.bad_shape_unless.ensures

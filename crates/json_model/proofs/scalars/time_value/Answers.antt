@@ -1,0 +1,4 @@
+use Rattle.json_model.proofs.scalars.time_value.Goals as goal
+
+pub returns-in_default : goal.returns-in_default
+returns-in_default c = λ v spelled. (rw c.in_default.is at c.read_time.ensures) spelled.0 spelled.1.0
