@@ -2,7 +2,7 @@
 
 ghost use Rattle.std.specs.Prelude.{◌≡◌, ◌≤◌, ◌⊎◌, [], ◌∷◌, false, Some, Ok, Err, IfOk, IfErr, OnOk, codes, option_map};
 ghost use Rattle.std.specs.List.{All};
-ghost use Rattle.serde_json.specs.Data.{object};
+ghost use Rattle.serde_json.specs.Data.{Data, object};
 ghost use Rattle.serde_json.specs.View.{view, members_view};
 ghost use Rattle.serde_json.specs.Written.{has_float};
 ghost use Rattle.value_model.specs.Data.{entries_depth};
@@ -21,7 +21,7 @@ ghost use Rattle.json_model.specs.declared.place.Place.TheVariants as places;
 ghost use Rattle.json_model.specs.declared.place.Series.TheVariants as serieses;
 ghost use Rattle.mutations.specs.declared.write.Write.{Write as AWrite};
 ghost use Rattle.json_rpc.specs.Faults.{WriteFaults};
-ghost use Rattle.json_rpc.specs.Grammar.{SpellsFieldsIn, SpellsWrite, SpellsWriteUnder};
+ghost use Rattle.json_rpc.specs.Grammar.{SpellsDocument, SpellsFieldsIn, SpellsWrite, SpellsWriteUnder};
 ghost use Rattle.json_rpc.specs.Printed.{fields_given, printed_condition, printed_mask, printed_transform, printed_update, printed_write};
 ghost use Rattle.json_rpc.specs.Storable.{IsStorableWrite};
 
@@ -93,8 +93,39 @@ fn clean_shared_fields(
     SharedFields::new(alloc, fields)
 }
 
-/// An update, with what stands beside it.
+/// An update of a document, with what stands beside it.
 #[tactic(auto, unfolding(json_model::specs::Places::write_rows))]
+pub(crate) fn clean_beside(
+    alloc: Global,
+    setting: &Setting<'_>,
+    members: &Map<String, Json>,
+    key: DocumentKey,
+    fields: SharedFields,
+) -> Result<Write, NoMemory>
+    requires refined { refined objects.Write (members_view members.now.entries) ≡ objects.Write }
+    requires beside { AreClean setting.now objects.Write (members_view members.now.entries) }
+    ensures write { (d : Data) → SpellsDocument setting.now.root d key fields → IfOk result
+        (λ write. SpellsWriteUnder setting.now.root (members_view members.now.entries)
+        (codes "update") d write) }
+    ensures storable { IsStorableKey key → AreStorable fields → entries_depth fields ≤ max_nesting
+        → IfOk result IsStorableWrite }
+{
+    let mask = clean_member(setting, Object::Write, members, "updateMask");
+    let mask = clean_mask(alloc, setting, mask)?;
+    let transforms = clean_member(setting, Object::Write, members, "updateTransforms");
+    let transforms = clean_transforms(alloc, setting, transforms)?;
+    let condition = clean_member(setting, Object::Write, members, "currentDocument");
+    let condition = clean_condition(setting, condition);
+    Ok(Write::Update {
+        key,
+        fields,
+        mask,
+        transforms,
+        condition,
+    })
+}
+
+/// An update, with what stands beside it.
 fn clean_update(
     alloc: Global,
     setting: &Setting<'_>,
@@ -111,19 +142,7 @@ fn clean_update(
     let inside = clean_object(setting, Object::Update, update);
     let key = clean_key(alloc, setting, inside)?;
     let fields = clean_shared_fields(alloc, setting, inside)?;
-    let mask = clean_member(setting, Object::Write, members, "updateMask");
-    let mask = clean_mask(alloc, setting, mask)?;
-    let transforms = clean_member(setting, Object::Write, members, "updateTransforms");
-    let transforms = clean_transforms(alloc, setting, transforms)?;
-    let condition = clean_member(setting, Object::Write, members, "currentDocument");
-    let condition = clean_condition(setting, condition);
-    Ok(Write::Update {
-        key,
-        fields,
-        mask,
-        transforms,
-        condition,
-    })
+    clean_beside(alloc, setting, members, key, fields)
 }
 
 /// A delete, with what stands beside it.

@@ -313,8 +313,8 @@ fn build_event(alloc: Global, setting: &Setting<'_>, json: &Json) -> Result<RawE
     build_named(alloc, setting, name, inner)
 }
 
-/// What the line of a batch holds, built in one pass: a time, and writes of which each is an update of a document with its fields,
-/// in the form of `plain_fields`. Then the line has no fault. Else none, which says nothing of the line.
+/// What the line of a batch holds, built in one pass: a time and writes, in the form of `plain_writes`. Then the line has no
+/// fault. Else none, which says nothing of the line.
 #[tactic(auto, using(crate::proofs::OnePass::line_spelled))]
 fn build_at_once(
     alloc: Global,
