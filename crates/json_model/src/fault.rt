@@ -1,4 +1,4 @@
-ghost use Rattle.std.specs.Prelude.{◌≡◌, ◌≢◌, OnOk};
+ghost use Rattle.std.specs.Prelude.{◌≡◌, ◌≢◌, OnOk, OnErr};
 ghost use Rattle.json_model.specs.declared.fault.JsonFault.TheVariants as json_fault;
 ghost use Rattle.json_model.specs.Ranks.{rank as rank_of, better as better_of};
 
@@ -54,7 +54,8 @@ impl JsonFault {
     /// # Errors
     /// `NoMemory` where it is want of memory.
     pub fn unless_memory(&self) -> Result<(), NoMemory>
-        ensures { OnOk result (self.now ≢ json_fault.NoMemory) }
+        ensures fault { OnOk result (self.now ≢ json_fault.NoMemory) }
+        ensures memory { OnErr result (self.now ≡ json_fault.NoMemory) }
     {
         match self {
             JsonFault::NoMemory => Err(NoMemory),

@@ -73,7 +73,7 @@ fn both_members(json: &Json) -> Option<(Member<'_>, Member<'_>)>
     Some((first, second))
 }
 
-/// What stands under the name in an object of just that member, which isn't left out.
+/// What stands under the name in an object of just that member, which isn't left out. Of none nothing is said.
 pub fn only_under<'a>(json: &'a Json, name: &str) -> Option<&'a Json>
     ensures is { IfSome result (λ inner. HasOnly name.now (view inner.now) (view json.now)) }
     ensures depth { IfSome result (λ inner. depth (view inner.now) < depth (view json.now)) }
@@ -88,7 +88,8 @@ pub fn only_under<'a>(json: &'a Json, name: &str) -> Option<&'a Json>
     Some(only.json)
 }
 
-/// What stands under the two names, in their order, in an object of just these members, neither of which is left out.
+/// What stands under the two names, in their order, in an object of just these members, neither of which is left out. Of none
+/// nothing is said.
 pub fn both_under<'a>(json: &'a Json, first: &str, second: &str) -> Option<(&'a Json, &'a Json)>
     ensures { IfSome result (λ both. HasBoth first.now second.now
         (view both.0.now) (view both.1.now) (view json.now)) }
