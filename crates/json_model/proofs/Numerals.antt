@@ -32,7 +32,7 @@ differ a b found unequal is same =
 pub no_number_found : {E : Type 0} (text : List ℕ) (found : Result ℤ E) → (text ≡ codes "-0" → ⊥) → ParsesSigned w64 10 text found → ((x : ℤ) → found ≡ Ok x → ⊥) → (z : ℤ) → SpellsInteger text z → ⊥
 no_number_found text found other parses none z spelled = none z (parsed text z found other spelled parses).0
 
--- ---- what the parser finds of a text that begins with no `+`, and with no 0 in front of another digit
+-- ---- what the parser finds of a text that is bare
 
 negative : (n : ℕ) (ds : List ℕ) → decimal n ≡ ds → get_or ds 0 0 ≢ 48 → n ≤ 2 ^ 63 → SpellsInteger (45 ∷ ds) (neg_ℤ (pos n))
 negative zero ds is other small = absurd (other (ap (λ (l : List ℕ). get_or l 0 0) (sym is ∙ decimal_digit 0 (omega arith))))

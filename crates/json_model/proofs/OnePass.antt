@@ -1,7 +1,6 @@
 -- What is built in one pass over a tree has no fault there.
-use Rattle.std.proofs.Common.{◌≡◌, ℕ, ◌-◌, ◌+◌, ◌<◌, ◌≤◌, List, [], ◌∷◌, ◌++◌, length, take, get_or, String, true, false, codes, is_some, Option, Some, None, IfSome, Result, Ok, Err, IfOk, refl, sym, ap, subst, inl, inr, ◌∙◌, arith}
+use Rattle.std.proofs.Common.{◌≡◌, ℕ, ◌-◌, ◌+◌, ◌<◌, ◌≤◌, List, [], ◌∷◌, ◌++◌, length, take, get_or, String, false, codes, is_some, Option, Some, None, IfSome, Result, Ok, Err, IfOk, refl, sym, ap, subst, inl, inr, arith}
 use Rattle.std.specs.Prelude.{slice_get}
-use Rattle.std.specs.Option.{option_and_then}
 use Rattle.std.specs.String.{string_bytes}
 use Rattle.std.specs.declared.alloc.Global.{Global}
 use Rattle.document_keys.specs.Names.{Root}
@@ -17,15 +16,16 @@ use Rattle.json_model.specs.declared.place.Place.TheVariants as place
 use Rattle.json_model.specs.declared.place.Object.TheVariants as object
 use Rattle.json_model.specs.declared.place.Leaf.{Leaf}
 use Rattle.json_model.specs.declared.place.Leaf.TheVariants as leaf
+use Rattle.json_model.specs.declared.place.Series.{Series}
 use Rattle.json_model.specs.declared.place.Series.TheVariants as series
 use Rattle.json_model.specs.Fits.{Fits, ItemsFit, MembersFit}
 use Rattle.json_model.specs.Forms.{HasOnly}
-use Rattle.json_model.specs.Grammar.{SpellsScalar, SpellsValue, SpellsKind, as_scalar, as_array as by_array, as_map as by_map, SpellsList, SpellsItems, SpellsFields, SpellsMembers, a_map, SpellsMap}
+use Rattle.json_model.specs.Grammar.{SpellsScalar, SpellsValue, SpellsKind, as_scalar, as_array as by_array, as_map as by_map, SpellsList, SpellsFields}
 use Rattle.json_model.specs.Leaves.{FitsLeaf}
-use Rattle.json_model.specs.Members.{is_null, is_left_out, given, unless_null}
+use Rattle.json_model.specs.Members.{is_null, is_left_out, given, lacks_only}
 use Rattle.json_model.specs.Origin.{Origin}
 use Rattle.json_model.specs.Places.{is_unknown, member_place, item_place, value_member}
-use Rattle.json_model.specs.Scalars.{IsScalar, Reads}
+use Rattle.json_model.specs.Scalars.{IsReadScalar, ReadsScalar}
 use Rattle.json_model.proofs.Among.{OfEach, each_at, found_among}
 use Rattle.json_model.proofs.Built.{Items, Entry, a_value, full_array, full_map, items_at, no_items, one_more}
 use Rattle.json_model.proofs.Deep.{fields_deep}
@@ -76,7 +76,7 @@ flat_fits o limit kind (json.object ms) fits = fits
 pub scalar_fits : (o : Origin) (limit : ℕ) (kind : Leaf) (d : json.Data) (v : Data) → SpellsScalar kind d v → Fits o limit (place.Leaf kind) d
 scalar_fits o limit kind d v spelled = flat_fits o limit kind d (leaf_of o.root kind d v spelled)
 
-pub if_read : {E : Type 0} (kind : Leaf) (d : json.Data) (Fact : Data → Type 0) (read : Result (Option Data) E) → ((v : Data) → IsScalar kind d v → Fact v) → IfOk read (Reads kind d) → IfOk read (λ found. IfSome found Fact)
+pub if_read : {E : Type 0} (kind : Leaf) (d : json.Data) (Fact : Data → Type 0) (read : Result (Option Data) E) → ((v : Data) → IsReadScalar kind d v → Fact v) → IfOk read (ReadsScalar kind d) → IfOk read (λ found. IfSome found Fact)
 if_read kind d Fact (Ok None) holds is = tt
 if_read kind d Fact (Ok (Some v)) holds is = holds v is
 if_read kind d Fact (Err e) holds is = tt
@@ -126,10 +126,10 @@ pub record PlainItems (o : Origin) (limit : ℕ) (items : List Json) (vs : List 
   pub fit : ItemsFit o limit series.Values (items_view items)
   pub values : Items items vs
 
-item_push : (o : Origin) (limit : ℕ) (items : List Json) (one : Json) → ItemsFit o limit series.Values (items_view items) → Fits o limit (place.Object object.Value) (view one) → ItemsFit o limit series.Values (items_view (items ++ one ∷ []))
+pub item_push : (o : Origin) (limit : ℕ) (kind : Series) (items : List Json) (one : Json) → ItemsFit o limit kind (items_view items) → Fits o limit (item_place kind) (view one) → ItemsFit o limit kind (items_view (items ++ one ∷ []))
 unfolding Fits
-item_push o limit [] one all fits = (fits, tt)
-item_push o limit (x ∷ items) one all fits = (all.0, item_push o limit items one all.1 fits)
+item_push o limit kind [] one all fits = (fits, tt)
+item_push o limit kind (x ∷ items) one all fits = (all.0, item_push o limit kind items one all.1 fits)
 
 pub none_plain : (o : Origin) (limit : ℕ) (vs : List Data) → vs ≡ [] → PlainItems o limit [] vs
 unfolding Fits
@@ -138,13 +138,13 @@ none_plain o limit vs none = record { fit = tt; values = no_items vs none }
 pub more_plain : (o : Origin) (limit : ℕ) (items : List Json) (i : ℕ) (one : Json) (old new : List Data) (v : Data) → i < length items → one ≡ get_or items i one → PlainItems o limit (take i items) old
     → Fits o limit (place.Object object.Value) (view one) → SpellsValue (view one) v → IsStorable v → new ≡ old ++ v ∷ [] → PlainItems o limit (take (i + 1) items) new
 more_plain o limit items i one old new v below is so_far fits spelled stored pushed = record {
-  fit = subst (λ (l : List Json). ItemsFit o limit series.Values (items_view l)) (sym (items_at items i one below is)) (item_push o limit (take i items) one so_far.fit fits);
+  fit = subst (λ (l : List Json). ItemsFit o limit series.Values (items_view l)) (sym (items_at items i one below is)) (item_push o limit series.Values (take i items) one so_far.fit fits);
   values = one_more items i one old new v below is so_far.values spelled stored pushed;
 }
 
-pub list_fits : (o : Origin) (limit : ℕ) (d : json.Data) (ds : json.Items) → d ≡ json.array ds → ItemsFit o limit series.Values ds → Fits o limit (place.Series series.Values) d
+pub list_fits : (o : Origin) (limit : ℕ) (kind : Series) (d : json.Data) (ds : json.Items) → lacks_only kind ds ≡ false → d ≡ json.array ds → ItemsFit o limit kind ds → Fits o limit (place.Series kind) d
 unfolding Fits
-list_fits o limit d ds is fit = subst (Fits o limit (place.Series series.Values)) (sym is) (refl, fit)
+list_fits o limit kind d ds enough is fit = subst (Fits o limit (place.Series kind)) (sym is) (enough, fit)
 
 -- ---- fields
 

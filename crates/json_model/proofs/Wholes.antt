@@ -1,9 +1,9 @@
 -- JSON trees as whole numbers.
-use Rattle.std.proofs.Common.{◌≡◌, ℕ, ◌^◌, ◌≤◌, Bool, true, false, cond, ℤ, pos, List, Option, Some, None, MatchOption, IfOk, Result, Ok, Err, FitsSigned, w64, nat_lt, refl, sym, ap, subst, inl, inr, ◌∙◌, arith}
+use Rattle.std.proofs.Common.{◌≡◌, ℕ, ◌^◌, ◌≤◌, Bool, true, false, cond, ℤ, pos, List, Option, Some, None, MatchOption, FitsSigned, w64, nat_lt, refl, sym, ap, subst, inl, inr, ◌∙◌, arith}
 use Rattle.std.proofs.lemmas.Int.{ints}
 use Rattle.std.specs.Option.{option_and_then}
 use borrow.Author.Tests.{ltb-false}
-use Rattle.serde_json.specs.Data.{Data as Json, null, boolean, number, string, array, object, unsigned, negative, float}
+use Rattle.serde_json.specs.Data.{Data as Json, null, boolean, number, string, array, object}
 use Rattle.serde_json.specs.Find.{as_number, as_str, as_i64}
 use Rattle.json_model.specs.Numbers.{SpellsInteger, SpellsWhole, as_number as by_number, as_text as by_text}
 
@@ -20,27 +20,6 @@ text_whole (boolean b) text found is r = cc
 text_whole (number n) text found is r = cc
 text_whole (array ds) text found is r = cc
 text_whole (object ms) text found is r = cc
-
-pub text_wholes : {E : Type 0} (d : Json) (text : List ℕ) (read : Result (Option ℤ) E) → Some text ≡ as_str d
-    → IfOk read (λ found. MatchOption found ((z : ℤ) → SpellsInteger text z → ⊥) (λ z. SpellsInteger text z))
-    → IfOk read (λ found. MatchOption found ((z : ℤ) → SpellsWhole d z → ⊥) (λ z. SpellsWhole d z))
-text_wholes d text (Ok found) is r = text_whole d text found is r
-text_wholes d text (Err e) is r = r
-
-picked : (b : Bool) (n : ℕ) (z : ℤ) → cond b (Some (pos n)) None ≡ Some z → z ≡ pos n
-picked true n z is = cc
-picked false n z is = cc
-
--- a number is one where it is kept as an integer of 64 bits
-pub number_whole : (d : Json) (z : ℤ) → Some z ≡ option_and_then as_i64 (as_number d) → FitsSigned w64 z → SpellsWhole d z
-number_whole (number (unsigned n)) z is fits = by_number fits (inl (n, refl, picked (nat_lt n (2 ^ 63)) n z (sym is)))
-number_whole (number (negative y)) z is fits = by_number fits (inr (let e : y ≡ z = cc in ap (λ x. number (negative x)) e))
-number_whole (number (float x)) z is fits = cc
-number_whole null z is fits = cc
-number_whole (boolean b) z is fits = cc
-number_whole (string s) z is fits = cc
-number_whole (array ds) z is fits = cc
-number_whole (object ms) z is fits = cc
 
 unpicked : (b : Bool) (n : ℕ) → b ≡ nat_lt n (2 ^ 63) → cond b (Some (pos n)) None ≡ None → FitsSigned w64 (pos n) → ⊥
 unpicked true n is none fits = cc

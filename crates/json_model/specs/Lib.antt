@@ -1,4 +1,5 @@
 pub mod Ascending
+pub mod Built
 pub mod Bytes
 pub mod Clean
 pub mod Constants

@@ -9,7 +9,7 @@ pub record SpellsInteger (text : List ℕ) (z : ℤ) : Type 0 where
   pub fits : FitsSigned w64 z
   pub is : (text ≡ signed_decimal z) ⊎ ((text ≡ codes "-0") × (z ≡ pos 0))
 
--- the text of a number begins with no `+`, and its digits with no 0 that another follows
+-- the text of a number has no `+` in front, no 0 behind a `-`, and no 0 in front of another digit
 pub record IsBare (text : List ℕ) : Type 0 where
   pub plus : get_or text 0 0 ≢ 43
   pub minus : get_or text 0 0 ≡ 45 → get_or text 1 0 ≢ 48

@@ -103,13 +103,11 @@ fn find_in_bytes_text(alloc: Global, name: &str, text: &str) -> Result<Option<Js
 }
 
 /// The fault, unless it is want of memory.
-fn unless_memory(fault: JsonFault) -> Result<Option<JsonFault>, NoMemory>
+fn told(fault: JsonFault) -> Result<Option<JsonFault>, NoMemory>
     ensures { IfOk result (λ found. (found ≡ Some fault) × (fault ≢ json_fault.NoMemory)) }
 {
-    match fault {
-        JsonFault::NoMemory => Err(NoMemory),
-        other => Ok(Some(other)),
-    }
+    fault.unless_memory()?;
+    Ok(Some(fault))
 }
 
 fn find_in_reference_text(alloc: Global, text: &str) -> Result<Option<JsonFault>, NoMemory>
@@ -117,7 +115,7 @@ fn find_in_reference_text(alloc: Global, text: &str) -> Result<Option<JsonFault>
 {
     match read_reference(alloc, text) {
         Ok(_) => Ok(None),
-        Err(fault) => unless_memory(fault),
+        Err(fault) => told(fault),
     }
 }
 
@@ -130,7 +128,7 @@ fn find_in_document_text(
 {
     match read_key(alloc, root, text) {
         Ok(_) => Ok(None),
-        Err(fault) => unless_memory(fault),
+        Err(fault) => told(fault),
     }
 }
 
@@ -139,7 +137,7 @@ fn find_in_path_text(alloc: Global, text: &str) -> Result<Option<JsonFault>, NoM
 {
     match read_path(alloc, text) {
         Ok(_) => Ok(None),
-        Err(fault) => unless_memory(fault),
+        Err(fault) => told(fault),
     }
 }
 
@@ -191,7 +189,7 @@ fn find_in_query_path_text(alloc: Global, text: &str) -> Result<Option<JsonFault
 {
     match read_query_path(alloc, text) {
         Ok(_) => Ok(None),
-        Err(fault) => unless_memory(fault),
+        Err(fault) => told(fault),
     }
 }
 

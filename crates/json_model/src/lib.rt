@@ -5,7 +5,7 @@
 //! say which members an object has (`table.rt`). `find_fault` walks a tree by them and answers its first fault of the least kind,
 //! `check` the same as a `Result`. What has no fault is taken apart by `clean_object`, `clean_list`, `clean_member`,
 //! `clean_choice` and the readers of leaves, which are total. A new message is some rows of tables and a builder over these.
-//! Fields of the usual form are built without a walk: what `plain_fields` builds has no fault (`plain.rt`).
+//! Fields of the plain form are built without a walk: what `plain_fields` builds has no fault (`plain.rt`).
 #![tactic(auto)]
 
 mod bytes;

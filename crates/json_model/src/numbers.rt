@@ -14,7 +14,7 @@ fn byte_at(text: &str, place: usize) -> u8
     }
 }
 
-/// Whether the text of a number begins with no `+`, and its digits with no 0 that another follows.
+/// Whether the text of a number has no `+` in front, no 0 behind a `-`, and no 0 in front of another digit.
 fn is_bare(text: &str) -> bool
     ensures { IsTrue result ↔ IsBare text.now }
 {

@@ -2,7 +2,7 @@
 //! built has no fault, so that its tree needn't be walked. Of a tree of another form, and of one with faults, nothing is said:
 //! that is for the walk.
 
-ghost use Rattle.std.specs.Prelude.{◌≡◌, ◌<◌, ◌≤◌, Some, IfOk, IfSome};
+ghost use Rattle.std.specs.Prelude.{◌≡◌, ◌<◌, ◌≤◌, Some, IfSome};
 ghost use Rattle.serde_json.specs.Data.{depth, object, member, no_members};
 ghost use Rattle.serde_json.specs.View.{view};
 ghost use Rattle.value_model.specs.Data.{items_of, entries_depth};
@@ -10,6 +10,7 @@ ghost use Rattle.value_model.specs.Storable.{IsStorable, AreStorableItems, AreSt
 ghost use Rattle.json_model.specs.declared.place.Place.TheVariants as places;
 ghost use Rattle.json_model.specs.declared.place.Object.TheVariants as objects;
 ghost use Rattle.json_model.specs.declared.place.Series.TheVariants as serieses;
+ghost use Rattle.json_model.specs.Built.{IfBuilt};
 ghost use Rattle.json_model.specs.Fits.{Fits};
 ghost use Rattle.json_model.specs.Forms.{HasOnly, HasBoth};
 ghost use Rattle.json_model.specs.Grammar.{SpellsValue, SpellsKind, SpellsList, SpellsFields};
@@ -119,10 +120,10 @@ fn plain_value(
     limit: u64,
     json: &Json,
 ) -> Result<Option<Value>, NoMemory>
-    ensures fits { IfOk result (λ found. IfSome found (λ _.
-        Fits setting.now limit (places.Object objects.Value) (view json.now))) }
-    ensures value { IfOk result (λ found. IfSome found (λ v. SpellsValue (view json.now) v)) }
-    ensures storable { IfOk result (λ found. IfSome found IsStorable) }
+    ensures fits { IfBuilt result (λ _.
+        Fits setting.now limit (places.Object objects.Value) (view json.now)) }
+    ensures value { IfBuilt result (λ v. SpellsValue (view json.now) v) }
+    ensures storable { IfBuilt result IsStorable }
 {
     let Some(only) = only_member(json) else {
         return Ok(None);
@@ -143,10 +144,9 @@ fn plain_kind(
     place: Place,
     json: &Json,
 ) -> Result<Option<Value>, NoMemory>
-    ensures fits { IfOk result (λ found. IfSome found (λ _.
-        Fits setting.now limit place (view json.now))) }
-    ensures kind { IfOk result (λ found. IfSome found (λ v. SpellsKind place (view json.now) v)) }
-    ensures storable { IfOk result (λ found. IfSome found IsStorable) }
+    ensures fits { IfBuilt result (λ _. Fits setting.now limit place (view json.now)) }
+    ensures kind { IfBuilt result (λ v. SpellsKind place (view json.now) v) }
+    ensures storable { IfBuilt result IsStorable }
 {
     match place {
         Place::Leaf(leaf) => read_scalar(alloc, leaf, json),
@@ -156,7 +156,7 @@ fn plain_kind(
     }
 }
 
-/// The array that stands under `arrayValue`, and isn't empty.
+/// The array that stands under `arrayValue`, whose list is given.
 #[tactic(auto, using(crate::proofs::OnePass::array_fits, crate::proofs::OnePass::array_kind, crate::proofs::Stored::array_stored))]
 #[cycle(plain)]
 fn plain_array(
@@ -165,11 +165,10 @@ fn plain_array(
     limit: u64,
     json: &Json,
 ) -> Result<Option<Value>, NoMemory>
-    ensures fits { IfOk result (λ found. IfSome found (λ _.
-        Fits setting.now limit (places.Object objects.Array) (view json.now))) }
-    ensures kind { IfOk result (λ found. IfSome found (λ v.
-        SpellsKind (places.Object objects.Array) (view json.now) v)) }
-    ensures storable { IfOk result (λ found. IfSome found IsStorable) }
+    ensures fits { IfBuilt result (λ _.
+        Fits setting.now limit (places.Object objects.Array) (view json.now)) }
+    ensures kind { IfBuilt result (λ v. SpellsKind (places.Object objects.Array) (view json.now) v) }
+    ensures storable { IfBuilt result IsStorable }
 {
     let Some(list) = only_under(json, "values") else {
         return Ok(None);
@@ -191,12 +190,10 @@ fn plain_values(
     limit: u64,
     json: &Json,
 ) -> Result<Option<Vec<Value>>, NoMemory>
-    ensures fits { IfOk result (λ found. IfSome found (λ _.
-        Fits setting.now limit (places.Series serieses.Values) (view json.now))) }
-    ensures values { IfOk result (λ found. IfSome found (λ vs.
-        SpellsList (Some (view json.now)) vs.items)) }
-    ensures storable { IfOk result (λ found. IfSome found (λ vs.
-        AreStorableItems (items_of vs.items))) }
+    ensures fits { IfBuilt result (λ _.
+        Fits setting.now limit (places.Series serieses.Values) (view json.now)) }
+    ensures values { IfBuilt result (λ vs. SpellsList (Some (view json.now)) vs.items) }
+    ensures storable { IfBuilt result (λ vs. AreStorableItems (items_of vs.items)) }
 {
     let Some(items) = json.as_array() else {
         return Ok(None);
@@ -211,7 +208,7 @@ fn plain_values(
     Ok(Some(values))
 }
 
-/// The map that stands under `mapValue`, and isn't empty.
+/// The map that stands under `mapValue`, whose fields are given.
 #[tactic(auto, using(crate::proofs::OnePass::map_fits, crate::proofs::OnePass::map_kind, crate::proofs::Stored::map_stored))]
 #[cycle(plain)]
 fn plain_map(
@@ -220,11 +217,10 @@ fn plain_map(
     limit: u64,
     json: &Json,
 ) -> Result<Option<Value>, NoMemory>
-    ensures fits { IfOk result (λ found. IfSome found (λ _.
-        Fits setting.now limit (places.Object objects.Map) (view json.now))) }
-    ensures kind { IfOk result (λ found. IfSome found (λ v.
-        SpellsKind (places.Object objects.Map) (view json.now) v)) }
-    ensures storable { IfOk result (λ found. IfSome found IsStorable) }
+    ensures fits { IfBuilt result (λ _.
+        Fits setting.now limit (places.Object objects.Map) (view json.now)) }
+    ensures kind { IfBuilt result (λ v. SpellsKind (places.Object objects.Map) (view json.now) v) }
+    ensures storable { IfBuilt result IsStorable }
 {
     let Some(object) = only_under(json, "fields") else {
         return Ok(None);
@@ -250,12 +246,11 @@ pub fn plain_fields(
     limit: u64,
     json: &Json,
 ) -> Result<Option<Fields>, NoMemory>
-    ensures fits { IfOk result (λ found. IfSome found (λ _.
-        Fits setting.now limit (places.Object objects.Fields) (view json.now))) }
-    ensures fields { IfOk result (λ found. IfSome found (λ fields.
-        SpellsFields (view json.now) fields)) }
-    ensures storable { IfOk result (λ found. IfSome found AreStorable) }
-    ensures deep { IfOk result (λ found. IfSome found (λ fields. entries_depth fields ≤ limit)) }
+    ensures fits { IfBuilt result (λ _.
+        Fits setting.now limit (places.Object objects.Fields) (view json.now)) }
+    ensures fields { IfBuilt result (λ fields. SpellsFields (view json.now) fields) }
+    ensures storable { IfBuilt result AreStorable }
+    ensures deep { IfBuilt result (λ fields. entries_depth fields ≤ limit) }
 {
     let Some(members) = json.as_object() else {
         return Ok(None);

@@ -5,7 +5,6 @@ ghost use Rattle.serde_json.specs.View.{view};
 ghost use Rattle.value_model.specs.Data.{Entries, items_of, depth, items_depth, entries_depth};
 ghost use Rattle.value_model.specs.Storable.{IsStorable, AreStorableItems, AreStorable, IsStorableKey};
 ghost use Rattle.json_model.specs.declared.place.Place.TheVariants as places;
-ghost use Rattle.json_model.specs.declared.place.Leaf.TheVariants as leaves;
 ghost use Rattle.json_model.specs.declared.place.Object.TheVariants as objects;
 ghost use Rattle.json_model.specs.declared.place.Series.TheVariants as serieses;
 ghost use Rattle.json_model.specs.declared.fault.JsonFault.TheVariants as json_fault;

@@ -6,7 +6,7 @@ ghost use Rattle.value_model.specs.Time.{IsMoment};
 ghost use Rattle.value_model.specs.declared.timestamp.Timestamp.{Timestamp as Moment};
 ghost use Rattle.json_model.specs.declared.place.Leaf.TheVariants as leaves;
 ghost use Rattle.json_model.specs.Grammar.{SpellsTime};
-ghost use Rattle.json_model.specs.Scalars.{Reads};
+ghost use Rattle.json_model.specs.Scalars.{ReadsScalar};
 
 use crate::bytes::read_bytes;
 use crate::leaves::is_null_tree;
@@ -20,7 +20,7 @@ use std::alloc::Global;
 use value_model::{Bytes, Kind, Timestamp, Value};
 
 fn null_value(json: &Json) -> Option<Value>
-    ensures { Reads leaves.Null (view json.now) result }
+    ensures { ReadsScalar leaves.Null (view json.now) result }
 {
     if !is_null_tree(json) {
         return None;
@@ -29,7 +29,7 @@ fn null_value(json: &Json) -> Option<Value>
 }
 
 fn boolean_value(json: &Json) -> Option<Value>
-    ensures { Reads leaves.Boolean (view json.now) result }
+    ensures { ReadsScalar leaves.Boolean (view json.now) result }
 {
     let is = json.as_bool()?;
     Some(Value {
@@ -47,7 +47,7 @@ pub fn read_time(json: &Json) -> Option<Timestamp>
 }
 
 fn time_value(json: &Json) -> Option<Value>
-    ensures { Reads leaves.Time (view json.now) result }
+    ensures { ReadsScalar leaves.Time (view json.now) result }
 {
     let Some(time) = read_time(json) else {
         return None;
@@ -58,7 +58,7 @@ fn time_value(json: &Json) -> Option<Value>
 }
 
 fn integer_value(json: &Json) -> Option<Value>
-    ensures { Reads leaves.Integer (view json.now) result }
+    ensures { ReadsScalar leaves.Integer (view json.now) result }
 {
     let Some(number) = read_whole(json) else {
         return None;
@@ -69,7 +69,7 @@ fn integer_value(json: &Json) -> Option<Value>
 }
 
 fn text_value(alloc: Global, json: &Json) -> Result<Option<Value>, NoMemory>
-    ensures { IfOk result (Reads leaves.Text (view json.now)) }
+    ensures { IfOk result (ReadsScalar leaves.Text (view json.now)) }
 {
     let Some(text) = json.as_str() else {
         return Ok(None);
@@ -82,7 +82,7 @@ fn text_value(alloc: Global, json: &Json) -> Result<Option<Value>, NoMemory>
 }
 
 fn bytes_value(alloc: Global, json: &Json) -> Result<Option<Value>, NoMemory>
-    ensures { IfOk result (Reads leaves.Bytes (view json.now)) }
+    ensures { IfOk result (ReadsScalar leaves.Bytes (view json.now)) }
 {
     let Some(text) = json.as_str() else {
         return Ok(None);
@@ -96,7 +96,7 @@ fn bytes_value(alloc: Global, json: &Json) -> Result<Option<Value>, NoMemory>
 }
 
 fn reference_value(alloc: Global, json: &Json) -> Result<Option<Value>, NoMemory>
-    ensures { IfOk result (Reads leaves.Reference (view json.now)) }
+    ensures { IfOk result (ReadsScalar leaves.Reference (view json.now)) }
 {
     let Some(text) = json.as_str() else {
         return Ok(None);
@@ -114,7 +114,7 @@ fn reference_value(alloc: Global, json: &Json) -> Result<Option<Value>, NoMemory
 
 /// The scalar of that kind that the tree spells.
 pub(crate) fn read_scalar(alloc: Global, leaf: Leaf, json: &Json) -> Result<Option<Value>, NoMemory>
-    ensures { IfOk result (Reads leaf (view json.now)) }
+    ensures { IfOk result (ReadsScalar leaf (view json.now)) }
 {
     match leaf {
         Leaf::Null => Ok(null_value(json)),

@@ -2,7 +2,7 @@
 use Rattle.std.proofs.Common.{◌≡◌, ◌⊎◌, ℕ, ◌+◌, ◌<◌, List, [], ◌∷◌, ◌++◌, take, get_or, length, Bool, true, false, not, cond, codes, Option, None, Some, is_some, refl, sym, ap, subst, inl, inr, ◌∙◌, arith}
 use Rattle.std.specs.String.{string_bytes}
 use Rattle.document_keys.specs.Names.{Root}
-use Rattle.serde_json.specs.Data.{Data as Json, array, object as an_object, Items, Members, no_members, member}
+use Rattle.serde_json.specs.Data.{Data as Json, object as an_object, Members, no_members, member}
 use Rattle.serde_json.specs.Find.{as_object}
 use Rattle.serde_json.specs.View.{view, items_view, members_view}
 use Rattle.serde_json.specs.declared.value.Value.{Value}
@@ -27,6 +27,7 @@ use Rattle.json_model.proofs.Built.{Entry, items_at}
 use Rattle.json_model.proofs.Firsts.{none_found}
 use Rattle.json_model.proofs.Fitting.{flat_object_fits, clean_fits, fits_clean}
 use Rattle.json_model.proofs.Forms.{Spelled, none_spelled, more_spelled}
+use Rattle.json_model.proofs.OnePass.{item_push}
 use Rattle.json_model.proofs.Sound.{not_out}
 use Rattle.mutations.specs.declared.write.Write.{Write}
 use Rattle.json_rpc.specs.Beside.{FitBeside, FitsInWrite}
@@ -48,7 +49,7 @@ update_fits o limit fields name d key both fits spelled =
 
 -- ---- what stands beside the document
 
--- the only alternative that is given is this one
+-- where no alternative is given, no member is one; where this one is, each that is one is this
 none_chosen : (kind : Object) (ms : Members) → chosen kind ms ≡ [] → OfEach (λ name d. is_chosen kind name d ≡ true → ⊥) ms
 none_chosen kind no_members none = tt
 none_chosen kind (member l e ms) none = by (is_chosen kind l e) refl none (none_chosen kind ms)
@@ -140,11 +141,6 @@ pub record PlainWrites (o : Origin) (limit : ℕ) (items : List Value) (writes :
   pub fit : ItemsFit o limit series.Writes (items_view items)
   pub spelled : Spelled (SpellsWrite o.root) IsStorableWrite items writes
 
-item_push : (o : Origin) (limit : ℕ) (items : List Value) (one : Value) → ItemsFit o limit series.Writes (items_view items) → Fits o limit (place.Object object.Write) (view one) → ItemsFit o limit series.Writes (items_view (items ++ one ∷ []))
-unfolding Fits
-item_push o limit [] one all fits = (fits, tt)
-item_push o limit (x ∷ items) one all fits = (all.0, item_push o limit items one all.1 fits)
-
 pub none_plain : (o : Origin) (limit : ℕ) (writes : List Write) → writes ≡ [] → PlainWrites o limit [] writes
 unfolding Fits
 none_plain o limit writes none = record { fit = tt; spelled = none_spelled (SpellsWrite o.root) IsStorableWrite writes none }
@@ -152,10 +148,6 @@ none_plain o limit writes none = record { fit = tt; spelled = none_spelled (Spel
 pub more_plain : (o : Origin) (limit : ℕ) (items : List Value) (i : ℕ) (one : Value) (old new : List Write) (write : Write) → i < length items → one ≡ get_or items i one → PlainWrites o limit (take i items) old
     → Fits o limit (place.Object object.Write) (view one) → SpellsWrite o.root (view one) write → IsStorableWrite write → new ≡ old ++ write ∷ [] → PlainWrites o limit (take (i + 1) items) new
 more_plain o limit items i one old new write below is so_far fits spelled stored pushed = record {
-  fit = subst (λ (l : List Value). ItemsFit o limit series.Writes (items_view l)) (sym (items_at items i one below is)) (item_push o limit (take i items) one so_far.fit fits);
+  fit = subst (λ (l : List Value). ItemsFit o limit series.Writes (items_view l)) (sym (items_at items i one below is)) (item_push o limit series.Writes (take i items) one so_far.fit fits);
   spelled = more_spelled (SpellsWrite o.root) IsStorableWrite items i one old new write below is so_far.spelled spelled stored pushed;
 }
-
-pub list_fits : (o : Origin) (limit : ℕ) (d : Json) (ds : Items) → d ≡ array ds → ItemsFit o limit series.Writes ds → Fits o limit (place.Series series.Writes) d
-unfolding Fits
-list_fits o limit d ds is fit = subst (Fits o limit (place.Series series.Writes)) (sym is) (refl, fit)

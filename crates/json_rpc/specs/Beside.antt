@@ -9,10 +9,10 @@ use Rattle.json_model.specs.Fits.{Fits}
 use Rattle.json_model.specs.Members.{is_left_out}
 use Rattle.json_model.specs.Origin.{Origin}
 use Rattle.json_model.specs.Places.{member_place}
-use Rattle.json_rpc.specs.declared.plain.Document.{Document}
+use Rattle.json_rpc.specs.declared.plain.UpdatedDocument.{UpdatedDocument}
 
 -- the journal can hold it
-pub record IsStorableDocument (document : Document) : Type 0 where
+pub record IsStorableDocument (document : UpdatedDocument) : Type 0 where
   pub names : IsStorableKey document.key
   pub holds : AreStorable document.fields
   pub deep : entries_depth document.fields ≤ max_nesting
@@ -23,7 +23,7 @@ FitsInWrite o name d =
     (is_left_out (member_place object.Write name) d ≡ true)
     ⊎ ((is_left_out (member_place object.Write name) d ≡ false) × Fits o max_nesting (member_place object.Write name) d)
 
--- of the members of a write each but the update is
+-- each member of a write but its update is left out, or is of its form
 abbrev pub FitBeside : Origin → Members → Type 0
 FitBeside o no_members = Unit {0}
 FitBeside o (member name d ms) = ((name ≡ codes "update") ⊎ FitsInWrite o name d) × FitBeside o ms

@@ -1,7 +1,7 @@
 //! Messages of `google.firestore.v1` as JSON trees: what one without faults spells, and the one printed form of each.
 //!
 //! A message is a table of `json_model`, a total builder over a tree without faults (`clean_write`) and a printer
-//! (`print_write`). Writes come from the caller's lines, by `plain_writes`, which builds updates of the usual form without a walk
+//! (`print_write`). Writes come from the caller's lines, by `plain_writes`, which builds updates of the plain form without a walk
 //! over their fields, or by `clean_writes`; and by `read_write`, which also finds the fault of a tree. What is read can be stored,
 //! and what is printed of it reads back. `condition`, `mask` and `transform` are the parts of a write.
 #![tactic(auto)]

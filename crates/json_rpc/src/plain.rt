@@ -5,6 +5,7 @@ ghost use Rattle.std.specs.Prelude.{◌≡◌, [], ◌∷◌, codes, Some, IfOk,
 ghost use Rattle.std.specs.List.{All};
 ghost use Rattle.serde_json.specs.View.{view, members_view};
 ghost use Rattle.value_model.specs.Storable.{IsStorableKey};
+ghost use Rattle.json_model.specs.Built.{IfBuilt};
 ghost use Rattle.json_model.specs.Faults.{max_nesting};
 ghost use Rattle.json_model.specs.Fits.{Fits};
 ghost use Rattle.json_model.specs.Forms.{SpellsEach};
@@ -34,9 +35,8 @@ fn plain_key(
     setting: &Setting<'_>,
     json: &Json,
 ) -> Result<Option<DocumentKey>, NoMemory>
-    ensures key { IfOk result (λ found. IfSome found (λ key.
-        SpellsName setting.now.root (view json.now) key)) }
-    ensures storable { IfOk result (λ found. IfSome found IsStorableKey) }
+    ensures key { IfBuilt result (λ key. SpellsName setting.now.root (view json.now) key) }
+    ensures storable { IfBuilt result IsStorableKey }
 {
     match read_name(alloc, setting.root, setting.side, json) {
         Ok(key) => Ok(Some(key)),
@@ -74,7 +74,7 @@ fn fits_beside(
 
 /// What an update holds.
 #[derive(Drop)]
-struct Document {
+struct UpdatedDocument {
     key: DocumentKey,
     fields: SharedFields,
 }
@@ -85,12 +85,12 @@ fn plain_document(
     alloc: Global,
     setting: &Setting<'_>,
     json: &Json,
-) -> Result<Option<Document>, NoMemory>
-    ensures fits { IfOk result (λ found. IfSome found (λ _.
-        Fits setting.now max_nesting (places.Object objects.Update) (view json.now))) }
-    ensures document { IfOk result (λ found. IfSome found (λ document.
-        SpellsDocument setting.now.root (view json.now) document.key document.fields)) }
-    ensures storable { IfOk result (λ found. IfSome found IsStorableDocument) }
+) -> Result<Option<UpdatedDocument>, NoMemory>
+    ensures fits { IfBuilt result (λ _.
+        Fits setting.now max_nesting (places.Object objects.Update) (view json.now)) }
+    ensures document { IfBuilt result (λ document.
+        SpellsDocument setting.now.root (view json.now) document.key document.fields) }
+    ensures storable { IfBuilt result IsStorableDocument }
 {
     let Some((fields, name)) = both_under(json, "fields", "name") else {
         return Ok(None);
@@ -102,7 +102,7 @@ fn plain_document(
         return Ok(None);
     };
     let fields = SharedFields::new(alloc, fields)?;
-    Ok(Some(Document { key, fields }))
+    Ok(Some(UpdatedDocument { key, fields }))
 }
 
 /// What the only alternative of a write holds, where it is an update.
@@ -120,11 +120,10 @@ fn update_of(members: &Map<String, Json>) -> Option<&Json>
 /// The write that an update spells, whose document's tree is of the plain form.
 #[tactic(auto, using(crate::proofs::OnePass::write_fits, crate::proofs::OnePass::write_spelled, crate::proofs::OnePass::is_update))]
 fn plain_write(alloc: Global, setting: &Setting<'_>, json: &Json) -> Result<Option<Write>, NoMemory>
-    ensures fits { IfOk result (λ found. IfSome found (λ _.
-        Fits setting.now max_nesting (places.Object objects.Write) (view json.now))) }
-    ensures write { IfOk result (λ found. IfSome found (λ write.
-        SpellsWrite setting.now.root (view json.now) write)) }
-    ensures storable { IfOk result (λ found. IfSome found IsStorableWrite) }
+    ensures fits { IfBuilt result (λ _.
+        Fits setting.now max_nesting (places.Object objects.Write) (view json.now)) }
+    ensures write { IfBuilt result (λ write. SpellsWrite setting.now.root (view json.now) write) }
+    ensures storable { IfBuilt result IsStorableWrite }
 {
     let Some(members) = json.as_object() else {
         return Ok(None);
@@ -138,7 +137,7 @@ fn plain_write(alloc: Global, setting: &Setting<'_>, json: &Json) -> Result<Opti
     let Some(document) = plain_document(alloc, setting, update)? else {
         return Ok(None);
     };
-    let Document { key, fields } = document;
+    let UpdatedDocument { key, fields } = document;
     let write = clean_beside(alloc, setting, members, key, fields)?;
     Ok(Some(write))
 }
@@ -153,17 +152,16 @@ pub fn plain_writes(
     setting: &Setting<'_>,
     json: &Json,
 ) -> Result<Option<Vec<Write>>, NoMemory>
-    ensures fits { IfOk result (λ found. IfSome found (λ _.
-        Fits setting.now max_nesting (places.Series serieses.Writes) (view json.now))) }
-    ensures writes { IfOk result (λ found. IfSome found (λ writes.
-        SpellsEach (SpellsWrite setting.now.root) (Some (view json.now)) writes.items)) }
-    ensures storable { IfOk result (λ found. IfSome found (λ writes.
-        All IsStorableWrite writes.items)) }
+    ensures fits { IfBuilt result (λ _.
+        Fits setting.now max_nesting (places.Series serieses.Writes) (view json.now)) }
+    ensures writes { IfBuilt result (λ writes.
+        SpellsEach (SpellsWrite setting.now.root) (Some (view json.now)) writes.items) }
+    ensures storable { IfBuilt result (λ writes. All IsStorableWrite writes.items) }
 {
     let Some(items) = json.as_array() else {
         return Ok(None);
     };
-    let mut writes = Vec::with_capacity(alloc, items.len())?;
+    let mut writes = Vec::new(alloc);
     for item in items {
         let Some(write) = plain_write(alloc, setting, item)? else {
             return Ok(None);

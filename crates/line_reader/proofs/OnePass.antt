@@ -1,5 +1,5 @@
 -- The line of a batch that is built in one pass has no fault, and spells the batch.
-use Rattle.std.proofs.Common.{◌≡◌, ℕ, List, [], ◌∷◌, codes, refl, sym, ap, subst, inr}
+use Rattle.std.proofs.Common.{ℕ, List, [], codes, refl, sym, ap, subst, inr}
 use Rattle.std.specs.Prelude.{Some}
 use Rattle.document_keys.specs.Names.{Root}
 use Rattle.serde_json.specs.Data.{Data, no_members, member}

@@ -9,6 +9,7 @@ ghost use Rattle.json_model.specs.declared.place.Constants.TheVariants as consta
 ghost use Rattle.json_model.specs.declared.place.Leaf.TheVariants as leaves;
 ghost use Rattle.json_model.specs.declared.place.Object.TheVariants as objects;
 ghost use Rattle.json_model.specs.declared.place.Place.TheVariants as places;
+ghost use Rattle.json_model.specs.Built.{IfBuilt};
 ghost use Rattle.json_model.specs.Clean.{IsClean, AreClean};
 ghost use Rattle.json_model.specs.Faults.{IsFault, max_nesting};
 ghost use Rattle.json_model.specs.Fits.{Fits};
@@ -316,16 +317,15 @@ fn build_event(alloc: Global, setting: &Setting<'_>, json: &Json) -> Result<RawE
 /// What the line of a batch holds, built in one pass: a time and writes, in the form of `plain_writes`. Then the line has no
 /// fault. Else none, which says nothing of the line.
 #[tactic(auto, using(crate::proofs::OnePass::line_spelled))]
-fn build_at_once(
+fn plain_line(
     alloc: Global,
     setting: &Setting<'_>,
     json: &Json,
 ) -> Result<Option<RawEvent>, NoMemory>
-    ensures fits { IfOk result (λ found. IfSome found (λ _.
-        Fits setting.now max_nesting (places.Object objects.Line) (view json.now))) }
-    ensures event { IfOk result (λ found. IfSome found (λ event.
-        Spells setting.now.root (view json.now) event)) }
-    ensures storable { IfOk result (λ found. IfSome found HoldsStorable) }
+    ensures fits { IfBuilt result (λ _.
+        Fits setting.now max_nesting (places.Object objects.Line) (view json.now)) }
+    ensures event { IfBuilt result (λ event. Spells setting.now.root (view json.now) event) }
+    ensures storable { IfBuilt result HoldsStorable }
 {
     let Some(line) = only_under(json, "write") else {
         return Ok(None);
@@ -361,7 +361,7 @@ pub(crate) fn read_tree(alloc: Global, root: &Database, json: &Json) -> Result<R
         side: Side::Caller,
         root,
     };
-    if let Some(event) = build_at_once(alloc, &setting, json)? {
+    if let Some(event) = plain_line(alloc, &setting, json)? {
         return Ok(event);
     }
     let place = Place::Object(Object::Line);

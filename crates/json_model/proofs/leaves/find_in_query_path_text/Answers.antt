@@ -6,7 +6,7 @@ use Rattle.json_model.proofs.Naming.{none}
 use Rattle.json_model.proofs.leaves.find_in_query_path_text.Goals as goal
 
 pub returns : goal.returns
-returns c = found_fault _ _ c.unless_memory.result c.in-Err.ensures.fault c.unless_memory.ensures
+returns c = found_fault _ _ c.told.result c.in-Err.ensures.fault c.told.ensures
 
 pub returns-in-Ok : goal.returns-in-Ok
 returns-in-Ok c = none (QueryPathFaults c.args.text.now) (few (not_many _ _ c.in-Ok.ensures.path.spelled c.in-Ok.ensures.path.few) (inl ((c.in-Ok.field-0, c.in-Ok.ensures.path), refl)))

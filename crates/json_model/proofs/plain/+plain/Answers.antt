@@ -1,4 +1,4 @@
-use Rattle.std.proofs.Common.{rules, ◌≡◌, ◌++◌, ◌∷◌, [], map, ap, sym, subst, ◌∙◌}
+use Rattle.std.proofs.Common.{rules, ◌≡◌, ◌++◌, ◌∷◌, [], map, ap, refl, sym, subst, ◌∙◌}
 use Rattle.std.specs.Map.Iter.{deref_pair}
 use Rattle.std.specs.Str.{IsUtf8}
 use Rattle.std.proofs.lemmas.List.{map-append}
@@ -6,7 +6,7 @@ use Rattle.std.proofs.lemmas.List.Elements.{All-nil}
 use Rattle.std.proofs.lemmas.Map.Iter.{rest_so_far, rest_more, iter_end}
 use Rattle.document_keys.specs.Paths.{IsFieldName}
 use Rattle.serde_json.specs.Data.{members_depth}
-use Rattle.serde_json.specs.View.{view, items_view, members_view}
+use Rattle.serde_json.specs.View.{items_view, members_view}
 use Rattle.json_model.specs.declared.place.Object.TheVariants as object
 use Rattle.json_model.specs.declared.place.Series.TheVariants as series
 use Rattle.json_model.specs.Fits.{ItemsFit, MembersFit}
@@ -39,7 +39,7 @@ plain_values-loop-item-preserved t c = more_plain _ _ _ c.loop-item.item-index c
 pub plain_values-returns-clause-fits : goal.plain_values-returns-clause-fits
 plain_values-returns-clause-fits t c =
     let all = whole_list _ c.loop-item.item-index c.loop-item-test.false c.loop-item.auto.item-index-end ∙ c.deref-item-items.ensures.value in
-    list_fits _ _ _ _ (array_at _ _ c.in-Some.ensures) (subst (λ l. ItemsFit c.args.setting.now c.args.limit series.Values (items_view l)) all c.loop-item.invariant.fit)
+    list_fits _ _ series.Values _ _ refl (array_at _ _ c.in-Some.ensures) (subst (λ l. ItemsFit c.args.setting.now c.args.limit series.Values (items_view l)) all c.loop-item.invariant.fit)
 
 pub plain_values-returns-clause-values : goal.plain_values-returns-clause-values
 plain_values-returns-clause-values t c =
