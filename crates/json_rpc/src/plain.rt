@@ -29,6 +29,9 @@ use serde_json::{Map, Value as Json};
 use std::alloc::Global;
 use value_model::SharedFields;
 
+/// How many writes are built in one pass: as many as a batch may have. Room for them is taken before they are looked at.
+const MOST_WRITES: usize = 500;
+
 /// The key of the document that the tree names.
 fn plain_key(
     alloc: Global,
@@ -142,8 +145,8 @@ fn plain_write(alloc: Global, setting: &Setting<'_>, json: &Json) -> Result<Opti
     Ok(Some(write))
 }
 
-/// The writes that a list spells, where each is an update of a document that has just its name and fields of the form of
-/// `plain_fields`. Then the list has no fault. Else none, which says nothing of the list.
+/// The writes that a list of at most 500 spells, where each is an update of a document that has just its name and fields of the
+/// form of `plain_fields`. Then the list has no fault. Else none, which says nothing of the list.
 ///
 /// # Errors
 /// `NoMemory`
@@ -161,7 +164,10 @@ pub fn plain_writes(
     let Some(items) = json.as_array() else {
         return Ok(None);
     };
-    let mut writes = Vec::new(alloc);
+    if items.len() > MOST_WRITES {
+        return Ok(None);
+    }
+    let mut writes = Vec::with_capacity(alloc, items.len())?;
     for item in items {
         let Some(write) = plain_write(alloc, setting, item)? else {
             return Ok(None);

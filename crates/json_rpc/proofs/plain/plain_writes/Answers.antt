@@ -13,7 +13,7 @@ use Rattle.json_rpc.proofs.OnePass.{none_plain, more_plain}
 use Rattle.json_rpc.proofs.plain.plain_writes.Goals as goal
 
 pub loop-item-init : goal.loop-item-init
-loop-item-init c = none_plain _ _ _ c.new-writes.ensures.items
+loop-item-init c = none_plain _ _ _ c.in_ok-writes.ensures.items
 
 pub loop-item-preserved : goal.loop-item-preserved
 loop-item-preserved c = more_plain _ _ _ c.loop-item.item-index c.item-item.result _ _ c.in-Some-2.write c.loop-item-test.true c.item-item.is c.loop-item.invariant
