@@ -1,5 +1,5 @@
-//! Fields built in one pass, where each value has its kind for its only member, and each array and map what it holds. What is
-//! built has no fault, so that its tree needn't be walked. Of a tree of another form, and of one with faults, nothing is said:
+//! Fields built in one pass, where each value has its kind for its only member, each array its list and each map its fields. What
+//! is built has no fault, so that its tree needn't be walked. Of a tree of another form, and of one with faults, nothing is said:
 //! that is for the walk.
 
 ghost use Rattle.std.specs.Prelude.{◌≡◌, ◌<◌, ◌≤◌, Some, IfSome};
@@ -234,8 +234,8 @@ fn plain_map(
     Ok(Some(Value::map(alloc, fields)?))
 }
 
-/// The fields that the tree spells, in whose values at most so many arrays and maps nest, where each of its values has just its
-/// kind, and each array and map in it just what it holds. Then it has no fault. Else none, which says nothing of the tree.
+/// The fields that the tree spells, in whose values at most so many arrays and maps nest, where each value in it has its kind for
+/// its only member, each array its list and each map its fields. Then it has no fault. Else none, which says nothing of the tree.
 ///
 /// # Errors
 /// `NoMemory`

@@ -1,5 +1,5 @@
-//! Updates whose documents are built in one pass. What is built has no fault, so that only what stands beside the document is
-//! walked; of other trees nothing is said.
+//! Updates whose documents are built in one pass. What is built has no fault, so that only the document's name and what stands
+//! beside it are walked; of other trees nothing is said.
 
 ghost use Rattle.std.specs.Prelude.{◌≡◌, [], ◌∷◌, codes, Some, IfOk, IfSome, IsTrue};
 ghost use Rattle.std.specs.List.{All};
