@@ -14,15 +14,15 @@ ghost use Rattle.json_model.specs.Grammar.{SpellsScalar, SpellsValue, SpellsKind
 ghost use Rattle.json_model.specs.Printed.{printed_fields};
 
 use crate::clean::{check, clean_choice, clean_list, clean_member, clean_object};
-use crate::clean_leaves::clean_name;
 use crate::fault::JsonFault;
 use crate::members::lone_scalar;
+use crate::names::read_key;
 use crate::place::{Leaf, Object, Place, Series};
 use crate::scalars::read_scalar;
 use crate::setting::Setting;
 use crate::side::Side;
 use crate::table::value_member;
-use crate::texts::show_text;
+use crate::texts::{show_key, show_text};
 use document_keys::{Database, DocumentKey, NoMemory, Text};
 use serde_json::{Map, Value as Json};
 use std::alloc::Global;
@@ -225,17 +225,35 @@ pub fn read_fields(
     Ok(fields)
 }
 
+/// The key of the document that the tree names under the root.
+#[tactic(auto, using(crate::proofs::Answered::name_fault, crate::proofs::Answered::no_text_fault))]
+fn named_key(alloc: Global, root: &Database, json: &Json) -> Result<DocumentKey, JsonFault>
+    ensures name { IfOk result (λ key. SpellsName root.now (view json.now) key) }
+    ensures storable { IfOk result IsStorableKey }
+    ensures fault { IfErr result (λ fault. IsFault (NameFaults root.now (view json.now)) fault) }
+{
+    let Some(text) = json.as_str() else {
+        return Err(JsonFault::BadShape(Text::from_str(alloc, "name")?));
+    };
+    let key = match read_key(alloc, root, text) {
+        Ok(key) => key,
+        Err(fault) => return Err(fault),
+    };
+    show_key(&key);
+    Ok(key)
+}
+
 /// The key of the document that the tree names under the root. Both sides write names alike. The tree then has no fault as a
 /// name.
 ///
 /// # Errors
 /// `BadShape` of `name` where the tree is no text, `BadName` as `DocumentKey::read` says: the tree then names no document
 /// under the root. Or `NoMemory`.
-#[tactic(auto, using(crate::proofs::Answered::name_fault, crate::proofs::Fine::leaf_faults))]
+#[tactic(auto, using(crate::proofs::Answered::name_clean, crate::proofs::Answered::names_none))]
 pub fn read_name(
     alloc: Global,
     root: &Database,
-    side: Side,
+    _side: Side,
     json: &Json,
 ) -> Result<DocumentKey, JsonFault>
     ensures name { IfOk result (λ key. SpellsName root.now (view json.now) key) }
@@ -245,10 +263,5 @@ pub fn read_name(
     ensures names_none { IfErr result (λ fault. fault ≢ json_fault.NoMemory
         → (key : List (List ℕ)) → ¬ (SpellsName root.now (view json.now) key)) }
 {
-    let setting = Setting { side, root };
-    if let Err(fault) = check(alloc, &setting, 0, Place::Leaf(Leaf::Name), "name", json) {
-        return Err(fault);
-    }
-    let key = clean_name(alloc, &setting, json)?;
-    Ok(key)
+    named_key(alloc, root, json)
 }

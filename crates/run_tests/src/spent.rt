@@ -31,7 +31,6 @@ fn meets_fault<H: Host>(alloc: Global, host: &mut H, client: &mut Client, event:
     requires stored { IsTrue H.tells_files → IsStored client.old.store (H.view host.old) }
     requires stands { IsStanding client.old }
     requires spelled { IsSpelledEvent event }
-    ensures stored { IsTrue H.tells_files → IsStored client.new.store (H.view host.new) }
     ensures spent { IsTrue result → IsSpent client.new }
 {
     let answer = client.event(alloc, host, event);
@@ -40,8 +39,7 @@ fn meets_fault<H: Host>(alloc: Global, host: &mut H, client: &mut Client, event:
 
 // whether a client that met a fault answers so
 fn is_spent<H: Host>(alloc: Global, host: &mut H, client: &mut Client) -> bool
-    requires stored { IsTrue H.tells_files → IsStored client.old.store (H.view host.old) }
-    requires spent { IsSpent client.old }
+    requires { IsSpent client.old }
 {
     let answer = client.event(alloc, host, Event::Timer);
     if !matches!(answer, Err(ClientFault::Spent)) {

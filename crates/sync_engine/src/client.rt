@@ -113,7 +113,8 @@ impl Client {
         host: &mut H,
         event: Event,
     ) -> Result<Outcome, ClientFault>
-        requires stored { IsTrue H.tells_files → IsStored self.old.store (H.view host.old) }
+        requires stored { IsTrue H.tells_files → ¬ (IsSpent self.old)
+            → IsStored self.old.store (H.view host.old) }
         requires stands { ¬ (IsSpent self.old) → IsStanding self.old }
         requires spelled { IsSpelledEvent event }
         ensures turn { IfOk result (λ outcome. (s : State) (past : Past) → StandsFor self.old s past
@@ -124,7 +125,8 @@ impl Client {
         ensures untouched { IsErrOf result ClientFault.Spent → host.new ≡ host.old }
         ensures unchanged { IsErrOf result ClientFault.Spent → self.new ≡ self.old }
         ensures root { self.new.root ≡ self.old.root }
-        ensures stored { IsTrue H.tells_files → IsStored self.new.store (H.view host.new) }
+        ensures stored { IsTrue H.tells_files → ¬ (IsSpent self.old)
+            → IsStored self.new.store (H.view host.new) }
         ensures files { IsTrue H.tells_files → ¬ (IsSpent self.old)
             → (s : State) (past : Past) → StandsFor self.old s past
             → MovesBy s past event (H.view host.old) (H.view host.new) }

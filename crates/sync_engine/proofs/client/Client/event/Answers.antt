@@ -7,7 +7,7 @@ use Rattle.sync_engine.proofs.Handing.{hands_still, stands_still}
 use Rattle.sync_engine.proofs.client.Client.event.Goals as goal
 
 pub turn-requires-clause-stored : goal.turn-requires-clause-stored
-turn-requires-clause-stored g c = λ told. subst (λ (k : Kept). IsStored k.store (g.H.Host.view c.args.host.now)) (sym c.self.view_is) (c.requires.stored told)
+turn-requires-clause-stored g c = λ told. subst (λ (k : Kept). IsStored k.store (g.H.Host.view c.args.host.now)) (sym c.self.view_is) (c.requires.stored told (λ spent. false≢true (sym c.if-self.false ∙ ap (λ (k : Kept). k.spent) c.self.view_is ∙ spent)))
 
 pub returns-clause-turn : goal.returns-clause-turn
 returns-clause-turn g c = λ s past stands.
