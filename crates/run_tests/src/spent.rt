@@ -48,23 +48,13 @@ fn is_spent<H: Host>(alloc: Global, host: &mut H, client: &mut Client) -> bool
     client.snapshot(1).is_none()
 }
 
-// whether another client over the same files makes the commit of a write
-fn commits_beside<H: Host>(alloc: Global, host: &mut H) -> Result<bool, Fail> {
-    let root = Database::read(alloc, "projects/demo/databases/(default)")?;
-    let Ok(mut client) = Client::open(alloc, host, root) else {
-        return Err("the store opens".into());
-    };
-    let event = event_of(alloc, client.root(), WRITE)?;
-    Ok(client.event(alloc, host, event).is_ok())
-}
-
-// whether the disk fails at the commit of a write, and the client is spent then, also where another one has written to its files
+// whether the disk fails at the commit of a write, and the client is spent then
 fn is_spent_behind<H: Host>(alloc: Global, host: &mut H, client: &mut Client) -> Result<bool, Fail>
     requires stored { IsTrue H.tells_files → IsStored client.old.store (H.view host.old) }
     requires stands { IsStanding client.old }
 {
     let event = event_of(alloc, client.root(), WRITE)?;
-    if !meets_fault(alloc, host, client, event) || !commits_beside(alloc, host)? {
+    if !meets_fault(alloc, host, client, event) {
         return Ok(false);
     }
     Ok(is_spent(alloc, host, client))
