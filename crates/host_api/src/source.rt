@@ -3,6 +3,7 @@ ghost use Rattle.host_api.specs.Items.{split, item_of, Next, IsSuffix};
 ghost use Rattle.host_api.specs.Counts.{SourceCounts, CountsAnswered};
 ghost use Rattle.host_api.specs.Reading.{IsLine};
 
+use memchr::memchr;
 use std::alloc::{AllocError, Global};
 
 // the most bytes that a line may have
@@ -15,7 +16,7 @@ pub(crate) fn newline_in(text: &[u8]) -> Option<usize>
     ensures { MatchOption result (IsLine text.now)
         (λ i. (i < length text.now) × IsLine (take i text.now) × (slice_index text.now i ≡ 10)) }
 {
-    text.iter().position(|byte| *byte == b'\n')
+    memchr(b'\n', text)
 }
 
 /// What a call of [`Source::line`] found.
