@@ -56,4 +56,5 @@ pub use scalars::read_time;
 pub use setting::Setting;
 pub use side::Side;
 pub use table::{member_place, value_member};
+pub use texts::{show_key, show_text};
 pub use walk::find_fault;

@@ -6,8 +6,8 @@ ghost use Rattle.value_model.specs.Storable.{IsStorableText, IsStorableSegment, 
 
 use document_keys::{DocumentKey, FieldPath, Segment};
 
-/// A text is UTF-8.
-pub(crate) fn show_text(text: &str)
+/// Shows that a text is UTF-8. Nothing is done.
+pub fn show_text(text: &str)
     ensures { IsStorableText text.now }
 {
     let _count = text.len();
@@ -20,8 +20,8 @@ pub(crate) fn show_segment(segment: &Segment)
     show_text(segment.as_str());
 }
 
-/// The segments of a key are texts.
-pub(crate) fn show_key(key: &DocumentKey)
+/// Shows that the segments of a key are UTF-8. Nothing is done.
+pub fn show_key(key: &DocumentKey)
     ensures { IsStorableKey key.now }
 {
     for i in 0..key.len() {
