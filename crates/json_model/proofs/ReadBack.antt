@@ -83,7 +83,7 @@ printed_some null = refl
 printed_some _ = refl
 
 -- a name that comes after all others goes last
-put_end : (es rest : Entries) (n : List ℕ) (v : Data) → AllPairs TextBefore (keys_of (es ++ (n, v) ∷ rest)) → with_field es n v ≡ es ++ (n, v) ∷ []
+pub put_end : (es rest : Entries) (n : List ℕ) (v : Data) → AllPairs TextBefore (keys_of (es ++ (n, v) ∷ rest)) → with_field es n v ≡ es ++ (n, v) ∷ []
 put_end [] rest n v pairs = refl
 put_end (e ∷ es) rest n v pairs =
     rw (compared_below e.0 n (first es pairs)) (ap (λ l. e ∷ l) (put_end es rest n v (λ i j d less within. pairs (suc i) (suc j) d (omega arith) (omega arith))))
