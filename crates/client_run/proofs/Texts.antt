@@ -1,6 +1,7 @@
 -- what is printed of the lines that were handed out
 use Rattle.std.proofs.Common.{◌≡◌, ℕ, ℤ, ◌+◌, ◌<◌, ◌^◌, suc, zero, List, [], ◌∷◌, ◌++◌, length, take, get_or, Option, Some, None, IfSome, append-nil, refl, sym, ap, subst, ◌∙◌, arith}
 use Rattle.std.specs.List.{AllZip, slice_get}
+use Rattle.std.specs.Prelude.{slice_index}
 use Rattle.std.proofs.Math.Seq.{take-length}
 use Rattle.std.proofs.lemmas.Grind.{flat_map-append}
 use Rattle.std.proofs.lemmas.List.{take_more}
@@ -50,6 +51,14 @@ splits R (a ∷ xs) x [] all = absurd all
 splits R (a ∷ xs) x (l ∷ lines) all =
     let rest = splits R xs x lines all.1 in
     record { front = l ∷ rest.front; last = rest.last; whole = ap (λ (ls : List _). l ∷ ls) rest.whole; first = (all.0, rest.first); one = rest.one }
+
+-- the text of one line is that of them all, where they are one
+pub one_text : (client : Kept) (outs : List Out) (text : List ℕ) → length outs ≡ 1 → ((line : Line) → IsShown client (slice_index outs 0) line → text ≡ line_of (tree_of client.root line)) → (lines : List Line) → AreShown client outs lines → text ≡ text_of client.root lines
+one_text client (out ∷ []) text one is (line ∷ []) all = is line all.0 ∙ sym (append-nil (line_of (tree_of client.root line)))
+one_text client (out ∷ []) text one is [] all = absurd all
+one_text client (out ∷ []) text one is (line ∷ (other ∷ lines)) all = absurd all.1
+one_text client [] text one is lines all = cc
+one_text client (out ∷ (other ∷ outs)) text one is lines all = cc
 
 pub no_text : (client : Kept) (text : List ℕ) (lines : List Line) → text ≡ [] → AreShown client [] lines → text ≡ text_of client.root lines
 no_text client text [] none all = none

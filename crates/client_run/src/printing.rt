@@ -198,6 +198,7 @@ fn print_out(alloc: Global, client: &Client, out: &Out) -> Result<String, NoMemo
 }
 
 /// Lines that were handed out, one after another.
+#[tactic(auto, using(crate::proofs::Texts::one_text))]
 fn print_outs(alloc: Global, client: &Client, outs: &[Out]) -> Result<String, NoMemory>
     requires live { IsLive client.now }
     requires standing { IsStanding client.now }
@@ -205,6 +206,11 @@ fn print_outs(alloc: Global, client: &Client, outs: &[Out]) -> Result<String, No
     ensures { IfOk result (λ text. (lines : List Line) → AreShown client.now outs.now lines
         → string_bytes text ≡ text_of client.now.root lines) }
 {
+    // most events hand out one line, whose text is not copied
+    if outs.len() == 1 {
+        let line = print_out(alloc, client, &outs[0])?;
+        return Ok(line);
+    }
     let mut text = String::new(alloc);
     for out in outs {
         let line = print_out(alloc, client, out)?;

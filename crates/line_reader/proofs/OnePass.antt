@@ -1,24 +1,33 @@
 -- The line of a batch that is built in one pass has no fault, and spells the batch.
-use Rattle.std.proofs.Common.{ℕ, List, [], codes, refl, sym, ap, subst, inr}
-use Rattle.std.specs.Prelude.{Some}
+use Rattle.std.proofs.Common.{◌≡◌, ℕ, List, [], codes, refl, sym, ap, subst, inr}
+use Rattle.std.specs.List.{All}
+use Rattle.std.specs.Prelude.{Some, IsUtf8}
 use Rattle.document_keys.specs.Names.{Root}
+use Rattle.json.specs.Json as text
 use Rattle.serde_json.specs.Data.{Data, no_members, member}
 use Rattle.serde_json.specs.Find.{as_object}
+use Rattle.serde_json.specs.Read.{of_json, read}
 use Rattle.value_model.specs.declared.timestamp.Timestamp.{Timestamp}
 use Rattle.json_model.specs.declared.place.Leaf.TheVariants as leaf
 use Rattle.json_model.specs.declared.place.Object.TheVariants as object
 use Rattle.json_model.specs.declared.place.Place.TheVariants as place
 use Rattle.json_model.specs.declared.place.Series.TheVariants as series
+use Rattle.json_model.specs.Faults.{max_nesting}
 use Rattle.json_model.specs.Fits.{Fits, MembersFit}
 use Rattle.json_model.specs.Forms.{HasOnly, HasBoth, SpellsEach}
 use Rattle.json_model.specs.Grammar.{SpellsTime}
 use Rattle.json_model.specs.Origin.{Origin}
 use Rattle.json_model.specs.Places.{line_rows, write_line_rows}
-use Rattle.json_model.proofs.Fitting.{flat_object_fits}
+use Rattle.json_model.proofs.Fitting.{flat_object_fits, fits_clean}
 use Rattle.json_model.proofs.Sound.{not_out}
 use Rattle.json_rpc.specs.Grammar.{SpellsWrite}
+use Rattle.json_rpc.specs.Storable.{IsStorableWrite}
 use Rattle.mutations.specs.declared.write.Write.{Write}
+use Rattle.plain_json.specs.Trees.{StandsFor, IsPlain}
+use Rattle.line_reader.specs.Faults.{caller}
 use Rattle.line_reader.specs.Grammar.{Spells}
+use Rattle.line_reader.specs.Reading.{IsLineOf}
+use Rattle.line_reader.specs.declared.raw_event.RawEvent.{RawEvent}
 use Rattle.line_reader.specs.declared.raw_event.RawEvent.TheVariants as raw
 
 time_fits : (o : Origin) (limit : ℕ) (d : Data) (time : Timestamp) → SpellsTime d time → Fits o limit (place.Leaf leaf.Time) d
@@ -61,4 +70,31 @@ line_spelled root at writes line d time batch only both spelled each = record {
       };
     },
   );
+}
+
+-- ---- the same of a tree that borrows from the line
+
+pub batch_stands : (o : Origin) (tree line at writes : text.Json) (time : Timestamp) (batch : List Write) → ((d : Data) → of_json line ≡ Some d → StandsFor tree (HasOnly (codes "write") d))
+    → ((d e : Data) → of_json at ≡ Some d → of_json writes ≡ Some e → StandsFor line (HasBoth (codes "at") (codes "writes") d e)) → StandsFor at (λ d. SpellsTime d time)
+    → StandsFor writes (IsPlain o max_nesting (place.Series series.Writes) (λ d. SpellsEach (SpellsWrite o.root) (Some d)) (All IsStorableWrite) batch)
+    → StandsFor tree (λ d. Fits o max_nesting (place.Object object.Line) d × Spells o.root d (raw.Write time batch))
+batch_stands o tree line at writes time batch only both timed listed =
+    let inner = both timed.seen listed.seen timed.is listed.is in
+    let all = only inner.seen inner.is in
+    record {
+      seen = all.seen;
+      is = all.is;
+      holds = (
+        line_fits o max_nesting timed.seen listed.seen inner.seen all.seen time all.holds inner.holds timed.holds listed.holds.fits,
+        line_spelled o.root timed.seen listed.seen inner.seen all.seen time batch all.holds inner.holds timed.holds listed.holds.spelled,
+      );
+    }
+
+pub batch_line : (root : Root) (content : List ℕ) (tree : text.Json) (e : RawEvent) → IsUtf8 content → ((d : Data) → of_json tree ≡ Some d → read content ≡ Some d)
+    → StandsFor tree (λ d. Fits (caller root) max_nesting (place.Object object.Line) d × Spells root d e) → IsLineOf root content e
+batch_line root content tree e utf8 parsed stands = record {
+  tree = stands.seen;
+  json = record { utf8 = utf8; is = parsed stands.seen stands.is };
+  clean = fits_clean (caller root) max_nesting (place.Object object.Line) [] stands.seen stands.holds.0;
+  spells = stands.holds.1;
 }

@@ -30,6 +30,13 @@ pub record IsJson (text : List ℕ) (d : Data) : Type 0 where
   pub utf8 : IsUtf8 text
   pub is : read text ≡ Some d
 
+-- the bytes are JSON without faults, which spells this
+pub record IsLineOf (root : Root) (text : List ℕ) (e : RawEvent) : Type 0 where
+  pub tree : Data
+  pub json : IsJson text tree
+  pub clean : LineFaults root tree []
+  pub spells : Spells root tree e
+
 -- the refusal of a fault; want of memory is none
 abbrev pub refusal_of : JsonFault → Option Refusal
 refusal_of (json_fault.BadShape member) = Some (BadLine member)

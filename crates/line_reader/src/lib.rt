@@ -1,12 +1,14 @@
 //! What the lines of a source ask of a client.
 //!
 //! `read_item` takes an item of a source to its `Reading`: the `Event` that it is, or the `Refusal` of one that is none. The
-//! line is read as JSON (`line.rt`). Its tree is taken apart by the tables of `json_model` into a `RawEvent`, most batches in one
-//! pass, or answered by its first fault (`tree.rt`). A message of either stream that has faults is no bad line: it is an event
-//! that tells the member of the first one. What then breaks the rules of batches or of queries is refused last (`raw_event.rt`).
-//! Which reading an item has stands in `specs/Reading.antt`, and `one_reading` says that it has just one.
+//! line is read as JSON (`line.rt`): that of a plain batch into a tree that borrows from it (`batch.rt`), any other into one of its
+//! own. This is taken apart by the tables of `json_model` into a `RawEvent`, or answered by its first fault (`tree.rt`). A message
+//! of either stream that has faults is no bad line: it is an event that tells the member of the first one. What then breaks the
+//! rules of batches or of queries is refused last (`raw_event.rt`). Which reading an item has stands in `specs/Reading.antt`, and
+//! `one_reading` says that it has just one.
 #![tactic(auto)]
 
+mod batch;
 mod laws;
 mod line;
 mod raw_event;

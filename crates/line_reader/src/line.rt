@@ -4,6 +4,7 @@ ghost use Rattle.serde_json.specs.View.{view};
 ghost use Rattle.line_reader.specs.Reading.{IsJson, Reads};
 ghost use Rattle.line_reader.specs.Spelled.{IsSpelledReading};
 
+use crate::batch::read_batch_line;
 use crate::reading::Reading;
 use crate::refusal::{Refusal, refusal_of};
 use crate::tree::read_tree;
@@ -29,6 +30,9 @@ fn read_line(alloc: Global, root: &Database, text: &[u8]) -> Result<Reading, NoM
     ensures is { IfOk result (λ reading. Reads root.now (Bytes text.now) reading) }
     ensures spelled { IfOk result IsSpelledReading }
 {
+    if let Some(batch) = read_batch_line(alloc, root, text)? {
+        return batch.read(alloc);
+    }
     let json = match Json::from_slice(alloc, text) {
         Ok(json) => json,
         Err(error) => {

@@ -1,0 +1,92 @@
+//! The line of a batch in the plain form, built in one pass of a tree that borrows from the line.
+
+ghost use Rattle.std.specs.Prelude.{IfSome};
+ghost use Rattle.json.specs.Value.{value_view};
+ghost use Rattle.value_model.specs.Time.{IsMoment};
+ghost use Rattle.json_model.specs.declared.place.Object.TheVariants as objects;
+ghost use Rattle.json_model.specs.declared.place.Place.TheVariants as places;
+ghost use Rattle.json_model.specs.Built.{IfBuilt};
+ghost use Rattle.json_model.specs.Faults.{max_nesting};
+ghost use Rattle.json_model.specs.Fits.{Fits};
+ghost use Rattle.json_model.specs.Grammar.{SpellsTime};
+ghost use Rattle.plain_json.specs.Trees.{StandsFor};
+ghost use Rattle.line_reader.specs.Grammar.{Spells};
+ghost use Rattle.line_reader.specs.Reading.{IsLineOf};
+ghost use Rattle.line_reader.specs.Spelled.{HoldsStorable};
+
+use crate::raw_event::RawEvent;
+use document_keys::{Database, NoMemory};
+use json::{Scratch, Value as Tree};
+use json_model::{Setting, Side};
+use mutations::Writes;
+use plain_json::{both_under, only_under, parse, plain_writes};
+use std::alloc::Global;
+use std::str;
+use value_model::Timestamp;
+
+/// The time that the tree spells.
+fn plain_time(tree: &Tree<'_>) -> Option<Timestamp>
+    ensures is { IfSome result (λ at. StandsFor (value_view tree.now) (λ d. SpellsTime d at)) }
+    ensures moment { IfSome result IsMoment }
+{
+    let text = tree.as_str()?;
+    Timestamp::read(text)
+}
+
+/// The batch that the tree of a line spells, with its time.
+#[tactic(auto, using(crate::proofs::OnePass::batch_stands))]
+fn plain_batch(
+    alloc: Global,
+    setting: &Setting<'_>,
+    tree: &Tree<'_>,
+) -> Result<Option<RawEvent>, NoMemory>
+    ensures is { IfBuilt result (λ event. StandsFor (value_view tree.now)
+        (λ d. Fits setting.now max_nesting (places.Object objects.Line) d
+        × Spells setting.now.root d event)) }
+    ensures storable { IfBuilt result HoldsStorable }
+{
+    let Some(line) = only_under(tree, "write") else {
+        return Ok(None);
+    };
+    let Some((at, writes)) = both_under(line, "at", "writes") else {
+        return Ok(None);
+    };
+    let Some(at) = plain_time(at) else {
+        return Ok(None);
+    };
+    let Some(writes) = plain_writes(alloc, setting, writes)? else {
+        return Ok(None);
+    };
+    Ok(Some(RawEvent::Write {
+        at,
+        writes: Writes::from_vec(writes),
+    }))
+}
+
+/// What a line spells that begins as that of a batch does, where the batch is of the form of `plain_writes`. Then the line has no
+/// fault. Else none, which says nothing of the line.
+#[tactic(auto, using(crate::proofs::OnePass::batch_line))]
+pub(crate) fn read_batch_line(
+    alloc: Global,
+    root: &Database,
+    text: &[u8],
+) -> Result<Option<RawEvent>, NoMemory>
+    ensures is { IfBuilt result (IsLineOf root.now text.now) }
+    ensures storable { IfBuilt result HoldsStorable }
+{
+    let Ok(text) = str::from_utf8(text) else {
+        return Ok(None);
+    };
+    if !text.starts_with("{\"write\"") {
+        return Ok(None);
+    }
+    let setting = Setting {
+        side: Side::Caller,
+        root,
+    };
+    let mut scratch = Scratch::new(alloc);
+    let Some(tree) = parse(alloc, text, &mut scratch)? else {
+        return Ok(None);
+    };
+    plain_batch(alloc, &setting, &tree)
+}

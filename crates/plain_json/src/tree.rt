@@ -1,0 +1,152 @@
+//! Trees that borrow from their text, and a look into them.
+
+ghost use Rattle.std.specs.Prelude.{◌≡◌, ◌<◌, Some, IfSome, length};
+ghost use Rattle.std.specs.Cmp.Lexicographic.{slice_cmp};
+ghost use Rattle.std.specs.Ordering.{nat_cmp};
+ghost use Rattle.std.specs.declared.cmp.Ordering.TheVariants.{Less};
+ghost use Rattle.json.specs.Json.{object, member, no_members};
+ghost use Rattle.json.specs.Tree.{json_tokens};
+ghost use Rattle.json.specs.Value.{value_view};
+ghost use Rattle.serde_json.specs.Data.{Data};
+ghost use Rattle.serde_json.specs.Read.{of_json, read};
+ghost use Rattle.json_model.specs.Built.{IfBuilt};
+ghost use Rattle.json_model.specs.Forms.{HasOnly, HasBoth};
+ghost use Rattle.plain_json.specs.Trees.{StandsFor};
+
+use document_keys::NoMemory;
+use json::{Error, Reader, Scratch, Value as Tree};
+use std::alloc::Global;
+
+/// How many arrays and objects may nest in a text, as in a line that is read into a tree of its own.
+const MAX_DEPTH: usize = 127;
+
+/// The tree of a text, where that is JSON in which at most 127 arrays and objects nest. Of none nothing is said.
+///
+/// # Errors
+/// `NoMemory`
+#[tactic(auto, using(crate::proofs::Parsed::whole))]
+pub fn parse<'a>(
+    alloc: Global,
+    text: &'a str,
+    scratch: &'a mut Scratch,
+) -> Result<Option<Tree<'a>>, NoMemory>
+    ensures { IfBuilt result (λ tree. (d : Data) → of_json (value_view tree) ≡ Some d
+        → read text.now ≡ Some d) }
+{
+    let mut reader = Reader::new(text, scratch)?;
+    match Tree::read(alloc, &mut reader, MAX_DEPTH) {
+        Ok(tree) => {
+            if reader.next().is_some() {
+                return Ok(None);
+            }
+            Ok(Some(tree))
+        }
+        Err(Error::OutOfMemory) => Err(NoMemory),
+        Err(_) => Ok(None),
+    }
+}
+
+/// A member of an object.
+#[derive(Clone, Copy)]
+pub(crate) struct Member<'t, 'a> {
+    pub(crate) name: &'t str,
+    pub(crate) tree: &'t Tree<'a>,
+}
+
+/// The only member of an object of one.
+pub(crate) fn only_member<'t, 'a>(tree: &'t Tree<'a>) -> Option<Member<'t, 'a>>
+    ensures is { IfSome result (λ only. value_view tree.now
+        ≡ object (member only.name.now (value_view only.tree.now) no_members)) }
+    ensures smaller { IfSome result (λ only. length (json_tokens (value_view only.tree.now))
+        < length (json_tokens (value_view tree.now))) }
+{
+    let Tree::Object(members) = tree else {
+        return None;
+    };
+    if members.len() != 1 {
+        return None;
+    }
+    let only = &members[0];
+    Some(Member {
+        name: only.0,
+        tree: &only.1,
+    })
+}
+
+/// The two members of an object of two, as they stand in the text.
+fn both_members<'t, 'a>(tree: &'t Tree<'a>) -> Option<(Member<'t, 'a>, Member<'t, 'a>)>
+    ensures { IfSome result (λ both. value_view tree.now ≡ object
+        (member both.0.name.now (value_view both.0.tree.now)
+        (member both.1.name.now (value_view both.1.tree.now) no_members))) }
+{
+    let Tree::Object(members) = tree else {
+        return None;
+    };
+    if members.len() != 2 {
+        return None;
+    }
+    let first = &members[0];
+    let second = &members[1];
+    let first = Member {
+        name: first.0,
+        tree: &first.1,
+    };
+    let second = Member {
+        name: second.0,
+        tree: &second.1,
+    };
+    Some((first, second))
+}
+
+/// What stands under the name in an object of just that member, which isn't left out. Of none nothing is said.
+#[tactic(auto, using(crate::proofs::Members::only))]
+pub fn only_under<'t, 'a>(tree: &'t Tree<'a>, name: &str) -> Option<&'t Tree<'a>>
+    ensures is { IfSome result (λ inner. (d : Data) → of_json (value_view inner.now) ≡ Some d
+        → StandsFor (value_view tree.now) (HasOnly name.now d)) }
+    ensures smaller { IfSome result (λ inner. length (json_tokens (value_view inner.now))
+        < length (json_tokens (value_view tree.now))) }
+{
+    let only = only_member(tree)?;
+    if only.name != name {
+        return None;
+    }
+    if only.tree.is_null() {
+        return None;
+    }
+    Some(only.tree)
+}
+
+/// What stands under the two names, in whichever order, in an object of just these members, neither of which is left out. Of none
+/// nothing is said.
+#[tactic(auto, using(crate::proofs::Members::both))]
+pub fn both_under<'t, 'a>(
+    tree: &'t Tree<'a>,
+    first: &str,
+    second: &str,
+) -> Option<(&'t Tree<'a>, &'t Tree<'a>)>
+    requires { slice_cmp nat_cmp first.now second.now ≡ Less }
+    ensures { IfSome result (λ both. (d e : Data) → of_json (value_view both.0.now) ≡ Some d
+        → of_json (value_view both.1.now) ≡ Some e
+        → StandsFor (value_view tree.now) (HasBoth first.now second.now d e)) }
+{
+    let (one, other) = both_members(tree)?;
+    if one.tree.is_null() {
+        return None;
+    }
+    if other.tree.is_null() {
+        return None;
+    }
+    if one.name == first {
+        if other.name == second {
+            return Some((one.tree, other.tree));
+        }
+        return None;
+    }
+    if one.name != second {
+        return None;
+    }
+    if other.name != first {
+        return None;
+    }
+    Some((other.tree, one.tree))
+}
