@@ -46,6 +46,7 @@ pub use laws::{
     printed_fields_read_back, read_ascends,
 };
 pub use members::{given, only_choice, refined};
+pub use names::read_reference;
 pub use numbers::{read_integer, read_whole};
 pub use objects::{put_given, put_member, text_tree, unless_empty};
 pub use place::{Constants, Leaf, Object, Place, Series};

@@ -1,5 +1,5 @@
 -- Fields that are put one after another, in whichever order their names stand in the text.
-use Rattle.std.proofs.Common.{◌≡◌, ℕ, ◌+◌, ◌-◌, ◌<◌, ◌≤◌, List, [], ◌∷◌, ◌++◌, length, take, get_or, Option, Some, codes, false, Ordering, Less, Equal, Greater, Bor, refl, sym, ap, subst, inl, inr, ◌∙◌, append-nil, append_assoc, arith}
+use Rattle.std.proofs.Common.{◌≡◌, ℕ, suc, ◌+◌, ◌-◌, ◌*◌, ◌<◌, ◌≤◌, List, [], ◌∷◌, ◌++◌, length, take, get_or, Option, Some, codes, false, Ordering, Less, Equal, Greater, Bor, refl, sym, ap, subst, inl, inr, ◌∙◌, append-nil, append_assoc, arith}
 use Rattle.std.proofs.lemmas.List.{take_more}
 use Rattle.std.proofs.Math.Seq.{take-length}
 use Rattle.std.specs.Cmp.Lexicographic.{slice_cmp}
@@ -10,8 +10,10 @@ use Rattle.document_keys.proofs.Order.{texts_compute}
 use Rattle.document_keys.specs.Order.{TextBefore}
 use Rattle.document_keys.specs.Paths.{IsFieldName}
 use Rattle.json.specs.Json as text
+use Rattle.json.specs.Tree.{json_tokens, members_tokens}
 use Rattle.json.specs.Value.{value_view, members_view}
 use Rattle.json.specs.declared.value.Value.{Value}
+use Rattle.json.proofs.Trees.{member_smaller}
 use Rattle.serde_json.specs.Data as json
 use Rattle.serde_json.specs.Read.{of_json, of_members}
 use Rattle.value_model.specs.Data.{Data, Entries, map_of}
@@ -90,8 +92,8 @@ pub record FieldsSoFar {A : Type 0} (o : Origin) (limit : ℕ) (trees : List (Me
   pub fit : MembersFit o limit object.Fields [] seen
   pub listed : AreListed seen fields
 
-pub no_fields : {A : Type 0} (o : Origin) (limit : ℕ) (fields : Entries) → fields ≡ [] → FieldsSoFar {A} o limit [] fields
-no_fields {A} o limit fields none = subst (FieldsSoFar {A} o limit []) (sym none) (record { seen = json.no_members; is = refl; fit = no_member_fits o limit; listed = tt })
+pub no_fields : {A : Type 0} (o : Origin) (limit : ℕ) (fields : Entries) → fields ≡ [] → FieldsSoFar {A = A} o limit [] fields
+no_fields {A} o limit fields none = subst (FieldsSoFar {A = A} o limit []) (sym none) (record { seen = json.no_members; is = refl; fit = no_member_fits o limit; listed = tt })
 
 pub more_fields : {A : Type 0} (o : Origin) (limit : ℕ) (trees : List (Member A)) (i : ℕ) (one : Member A) (old new : Entries) (v : Data) → i < length trees → one ≡ get_or trees i one → FieldsSoFar o limit (take i trees) old → IsFieldName one.0.now
     → StandsFor (value_view one.1) (IsPlain o limit (place.Object object.Value) SpellsValue IsStorable v) → new ≡ with_field old one.0.now v → FieldsSoFar o limit (take (i + 1) trees) new
@@ -120,6 +122,14 @@ all_fields {A} o limit tree all trees i fields is same below above so_far stored
       is = rw (is, done.is) refl;
       holds = record { fits = fits; spelled = spells; stored = record { storable = stored; deep = fields_within o limit (json.object done.seen) fields fits spells } };
     }
+
+-- the value of a member has so many fewer tokens than the object that three steps to it fall
+pub within : {A : Type 0} (tree : text.Json) (all trees : List (Member A)) (i : ℕ) (one : Member A) → tree ≡ text.object (members_view all) → trees ≡ all → i < length trees → one ≡ get_or trees i one
+    → 4 * length (json_tokens (value_view one.1)) + 3 < 4 * length (json_tokens tree)
+within {A} tree all trees i one is same below one_is =
+    let small : length (json_tokens (value_view one.1)) < length (members_tokens (members_view trees)) = subst (λ (m : Member A). length (json_tokens (value_view m.1)) < length (members_tokens (members_view trees))) (sym one_is) (member_smaller trees i one below) in
+    let size : length (json_tokens tree) ≡ suc (length (members_tokens (members_view trees))) = ap (λ t. length (json_tokens t)) (is ∙ ap (λ ms. text.object (members_view ms)) (sym same)) in
+    omega arith
 
 pub map : (o : Origin) (limit : ℕ) (tree fields : text.Json) (es : Entries) (v : Data) → ((d : json.Data) → of_json fields ≡ Some d → StandsFor tree (HasOnly (codes "fields") d)) → 0 < limit
     → StandsFor fields (IsPlain o (limit - 1) (place.Object object.Fields) SpellsFields (AreStoredFields (limit - 1)) es) → v ≡ map_of es

@@ -1,6 +1,6 @@
 pub mod Parsed
 pub mod Members
-pub mod Scalars
+pub mod Single
 pub mod Lists
 pub mod Fields
-pub mod Writes
+pub mod Updates

@@ -1,12 +1,14 @@
 -- Lists that are built item by item, and the arrays that hold them.
-use Rattle.std.proofs.Common.{◌≡◌, ℕ, ◌+◌, ◌-◌, ◌<◌, ◌≤◌, ◌^◌, Vec, Global, option_map, List, [], ◌∷◌, ◌++◌, length, take, get_or, Option, Some, codes, false, refl, sym, ap, subst, ◌∙◌, arith}
+use Rattle.std.proofs.Common.{◌≡◌, ℕ, suc, ◌+◌, ◌-◌, ◌*◌, ◌<◌, ◌≤◌, ◌^◌, Vec, Global, option_map, List, [], ◌∷◌, ◌++◌, length, take, get_or, Option, Some, codes, false, refl, sym, ap, subst, ◌∙◌, arith}
 use Rattle.std.proofs.lemmas.List.{take_more}
 use Rattle.std.proofs.Math.Seq.{take-length}
 use Rattle.std.proofs.lemmas.List.Elements.{All-nil, All-cons, All-append}
 use Rattle.std.specs.List.{All}
 use Rattle.json.specs.Json as text
+use Rattle.json.specs.Tree.{json_tokens, items_tokens}
 use Rattle.json.specs.Value.{value_view, items_view}
 use Rattle.json.specs.declared.value.Value.{Value}
+use Rattle.json.proofs.Trees.{item_smaller}
 use Rattle.serde_json.specs.Data as json
 use Rattle.serde_json.specs.Read.{of_json, of_items}
 use Rattle.value_model.specs.Data.{Data, items_of, array_of}
@@ -92,9 +94,9 @@ listed o limit kind Listed Stored Spells enough spell tree trees xs is all = rec
 abbrev pub ValuesSoFar : {A : Type 0} → Origin → ℕ → List (Value A) → List Data → Type 0
 ValuesSoFar o limit trees vs = SoFar o limit series.Values SpellsItems (λ those. AreStorableItems (items_of those)) trees vs
 
-pub no_values : {A : Type 0} (o : Origin) (limit : ℕ) (vs : List Data) → vs ≡ [] → ValuesSoFar {A} o limit [] vs
+pub no_values : {A : Type 0} (o : Origin) (limit : ℕ) (vs : List Data) → vs ≡ [] → ValuesSoFar {A = A} o limit [] vs
 unfolding Fits
-no_values {A} o limit vs none = subst (ValuesSoFar {A} o limit []) (sym none) (record { seen = json.no_items; is = refl; fit = tt; listed = no_item; stored = tt })
+no_values {A} o limit vs none = subst (ValuesSoFar {A = A} o limit []) (sym none) (record { seen = json.no_items; is = refl; fit = tt; listed = no_item; stored = tt })
 
 pub more_values : {A : Type 0} (o : Origin) (limit : ℕ) (trees : List (Value A)) (i : ℕ) (one : Value A) (old new : List Data) (v : Data) → i < length trees → one ≡ get_or trees i one → ValuesSoFar o limit (take i trees) old
     → StandsFor (value_view one) (IsPlain o limit (place.Object object.Value) SpellsValue IsStorable v) → new ≡ old ++ v ∷ [] → ValuesSoFar o limit (take (i + 1) trees) new
@@ -105,6 +107,14 @@ pub all_values : {A : Type 0} (o : Origin) (limit : ℕ) (tree : text.Json) (all
 all_values {A} o limit tree all trees i vs is same below above so_far =
     listed o limit series.Values SpellsItems (λ those. AreStorableItems (items_of those)) (λ d. SpellsList (Some d)) (λ ds. refl) (λ ds those spelled. a_list ds (json.array ds) refl spelled) tree all vs is
     (subst (λ (ts : List (Value A)). ValuesSoFar o limit ts vs) (whole trees i below above ∙ same) so_far)
+
+-- an item of a list has so many fewer tokens that three steps to it fall
+pub within : {A : Type 0} (tree : text.Json) (all trees : List (Value A)) (i : ℕ) (one : Value A) → tree ≡ text.array (items_view all) → trees ≡ all → i < length trees → one ≡ get_or trees i one
+    → 4 * length (json_tokens (value_view one)) + 3 < 4 * length (json_tokens tree)
+within {A} tree all trees i one is same below one_is =
+    let small : length (json_tokens (value_view one)) < length (items_tokens (items_view trees)) = subst (λ (v : Value A). length (json_tokens (value_view v)) < length (items_tokens (items_view trees))) (sym one_is) (item_smaller trees i one below) in
+    let size : length (json_tokens tree) ≡ suc (length (items_tokens (items_view trees))) = ap (λ t. length (json_tokens t)) (is ∙ ap (λ vs. text.array (items_view vs)) (sym same)) in
+    omega arith
 
 pub array : (o : Origin) (limit : ℕ) (tree list : text.Json) (vs : Vec Data Global) (v : Data) → ((d : json.Data) → of_json list ≡ Some d → StandsFor tree (HasOnly (codes "values") d)) → 0 < limit
     → StandsFor list (IsPlain o (limit - 1) (place.Series series.Values) (λ d. SpellsList (Some d)) (λ those. AreStorableItems (items_of those)) vs.items) → v ≡ array_of vs.items → length vs.items < 2 ^ 64

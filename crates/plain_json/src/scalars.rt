@@ -83,8 +83,44 @@ fn text_scalar(alloc: Global, leaf: Leaf, text: &str) -> Result<Option<Value>, N
     }
 }
 
+fn null_value(tree: &Tree<'_>) -> Option<Value>
+    ensures { IfSome result (λ v.
+        StandsFor (value_view tree.now) (λ d. IsReadScalar leaves.Null d v)) }
+{
+    let Tree::Null = tree else {
+        return None;
+    };
+    Some(Value { kind: Kind::Null })
+}
+
+fn boolean_value(tree: &Tree<'_>) -> Option<Value>
+    ensures { IfSome result (λ v.
+        StandsFor (value_view tree.now) (λ d. IsReadScalar leaves.Boolean d v)) }
+{
+    let Tree::Bool(is) = tree else {
+        return None;
+    };
+    Some(Value {
+        kind: Kind::Boolean(*is),
+    })
+}
+
+/// The scalar of that kind that a text in the tree spells.
+#[tactic(auto, using(crate::proofs::Single::text_stands))]
+fn value_in_text(
+    alloc: Global,
+    leaf: Leaf,
+    tree: &Tree<'_>,
+) -> Result<Option<Value>, NoMemory>
+    ensures { IfBuilt result (λ v. StandsFor (value_view tree.now) (λ d. IsReadScalar leaf d v)) }
+{
+    let Tree::String(text) = tree else {
+        return Ok(None);
+    };
+    text_scalar(alloc, leaf, text)
+}
+
 /// The scalar of that kind that a tree of no members and items spells; a number is none.
-#[tactic(auto, using(crate::proofs::Scalars::null_stands, crate::proofs::Scalars::boolean_stands, crate::proofs::Scalars::text_stands))]
 pub(crate) fn plain_scalar(
     alloc: Global,
     leaf: Leaf,
@@ -92,12 +128,9 @@ pub(crate) fn plain_scalar(
 ) -> Result<Option<Value>, NoMemory>
     ensures { IfBuilt result (λ v. StandsFor (value_view tree.now) (λ d. IsReadScalar leaf d v)) }
 {
-    match (leaf, tree) {
-        (Leaf::Null, Tree::Null) => Ok(Some(Value { kind: Kind::Null })),
-        (Leaf::Boolean, Tree::Bool(is)) => Ok(Some(Value {
-            kind: Kind::Boolean(*is),
-        })),
-        (leaf, Tree::String(text)) => text_scalar(alloc, leaf, text),
-        _ => Ok(None),
+    match leaf {
+        Leaf::Null => Ok(null_value(tree)),
+        Leaf::Boolean => Ok(boolean_value(tree)),
+        leaf => value_in_text(alloc, leaf, tree),
     }
 }

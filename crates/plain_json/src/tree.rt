@@ -118,7 +118,7 @@ pub fn only_under<'t, 'a>(tree: &'t Tree<'a>, name: &str) -> Option<&'t Tree<'a>
 
 /// What stands under the two names, in whichever order, in an object of just these members, neither of which is left out. Of none
 /// nothing is said.
-#[tactic(auto, using(crate::proofs::Members::both))]
+#[tactic(auto, using(crate::proofs::Members::in_order, crate::proofs::Members::turned))]
 pub fn both_under<'t, 'a>(
     tree: &'t Tree<'a>,
     first: &str,

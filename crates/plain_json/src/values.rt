@@ -21,7 +21,7 @@ use std::alloc::Global;
 use value_model::{Fields, Value};
 
 /// The value that a tree of one member spells.
-#[tactic(auto, using(crate::proofs::Scalars::value))]
+#[tactic(auto, using(crate::proofs::Single::value))]
 #[cycle(plain)]
 fn plain_value(
     alloc: Global,
@@ -43,7 +43,7 @@ fn plain_value(
 }
 
 /// The value that stands under the name of its kind.
-#[tactic(auto, using(crate::proofs::Scalars::scalar_built))]
+#[tactic(auto, using(crate::proofs::Single::scalar_built))]
 #[cycle(plain)]
 fn plain_kind(
     alloc: Global,

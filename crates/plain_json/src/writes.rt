@@ -29,7 +29,7 @@ use value_model::SharedFields;
 const MOST_WRITES: usize = 500;
 
 /// The key of the document that the tree names.
-#[tactic(auto, using(crate::proofs::Writes::named))]
+#[tactic(auto, using(crate::proofs::Updates::named))]
 fn plain_key(
     alloc: Global,
     setting: &Setting<'_>,
@@ -60,7 +60,7 @@ pub(crate) struct Updated {
 }
 
 /// The document that an update holds, with just its name and fields of the plain form.
-#[tactic(auto, using(crate::proofs::Writes::document))]
+#[tactic(auto, using(crate::proofs::Updates::document))]
 fn plain_document(
     alloc: Global,
     setting: &Setting<'_>,
@@ -84,7 +84,7 @@ fn plain_document(
 }
 
 /// The write that an update spells, beside which nothing stands.
-#[tactic(auto, using(crate::proofs::Writes::write))]
+#[tactic(auto, using(crate::proofs::Updates::write))]
 fn plain_write(
     alloc: Global,
     setting: &Setting<'_>,

@@ -3,7 +3,7 @@ use Rattle.std.proofs.Common.{◌≡◌, ℕ, ℤ, List, Bool, false, Option, So
 use Rattle.json.specs.Json as text
 use Rattle.serde_json.specs.Data as json
 use Rattle.serde_json.specs.Read.{of_json}
-use Rattle.value_model.specs.Data.{Data, null, boolean}
+use Rattle.value_model.specs.Data.{Data, null, boolean, integer}
 use Rattle.value_model.specs.Storable.{IsStorable}
 use Rattle.json_model.specs.declared.place.Leaf.{Leaf}
 use Rattle.json_model.specs.declared.place.Leaf.TheVariants as leaf
@@ -13,7 +13,7 @@ use Rattle.json_model.specs.declared.place.Place.TheVariants as place
 use Rattle.json_model.specs.Built.{IfBuilt}
 use Rattle.json_model.specs.Grammar.{SpellsScalar, SpellsValue, SpellsKind, as_scalar, as_array as by_array, as_map as by_map}
 use Rattle.json_model.specs.Members.{is_left_out}
-use Rattle.json_model.specs.Numbers.{SpellsWhole, as_number, as_text}
+use Rattle.json_model.specs.Numbers.{SpellsInteger, SpellsWhole, as_number, as_text}
 use Rattle.json_model.specs.Origin.{Origin}
 use Rattle.json_model.specs.Places.{value_member}
 use Rattle.json_model.specs.Scalars.{IsReadScalar}
@@ -23,7 +23,7 @@ use Rattle.plain_json.specs.Trees.{StandsFor, IsPlain}
 -- ---- what stands under a kind isn't left out
 
 whole_there : (d : json.Data) (z : ℤ) → SpellsWhole d z → is_left_out (place.Leaf leaf.Integer) d ≡ false
-whole_there d z (as_number fits (inl n)) = ap (is_left_out (place.Leaf leaf.Integer)) n.1.0
+whole_there d z (as_number fits (inl n)) = ap (is_left_out (place.Leaf leaf.Integer)) n.1
 whole_there d z (as_number fits (inr is)) = ap (is_left_out (place.Leaf leaf.Integer)) is
 whole_there d z (as_text content is spelled) = ap (is_left_out (place.Leaf leaf.Integer)) is
 
@@ -49,6 +49,9 @@ null_stands tree is = record { seen = json.null; is = ap of_json is; holds = rec
 
 pub boolean_stands : (tree : text.Json) (b : Bool) → tree ≡ text.boolean b → StandsFor tree (λ d. IsReadScalar leaf.Boolean d (boolean b))
 boolean_stands tree b is = record { seen = json.boolean b; is = ap of_json is; holds = record { spelled = (b, (refl, refl)); storable = tt } }
+
+pub integer_read : (content : List ℕ) (z : ℤ) → SpellsInteger content z → IsReadScalar leaf.Integer (json.string content) (integer z)
+integer_read content z spells = record { spelled = (z, (as_text content refl spells, refl)); storable = spells.fits }
 
 pub text_stands : {E : Type 0} (tree : text.Json) (content : List ℕ) (kind : Leaf) (read : Result (Option Data) E) → tree ≡ text.string content → IfBuilt read (IsReadScalar kind (json.string content)) → IfBuilt read (λ v. StandsFor tree (λ d. IsReadScalar kind d v))
 text_stands tree content kind (Ok None) is holds = tt

@@ -84,9 +84,9 @@ write o tree inner updated made only inside is =
 abbrev pub WritesSoFar : {A : Type 0} → Origin → List (Value A) → List Write → Type 0
 WritesSoFar o trees writes = SoFar o max_nesting series.Writes (Each (SpellsWrite o.root)) (All IsStorableWrite) trees writes
 
-pub no_writes : {A : Type 0} (o : Origin) (writes : List Write) → writes ≡ [] → WritesSoFar {A} o [] writes
+pub no_writes : {A : Type 0} (o : Origin) (writes : List Write) → writes ≡ [] → WritesSoFar {A = A} o [] writes
 unfolding Fits
-no_writes {A} o writes none = subst (WritesSoFar {A} o []) (sym none) (record { seen = no_items; is = refl; fit = tt; listed = no_more; stored = All-nil IsStorableWrite })
+no_writes {A} o writes none = subst (WritesSoFar {A = A} o []) (sym none) (record { seen = no_items; is = refl; fit = tt; listed = no_more; stored = All-nil IsStorableWrite })
 
 pub more_writes : {A : Type 0} (o : Origin) (trees : List (Value A)) (i : ℕ) (one : Value A) (old new : List Write) (made : Write) → i < length trees → one ≡ get_or trees i one → WritesSoFar o (take i trees) old
     → StandsFor (value_view one) (IsPlain o max_nesting (place.Object object.Write) (SpellsWrite o.root) IsStorableWrite made) → new ≡ old ++ made ∷ [] → WritesSoFar o (take (i + 1) trees) new
