@@ -1,17 +1,19 @@
 -- The line of a batch that is built in one pass has no fault, and spells the batch.
-use Rattle.std.proofs.Common.{◌≡◌, ℕ, List, [], codes, refl, sym, ap, subst, inr}
+use Rattle.std.proofs.Common.{◌≡◌, ℕ, List, [], Option, None, Result, Ok, Err, codes, refl, sym, ap, subst, inr}
 use Rattle.std.specs.List.{All}
 use Rattle.std.specs.Prelude.{Some, IsUtf8}
 use Rattle.document_keys.specs.Names.{Root}
 use Rattle.json.specs.Json as text
-use Rattle.serde_json.specs.Data.{Data, no_members, member}
+use Rattle.serde_json.specs.Data.{Data, string, no_members, member}
 use Rattle.serde_json.specs.Find.{as_object}
 use Rattle.serde_json.specs.Read.{of_json, read}
+use Rattle.value_model.specs.Time.{time_of}
 use Rattle.value_model.specs.declared.timestamp.Timestamp.{Timestamp}
 use Rattle.json_model.specs.declared.place.Leaf.TheVariants as leaf
 use Rattle.json_model.specs.declared.place.Object.TheVariants as object
 use Rattle.json_model.specs.declared.place.Place.TheVariants as place
 use Rattle.json_model.specs.declared.place.Series.TheVariants as series
+use Rattle.json_model.specs.Built.{IfBuilt}
 use Rattle.json_model.specs.Faults.{max_nesting}
 use Rattle.json_model.specs.Fits.{Fits, MembersFit}
 use Rattle.json_model.specs.Forms.{HasOnly, HasBoth, SpellsEach}
@@ -74,6 +76,9 @@ line_spelled root at writes line d time batch only both spelled each = record {
 
 -- ---- the same of a tree that borrows from the line
 
+pub time_stands : (tree : text.Json) (content : List ℕ) (time : Timestamp) → tree ≡ text.string content → Some time ≡ time_of content → StandsFor tree (λ d. SpellsTime d time)
+time_stands tree content time is spelled = record { seen = string content; is = ap of_json is; holds = (content, (refl, sym spelled)) }
+
 pub batch_stands : (o : Origin) (tree line at writes : text.Json) (time : Timestamp) (batch : List Write) → ((d : Data) → of_json line ≡ Some d → StandsFor tree (HasOnly (codes "write") d))
     → ((d e : Data) → of_json at ≡ Some d → of_json writes ≡ Some e → StandsFor line (HasBoth (codes "at") (codes "writes") d e)) → StandsFor at (λ d. SpellsTime d time)
     → StandsFor writes (IsPlain o max_nesting (place.Series series.Writes) (λ d. SpellsEach (SpellsWrite o.root) (Some d)) (All IsStorableWrite) batch)
@@ -90,11 +95,17 @@ batch_stands o tree line at writes time batch only both timed listed =
       );
     }
 
-pub batch_line : (root : Root) (content : List ℕ) (tree : text.Json) (e : RawEvent) → IsUtf8 content → ((d : Data) → of_json tree ≡ Some d → read content ≡ Some d)
+line_of : (root : Root) (content : List ℕ) (tree : text.Json) (e : RawEvent) → IsUtf8 content → ((d : Data) → of_json tree ≡ Some d → read content ≡ Some d)
     → StandsFor tree (λ d. Fits (caller root) max_nesting (place.Object object.Line) d × Spells root d e) → IsLineOf root content e
-batch_line root content tree e utf8 parsed stands = record {
+line_of root content tree e utf8 parsed stands = record {
   tree = stands.seen;
   json = record { utf8 = utf8; is = parsed stands.seen stands.is };
   clean = fits_clean (caller root) max_nesting (place.Object object.Line) [] stands.seen stands.holds.0;
   spells = stands.holds.1;
 }
+
+pub batch_line : {E : Type 0} (root : Root) (content : List ℕ) (tree : text.Json) (built : Result (Option RawEvent) E) → IsUtf8 content → ((d : Data) → of_json tree ≡ Some d → read content ≡ Some d)
+    → IfBuilt built (λ e. StandsFor tree (λ d. Fits (caller root) max_nesting (place.Object object.Line) d × Spells root d e)) → IfBuilt built (IsLineOf root content)
+batch_line root content tree (Ok None) utf8 parsed holds = tt
+batch_line root content tree (Ok (Some e)) utf8 parsed holds = line_of root content tree e utf8 parsed holds
+batch_line root content tree (Err e) utf8 parsed holds = tt

@@ -29,12 +29,14 @@ fn plain_time(tree: &Tree<'_>) -> Option<Timestamp>
     ensures is { IfSome result (λ at. StandsFor (value_view tree.now) (λ d. SpellsTime d at)) }
     ensures moment { IfSome result IsMoment }
 {
-    let text = tree.as_str()?;
-    Timestamp::read(text)
+    let Tree::String(text) = tree else {
+        return None;
+    };
+    let at = Timestamp::read(text)?;
+    Some(at)
 }
 
 /// The batch that the tree of a line spells, with its time.
-#[tactic(auto, using(crate::proofs::OnePass::batch_stands))]
 fn plain_batch(
     alloc: Global,
     setting: &Setting<'_>,
@@ -65,7 +67,6 @@ fn plain_batch(
 
 /// What a line spells that begins as that of a batch does, where the batch is of the form of `plain_writes`. Then the line has no
 /// fault. Else none, which says nothing of the line.
-#[tactic(auto, using(crate::proofs::OnePass::batch_line))]
 pub(crate) fn read_batch_line(
     alloc: Global,
     root: &Database,
