@@ -107,11 +107,7 @@ fn boolean_value(tree: &Tree<'_>) -> Option<Value>
 
 /// The scalar of that kind that a text in the tree spells.
 #[tactic(auto, using(crate::proofs::Single::text_stands))]
-fn value_in_text(
-    alloc: Global,
-    leaf: Leaf,
-    tree: &Tree<'_>,
-) -> Result<Option<Value>, NoMemory>
+fn value_in_text(alloc: Global, leaf: Leaf, tree: &Tree<'_>) -> Result<Option<Value>, NoMemory>
     ensures { IfBuilt result (λ v. StandsFor (value_view tree.now) (λ d. IsReadScalar leaf d v)) }
 {
     let Tree::String(text) = tree else {

@@ -36,11 +36,11 @@ plain_fields-plain_value-requires t c =
 
 pub plain_fields-loop-member-preserved : goal.plain_fields-loop-member-preserved
 plain_fields-loop-member-preserved t c = (
-    fields.more_fields _ _ _ c.loop-member.member-index c.member-item.result _ _ c.in-Some.value c.loop-member-test.true c.member-item.is c.loop-member.invariant.0 c.in-Ok.ensures.name (rw c.in-Some.is at c.in_ok-value.ensures)
-        (rw c.in_ok-name.ensures at c.in_ok-put.ensures.done),
-    rw (c.in_ok-put.ensures.done, c.in_ok-name.ensures) (keys_put _ _ c.in-Some.value c.loop-member.invariant.1 c.show_text.ensures.utf8),
-    rw (c.in_ok-put.ensures.done, c.in_ok-name.ensures) (members_put _ _ _ c.loop-member.invariant.2 (rw c.in-Some.is at c.in_ok-value.ensures).holds.stored),
-  )
+  fields.more_fields _ _ _ c.loop-member.member-index c.member-item.result _ _ c.in-Some.value c.loop-member-test.true c.member-item.is c.loop-member.invariant.0 c.in-Ok.ensures.name (rw c.in-Some.is at c.in_ok-value.ensures)
+      (rw c.in_ok-name.ensures at c.in_ok-put.ensures.done),
+  rw (c.in_ok-put.ensures.done, c.in_ok-name.ensures) (keys_put _ _ c.in-Some.value c.loop-member.invariant.1 c.show_text.ensures.utf8),
+  rw (c.in_ok-put.ensures.done, c.in_ok-name.ensures) (members_put _ _ _ c.loop-member.invariant.2 (rw c.in-Some.is at c.in_ok-value.ensures).holds.stored),
+)
 
 pub plain_fields-returns : goal.plain_fields-returns
 plain_fields-returns t c =

@@ -1,0 +1,69 @@
+//! Writes that are built in one pass of a tree that borrows from its text, and others that aren't.
+
+use crate::faults::root;
+use document_keys::Database;
+use json::Scratch;
+use json_model::{Setting, Side};
+use mutations::Write;
+use plain_json::{parse, plain_writes};
+use std::alloc::Global;
+use std::process::Abort;
+use std::test::Fail;
+
+// how many writes are built of a text; of none, its tree is of another form
+static LISTS: [(&str, Option<usize>); 9] = [
+    (r#"[]"#, Some(0)),
+    (
+        r#"[{"update":{"name":"projects/demo/databases/(default)/documents/rooms/a","fields":{}}}]"#,
+        Some(1),
+    ),
+    (
+        r#" [ {"update":{"fields":{"b":{"booleanValue":true},"a":{"integerValue":"1"},"b":{"nullValue":null}},"name":"projects/demo/databases/(default)/documents/rooms/a"}}, {"update":{"fields":{"m":{"mapValue":{"fields":{"t":{"timestampValue":"2024-01-01T00:00:00Z"}}}},"l":{"arrayValue":{"values":[{"stringValue":"\u00e9"},{"bytesValue":"AQ=="}]}},"r":{"referenceValue":"projects/p/databases/d/documents/a/b"}},"name":"projects/demo/databases/(default)/documents/rooms/b"}} ] "#,
+        Some(2),
+    ),
+    (
+        r#"[{"update":{"name":"projects/demo/databases/(default)/documents/rooms/a","fields":{"n":{"integerValue":1}}}}]"#,
+        None,
+    ),
+    (
+        r#"[{"update":{"name":"projects/demo/databases/(default)/documents/rooms/a","fields":{"n":{"doubleValue":1.5}}}}]"#,
+        None,
+    ),
+    (
+        r#"[{"update":{"name":"projects/demo/databases/(default)/documents/rooms/a","fields":{}},"updateMask":{"fieldPaths":[]}}]"#,
+        None,
+    ),
+    (
+        r#"[{"delete":"projects/demo/databases/(default)/documents/rooms/a"}]"#,
+        None,
+    ),
+    (r#"[{"update":null}]"#, None),
+    (r#"[] []"#, None),
+];
+
+fn count_built(alloc: Global, root: &Database, text: &str) -> Result<Option<usize>, Fail> {
+    let mut scratch = Scratch::new(alloc);
+    let Some(tree) = parse(alloc, text, &mut scratch)? else {
+        return Ok(None);
+    };
+    let setting = Setting {
+        side: Side::Caller,
+        root,
+    };
+    let writes = plain_writes(alloc, &setting, &tree)?;
+    Ok(writes.map(|writes| writes.len()))
+}
+
+fn check_lists(rt: &(impl Abort + AllocGlobal), root: &Database) -> Result<(), Fail> {
+    for (text, count) in LISTS {
+        let built = count_built(rt.alloc(), root, text)?;
+        assert!(rt; built == count, "{text}");
+    }
+    Ok(())
+}
+
+#[test]
+fn writes_in_one_pass(rt: HostRuntime) -> Result<(), Fail> {
+    let root = root(rt.alloc())?;
+    check_lists(&rt, &root)
+}
