@@ -4,9 +4,10 @@ use Rattle.std.specs.List.{All}
 use Rattle.std.specs.Prelude.{Some, IsUtf8}
 use Rattle.document_keys.specs.Names.{Root}
 use Rattle.json.specs.Json as text
+use Rattle.json.specs.Lex.{tokens}
 use Rattle.serde_json.specs.Data.{Data, string, no_members, member}
 use Rattle.serde_json.specs.Find.{as_object}
-use Rattle.serde_json.specs.Read.{of_json, read}
+use Rattle.serde_json.specs.Read.{of_json}
 use Rattle.value_model.specs.Time.{time_of}
 use Rattle.value_model.specs.declared.timestamp.Timestamp.{Timestamp}
 use Rattle.json_model.specs.declared.place.Leaf.TheVariants as leaf
@@ -25,7 +26,9 @@ use Rattle.json_model.proofs.Sound.{not_out}
 use Rattle.json_rpc.specs.Grammar.{SpellsWrite}
 use Rattle.json_rpc.specs.Storable.{IsStorableWrite}
 use Rattle.mutations.specs.declared.write.Write.{Write}
-use Rattle.plain_json.specs.Trees.{StandsFor, IsPlain}
+use Rattle.plain_json.specs.Trees.{HoldsOnly, HoldsBoth, StandsFor, IsBuiltOf}
+use Rattle.plain_json.proofs.Members.{only, both}
+use Rattle.plain_json.proofs.Parsed.{whole}
 use Rattle.line_reader.specs.Faults.{caller}
 use Rattle.line_reader.specs.Grammar.{Spells}
 use Rattle.line_reader.specs.Reading.{IsLineOf}
@@ -79,13 +82,13 @@ line_spelled root at writes line d time batch only both spelled each = record {
 pub time_stands : (tree : text.Json) (content : List ℕ) (time : Timestamp) → tree ≡ text.string content → Some time ≡ time_of content → StandsFor tree (λ d. SpellsTime d time)
 time_stands tree content time is spelled = record { seen = string content; is = ap of_json is; holds = (content, (refl, sym spelled)) }
 
-pub batch_stands : (o : Origin) (tree line at writes : text.Json) (time : Timestamp) (batch : List Write) → ((d : Data) → of_json line ≡ Some d → StandsFor tree (HasOnly (codes "write") d))
-    → ((d e : Data) → of_json at ≡ Some d → of_json writes ≡ Some e → StandsFor line (HasBoth (codes "at") (codes "writes") d e)) → StandsFor at (λ d. SpellsTime d time)
-    → StandsFor writes (IsPlain o max_nesting (place.Series series.Writes) (λ d. SpellsEach (SpellsWrite o.root) (Some d)) (All IsStorableWrite) batch)
+pub batch_stands : (o : Origin) (tree line at writes : text.Json) (time : Timestamp) (batch : List Write) → HoldsOnly tree (codes "write") line
+    → HoldsBoth line (codes "at") (codes "writes") at writes → StandsFor at (λ d. SpellsTime d time)
+    → StandsFor writes (IsBuiltOf o max_nesting (place.Series series.Writes) (λ d. SpellsEach (SpellsWrite o.root) (Some d)) (All IsStorableWrite) batch)
     → StandsFor tree (λ d. Fits o max_nesting (place.Object object.Line) d × Spells o.root d (raw.Write time batch))
-batch_stands o tree line at writes time batch only both timed listed =
-    let inner = both timed.seen listed.seen timed.is listed.is in
-    let all = only inner.seen inner.is in
+batch_stands o tree line at writes time batch held both_held timed listed =
+    let inner = both line at writes (codes "at") (codes "writes") timed.seen listed.seen refl both_held timed.is listed.is in
+    let all = only tree line (codes "write") inner.seen held inner.is in
     record {
       seen = all.seen;
       is = all.is;
@@ -95,16 +98,16 @@ batch_stands o tree line at writes time batch only both timed listed =
       );
     }
 
-line_of : (root : Root) (content : List ℕ) (tree : text.Json) (e : RawEvent) → IsUtf8 content → ((d : Data) → of_json tree ≡ Some d → read content ≡ Some d)
+line_of : (root : Root) (content : List ℕ) (tree : text.Json) (e : RawEvent) → IsUtf8 content → text.value 127 (tokens content) ≡ Some (tree, [])
     → StandsFor tree (λ d. Fits (caller root) max_nesting (place.Object object.Line) d × Spells root d e) → IsLineOf root content e
 line_of root content tree e utf8 parsed stands = record {
   tree = stands.seen;
-  json = record { utf8 = utf8; is = parsed stands.seen stands.is };
+  json = record { utf8 = utf8; is = whole content tree stands.seen parsed stands.is };
   clean = fits_clean (caller root) max_nesting (place.Object object.Line) [] stands.seen stands.holds.0;
   spells = stands.holds.1;
 }
 
-pub batch_line : {E : Type 0} (root : Root) (content : List ℕ) (tree : text.Json) (built : Result (Option RawEvent) E) → IsUtf8 content → ((d : Data) → of_json tree ≡ Some d → read content ≡ Some d)
+pub batch_line : {E : Type 0} (root : Root) (content : List ℕ) (tree : text.Json) (built : Result (Option RawEvent) E) → IsUtf8 content → text.value 127 (tokens content) ≡ Some (tree, [])
     → IfBuilt built (λ e. StandsFor tree (λ d. Fits (caller root) max_nesting (place.Object object.Line) d × Spells root d e)) → IfBuilt built (IsLineOf root content)
 batch_line root content tree (Ok None) utf8 parsed holds = tt
 batch_line root content tree (Ok (Some e)) utf8 parsed holds = line_of root content tree e utf8 parsed holds

@@ -11,7 +11,7 @@ use std::process::Abort;
 use std::test::Fail;
 
 // how many writes are built of a text; of none, its tree is of another form
-static LISTS: [(&str, Option<usize>); 9] = [
+static LISTS: [(&str, Option<usize>); 11] = [
     (r#"[]"#, Some(0)),
     (
         r#"[{"update":{"name":"projects/demo/databases/(default)/documents/rooms/a","fields":{}}}]"#,
@@ -37,7 +37,12 @@ static LISTS: [(&str, Option<usize>); 9] = [
         r#"[{"delete":"projects/demo/databases/(default)/documents/rooms/a"}]"#,
         None,
     ),
+    (
+        r#"[{"update":{"name":"projects/demo/databases/(default)/documents/rooms","fields":{}}}]"#,
+        None,
+    ),
     (r#"[{"update":null}]"#, None),
+    (r#"[{"update":"#, None),
     (r#"[] []"#, None),
 ];
 

@@ -22,7 +22,6 @@ use Rattle.value_model.specs.Storable.{IsStorable, AreStorable}
 use Rattle.json_model.specs.declared.place.Object.TheVariants as object
 use Rattle.json_model.specs.declared.place.Place.TheVariants as place
 use Rattle.json_model.specs.Fits.{Fits, MembersFit}
-use Rattle.json_model.specs.Forms.{HasOnly}
 use Rattle.json_model.specs.Grammar.{SpellsValue, SpellsKind, SpellsFields, SpellsMembers, no_member, a_member}
 use Rattle.json_model.specs.Members.{is_null}
 use Rattle.json_model.specs.Origin.{Origin}
@@ -31,7 +30,8 @@ use Rattle.json_model.proofs.ReadAscending.{chained}
 use Rattle.json_model.proofs.ReadBack.{put_end}
 use Rattle.json_model.proofs.Sound.{not_out}
 use Rattle.json_model.proofs.Stored.{map_stored}
-use Rattle.plain_json.specs.Trees.{StandsFor, IsPlain, AreStoredFields}
+use Rattle.plain_json.specs.Trees.{HoldsOnly, StandsFor, IsBuiltOf, AreStoredFields}
+use Rattle.plain_json.proofs.Members.{only}
 
 abbrev Member : Type 0 → Type 0
 Member A = Bor (List ℕ) × Value A
@@ -96,7 +96,7 @@ pub no_fields : {A : Type 0} (o : Origin) (limit : ℕ) (fields : Entries) → f
 no_fields {A} o limit fields none = subst (FieldsSoFar {A = A} o limit []) (sym none) (record { seen = json.no_members; is = refl; fit = no_member_fits o limit; listed = tt })
 
 pub more_fields : {A : Type 0} (o : Origin) (limit : ℕ) (trees : List (Member A)) (i : ℕ) (one : Member A) (old new : Entries) (v : Data) → i < length trees → one ≡ get_or trees i one → FieldsSoFar o limit (take i trees) old → IsFieldName one.0.now
-    → StandsFor (value_view one.1) (IsPlain o limit (place.Object object.Value) SpellsValue IsStorable v) → new ≡ with_field old one.0.now v → FieldsSoFar o limit (take (i + 1) trees) new
+    → StandsFor (value_view one.1) (IsBuiltOf o limit (place.Object object.Value) SpellsValue IsStorable v) → new ≡ with_field old one.0.now v → FieldsSoFar o limit (take (i + 1) trees) new
 more_fields {A} o limit trees i one old new v below is so_far named stands put_is =
     let some = value_there stands.seen v stands.holds.spelled in
     let all : FieldsSoFar o limit (take i trees ++ one ∷ []) (with_field old one.0.now v) = record {
@@ -112,7 +112,7 @@ whole : {A : Type 0} (trees : List (Member A)) (i : ℕ) → length trees ≤ i 
 whole trees i below above = let e : i ≡ length trees = omega arith in ap (λ n. take n trees) e ∙ take-length trees
 
 pub all_fields : {A : Type 0} (o : Origin) (limit : ℕ) (tree : text.Json) (all trees : List (Member A)) (i : ℕ) (fields : Entries) → tree ≡ text.object (members_view all) → trees ≡ all → length trees ≤ i → i ≤ length trees
-    → FieldsSoFar o limit (take i trees) fields → AreStorable fields → StandsFor tree (IsPlain o limit (place.Object object.Fields) SpellsFields (AreStoredFields limit) fields)
+    → FieldsSoFar o limit (take i trees) fields → AreStorable fields → StandsFor tree (IsBuiltOf o limit (place.Object object.Fields) SpellsFields (AreStoredFields limit) fields)
 all_fields {A} o limit tree all trees i fields is same below above so_far stored =
     let done : FieldsSoFar o limit all fields = subst (λ (ts : List (Member A)). FieldsSoFar o limit ts fields) (whole trees i below above ∙ same) so_far in
     let fits = fields_fit o limit (json.object done.seen) done.seen refl done.fit in
@@ -131,11 +131,11 @@ within {A} tree all trees i one is same below one_is =
     let size : length (json_tokens tree) ≡ suc (length (members_tokens (members_view trees))) = ap (λ t. length (json_tokens t)) (is ∙ ap (λ ms. text.object (members_view ms)) (sym same)) in
     omega arith
 
-pub map : (o : Origin) (limit : ℕ) (tree fields : text.Json) (es : Entries) (v : Data) → ((d : json.Data) → of_json fields ≡ Some d → StandsFor tree (HasOnly (codes "fields") d)) → 0 < limit
-    → StandsFor fields (IsPlain o (limit - 1) (place.Object object.Fields) SpellsFields (AreStoredFields (limit - 1)) es) → v ≡ map_of es
-    → StandsFor tree (IsPlain o limit (place.Object object.Map) (SpellsKind (place.Object object.Map)) IsStorable v)
-map o limit tree fields es v only room inside is =
-    let all = only inside.seen inside.is in
+pub map : (o : Origin) (limit : ℕ) (tree fields : text.Json) (es : Entries) (v : Data) → HoldsOnly tree (codes "fields") fields → 0 < limit
+    → StandsFor fields (IsBuiltOf o (limit - 1) (place.Object object.Fields) SpellsFields (AreStoredFields (limit - 1)) es) → v ≡ map_of es
+    → StandsFor tree (IsBuiltOf o limit (place.Object object.Map) (SpellsKind (place.Object object.Map)) IsStorable v)
+map o limit tree fields es v held room inside is =
+    let all = only tree fields (codes "fields") inside.seen held inside.is in
     record {
       seen = all.seen;
       is = all.is;

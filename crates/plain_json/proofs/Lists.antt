@@ -18,7 +18,7 @@ use Rattle.json_model.specs.declared.place.Place.TheVariants as place
 use Rattle.json_model.specs.declared.place.Series.{Series}
 use Rattle.json_model.specs.declared.place.Series.TheVariants as series
 use Rattle.json_model.specs.Fits.{Fits, ItemsFit}
-use Rattle.json_model.specs.Forms.{HasOnly, Each, no_more, one_more}
+use Rattle.json_model.specs.Forms.{Each, no_more, one_more}
 use Rattle.json_model.specs.Grammar.{SpellsValue, SpellsKind, SpellsList, a_list, SpellsItems, no_item, an_item}
 use Rattle.json_model.specs.Members.{lacks_only}
 use Rattle.json_model.specs.Origin.{Origin}
@@ -26,7 +26,8 @@ use Rattle.json_model.specs.Places.{item_place}
 use Rattle.json_model.proofs.OnePass.{list_fits, array_fits, array_kind}
 use Rattle.json_model.proofs.ReadAscending.{chained, mapped}
 use Rattle.json_model.proofs.Stored.{items_push, array_stored}
-use Rattle.plain_json.specs.Trees.{StandsFor, IsPlain}
+use Rattle.plain_json.specs.Trees.{HoldsOnly, StandsFor, IsBuiltOf}
+use Rattle.plain_json.proofs.Members.{only}
 
 -- the items with one behind them
 abbrev pushed : json.Items → json.Data → json.Items
@@ -65,7 +66,7 @@ pub next : {X A : Type 0} (o : Origin) (limit : ℕ) (kind : Series) (Listed : j
     → ((ds : json.Items) (xs : List X) (d : json.Data) (x : X) → Listed ds xs → Spells d x → Listed (pushed ds d) (xs ++ x ∷ []))
     → ((xs : List X) (x : X) → Stored xs → Kept x → Stored (xs ++ x ∷ []))
     → (trees : List (Value A)) (i : ℕ) (one : Value A) (old new : List X) (x : X) → i < length trees → one ≡ get_or trees i one → SoFar o limit kind Listed Stored (take i trees) old
-    → StandsFor (value_view one) (IsPlain o limit (item_place kind) Spells Kept x) → new ≡ old ++ x ∷ [] → SoFar o limit kind Listed Stored (take (i + 1) trees) new
+    → StandsFor (value_view one) (IsBuiltOf o limit (item_place kind) Spells Kept x) → new ≡ old ++ x ∷ [] → SoFar o limit kind Listed Stored (take (i + 1) trees) new
 next {X} {A} o limit kind Listed Stored Spells Kept list store trees i one old new x below is so_far stands pushed_is =
     let whole : SoFar o limit kind Listed Stored (take i trees ++ one ∷ []) (old ++ x ∷ []) = record {
       seen = pushed so_far.seen stands.seen;
@@ -82,7 +83,7 @@ whole trees i below above = let e : i ≡ length trees = omega arith in ap (λ n
 
 pub listed : {X A : Type 0} (o : Origin) (limit : ℕ) (kind : Series) (Listed : json.Items → List X → Type 0) (Stored : List X → Type 0) (Spells : json.Data → List X → Type 0)
     → ((ds : json.Items) → lacks_only kind ds ≡ false) → ((ds : json.Items) (xs : List X) → Listed ds xs → Spells (json.array ds) xs)
-    → (tree : text.Json) (trees : List (Value A)) (xs : List X) → tree ≡ text.array (items_view trees) → SoFar o limit kind Listed Stored trees xs → StandsFor tree (IsPlain o limit (place.Series kind) Spells Stored xs)
+    → (tree : text.Json) (trees : List (Value A)) (xs : List X) → tree ≡ text.array (items_view trees) → SoFar o limit kind Listed Stored trees xs → StandsFor tree (IsBuiltOf o limit (place.Series kind) Spells Stored xs)
 listed o limit kind Listed Stored Spells enough spell tree trees xs is all = record {
   seen = json.array all.seen;
   is = rw (is, all.is) refl;
@@ -99,11 +100,11 @@ unfolding Fits
 no_values {A} o limit vs none = subst (ValuesSoFar {A = A} o limit []) (sym none) (record { seen = json.no_items; is = refl; fit = tt; listed = no_item; stored = tt })
 
 pub more_values : {A : Type 0} (o : Origin) (limit : ℕ) (trees : List (Value A)) (i : ℕ) (one : Value A) (old new : List Data) (v : Data) → i < length trees → one ≡ get_or trees i one → ValuesSoFar o limit (take i trees) old
-    → StandsFor (value_view one) (IsPlain o limit (place.Object object.Value) SpellsValue IsStorable v) → new ≡ old ++ v ∷ [] → ValuesSoFar o limit (take (i + 1) trees) new
+    → StandsFor (value_view one) (IsBuiltOf o limit (place.Object object.Value) SpellsValue IsStorable v) → new ≡ old ++ v ∷ [] → ValuesSoFar o limit (take (i + 1) trees) new
 more_values o limit = next o limit series.Values SpellsItems (λ those. AreStorableItems (items_of those)) SpellsValue IsStorable values_push items_push
 
 pub all_values : {A : Type 0} (o : Origin) (limit : ℕ) (tree : text.Json) (all trees : List (Value A)) (i : ℕ) (vs : List Data) → tree ≡ text.array (items_view all) → trees ≡ all → length trees ≤ i → i ≤ length trees → ValuesSoFar o limit (take i trees) vs
-    → StandsFor tree (IsPlain o limit (place.Series series.Values) (λ d. SpellsList (Some d)) (λ those. AreStorableItems (items_of those)) vs)
+    → StandsFor tree (IsBuiltOf o limit (place.Series series.Values) (λ d. SpellsList (Some d)) (λ those. AreStorableItems (items_of those)) vs)
 all_values {A} o limit tree all trees i vs is same below above so_far =
     listed o limit series.Values SpellsItems (λ those. AreStorableItems (items_of those)) (λ d. SpellsList (Some d)) (λ ds. refl) (λ ds those spelled. a_list ds (json.array ds) refl spelled) tree all vs is
     (subst (λ (ts : List (Value A)). ValuesSoFar o limit ts vs) (whole trees i below above ∙ same) so_far)
@@ -116,11 +117,11 @@ within {A} tree all trees i one is same below one_is =
     let size : length (json_tokens tree) ≡ suc (length (items_tokens (items_view trees))) = ap (λ t. length (json_tokens t)) (is ∙ ap (λ vs. text.array (items_view vs)) (sym same)) in
     omega arith
 
-pub array : (o : Origin) (limit : ℕ) (tree list : text.Json) (vs : Vec Data Global) (v : Data) → ((d : json.Data) → of_json list ≡ Some d → StandsFor tree (HasOnly (codes "values") d)) → 0 < limit
-    → StandsFor list (IsPlain o (limit - 1) (place.Series series.Values) (λ d. SpellsList (Some d)) (λ those. AreStorableItems (items_of those)) vs.items) → v ≡ array_of vs.items → length vs.items < 2 ^ 64
-    → StandsFor tree (IsPlain o limit (place.Object object.Array) (SpellsKind (place.Object object.Array)) IsStorable v)
-array o limit tree list vs v only room inside is count =
-    let all = only inside.seen inside.is in
+pub array : (o : Origin) (limit : ℕ) (tree list : text.Json) (vs : Vec Data Global) (v : Data) → HoldsOnly tree (codes "values") list → 0 < limit
+    → StandsFor list (IsBuiltOf o (limit - 1) (place.Series series.Values) (λ d. SpellsList (Some d)) (λ those. AreStorableItems (items_of those)) vs.items) → v ≡ array_of vs.items → length vs.items < 2 ^ 64
+    → StandsFor tree (IsBuiltOf o limit (place.Object object.Array) (SpellsKind (place.Object object.Array)) IsStorable v)
+array o limit tree list vs v held room inside is count =
+    let all = only tree list (codes "values") inside.seen held inside.is in
     record {
       seen = all.seen;
       is = all.is;

@@ -18,7 +18,7 @@ use Rattle.json_model.specs.Origin.{Origin}
 use Rattle.json_model.specs.Places.{value_member}
 use Rattle.json_model.specs.Scalars.{IsReadScalar}
 use Rattle.json_model.proofs.OnePass.{scalar_fits, value_fits, value_spelled}
-use Rattle.plain_json.specs.Trees.{StandsFor, IsPlain}
+use Rattle.plain_json.specs.Trees.{StandsFor, IsBuiltOf}
 
 -- ---- what stands under a kind isn't left out
 
@@ -60,7 +60,7 @@ text_stands tree content kind (Err e) is holds = tt
 
 -- ---- values
 
-scalar : (o : Origin) (limit : ℕ) (kind : Leaf) (tree : text.Json) (v : Data) → StandsFor tree (λ d. IsReadScalar kind d v) → StandsFor tree (IsPlain o limit (place.Leaf kind) (SpellsKind (place.Leaf kind)) IsStorable v)
+scalar : (o : Origin) (limit : ℕ) (kind : Leaf) (tree : text.Json) (v : Data) → StandsFor tree (λ d. IsReadScalar kind d v) → StandsFor tree (IsBuiltOf o limit (place.Leaf kind) (SpellsKind (place.Leaf kind)) IsStorable v)
 scalar o limit kind tree v s = record {
   seen = s.seen;
   is = s.is;
@@ -68,13 +68,13 @@ scalar o limit kind tree v s = record {
 }
 
 pub scalar_built : {E : Type 0} (o : Origin) (limit : ℕ) (kind : Leaf) (tree : text.Json) (read : Result (Option Data) E) → IfBuilt read (λ v. StandsFor tree (λ d. IsReadScalar kind d v))
-    → IfBuilt read (λ v. StandsFor tree (IsPlain o limit (place.Leaf kind) (SpellsKind (place.Leaf kind)) IsStorable v))
+    → IfBuilt read (λ v. StandsFor tree (IsBuiltOf o limit (place.Leaf kind) (SpellsKind (place.Leaf kind)) IsStorable v))
 scalar_built o limit kind tree (Ok None) holds = tt
 scalar_built o limit kind tree (Ok (Some v)) holds = scalar o limit kind tree v holds
 scalar_built o limit kind tree (Err e) holds = tt
 
 pub value : (o : Origin) (limit : ℕ) (tree inner : text.Json) (name : List ℕ) (v : Data) → tree ≡ text.object (text.member name inner text.no_members)
-    → StandsFor inner (IsPlain o limit (value_member name) (SpellsKind (value_member name)) IsStorable v) → StandsFor tree (IsPlain o limit (place.Object object.Value) SpellsValue IsStorable v)
+    → StandsFor inner (IsBuiltOf o limit (value_member name) (SpellsKind (value_member name)) IsStorable v) → StandsFor tree (IsBuiltOf o limit (place.Object object.Value) SpellsValue IsStorable v)
 value o limit tree inner name v is inside =
     let d = json.object (json.member name inside.seen json.no_members) in
     let there = kind_there (value_member name) inside.seen v inside.holds.spelled in

@@ -15,7 +15,7 @@ use Rattle.json_model.specs.declared.place.Place.TheVariants as place
 use Rattle.json_model.specs.declared.place.Series.TheVariants as series
 use Rattle.json_model.specs.Faults.{max_nesting}
 use Rattle.json_model.specs.Fits.{Fits}
-use Rattle.json_model.specs.Forms.{HasOnly, HasBoth, Each, no_more, SpellsEach}
+use Rattle.json_model.specs.Forms.{Each, no_more, SpellsEach}
 use Rattle.json_model.specs.Grammar.{SpellsFields, SpellsName}
 use Rattle.json_model.specs.Members.{is_null, chosen}
 use Rattle.json_model.specs.Origin.{Origin}
@@ -27,19 +27,20 @@ use Rattle.json_rpc.proofs.Stored.{write_storable}
 use Rattle.mutations.specs.declared.write.Precondition.TheVariants.{Free}
 use Rattle.mutations.specs.declared.write.Write.{Write}
 use Rattle.mutations.specs.declared.write.Write.TheVariants.{Update}
-use Rattle.plain_json.specs.Trees.{StandsFor, IsPlain, AreStoredFields}
+use Rattle.plain_json.specs.Trees.{HoldsOnly, HoldsBoth, StandsFor, IsBuiltOf, AreStoredFields}
 use Rattle.plain_json.specs.Updates.{SpellsUpdated, IsStoredUpdate}
 use Rattle.plain_json.specs.declared.writes.Updated.{Updated}
+use Rattle.plain_json.proofs.Members.{only, both}
 use Rattle.plain_json.proofs.Lists.{SoFar, next, whole, listed, each_push}
 
 pub named : (root : Root) (tree : text.Json) (name : List ℕ) (key : List (List ℕ)) → tree ≡ text.string name → IsKey key → name ≡ name_text root key → StandsFor tree (λ d. SpellsName root d key)
 named root tree name key is sound text_is = record { seen = string name; is = ap of_json is; holds = record { names = sound; is = ap string text_is } }
 
-pub document : (o : Origin) (tree fields name : text.Json) (key : List (List ℕ)) (es : Entries) (updated : Updated) → ((d e : Data) → of_json fields ≡ Some d → of_json name ≡ Some e → StandsFor tree (HasBoth (codes "fields") (codes "name") d e))
-    → StandsFor name (λ d. SpellsName o.root d key) → IsStorableKey key → StandsFor fields (IsPlain o max_nesting (place.Object object.Fields) SpellsFields (AreStoredFields max_nesting) es) → updated.key ≡ key → updated.fields ≡ es
-    → StandsFor tree (IsPlain o max_nesting (place.Object object.Update) (SpellsUpdated o.root) IsStoredUpdate updated)
-document o tree fields name key es updated both names stored inside key_is fields_are =
-    let all = both inside.seen names.seen inside.is names.is in
+pub document : (o : Origin) (tree fields name : text.Json) (key : List (List ℕ)) (es : Entries) (updated : Updated) → HoldsBoth tree (codes "fields") (codes "name") fields name
+    → StandsFor name (λ d. SpellsName o.root d key) → IsStorableKey key → StandsFor fields (IsBuiltOf o max_nesting (place.Object object.Fields) SpellsFields (AreStoredFields max_nesting) es) → updated.key ≡ key → updated.fields ≡ es
+    → StandsFor tree (IsBuiltOf o max_nesting (place.Object object.Update) (SpellsUpdated o.root) IsStoredUpdate updated)
+document o tree fields name key es updated held names stored inside key_is fields_are =
+    let all = both tree fields name (codes "fields") (codes "name") inside.seen names.seen refl held inside.is names.is in
     record {
       seen = all.seen;
       is = all.is;
@@ -54,12 +55,12 @@ only_chosen : (d : Data) → is_null d ≡ false → chosen object.Write (member
 unfolding write_rows is_write_choice
 only_chosen d some = rw some refl
 
-pub write : (o : Origin) (tree inner : text.Json) (updated : Updated) (made : Write) → ((d : Data) → of_json inner ≡ Some d → StandsFor tree (HasOnly (codes "update") d))
-    → StandsFor inner (IsPlain o max_nesting (place.Object object.Update) (SpellsUpdated o.root) IsStoredUpdate updated) → made ≡ Update updated.key updated.fields None [] Free
-    → StandsFor tree (IsPlain o max_nesting (place.Object object.Write) (SpellsWrite o.root) IsStorableWrite made)
+pub write : (o : Origin) (tree inner : text.Json) (updated : Updated) (made : Write) → HoldsOnly tree (codes "update") inner
+    → StandsFor inner (IsBuiltOf o max_nesting (place.Object object.Update) (SpellsUpdated o.root) IsStoredUpdate updated) → made ≡ Update updated.key updated.fields None [] Free
+    → StandsFor tree (IsBuiltOf o max_nesting (place.Object object.Write) (SpellsWrite o.root) IsStorableWrite made)
 unfolding write_rows
-write o tree inner updated made only inside is =
-    let all = only inside.seen inside.is in
+write o tree inner updated made held inside is =
+    let all = only tree inner (codes "update") inside.seen held inside.is in
     let ms = member (codes "update") inside.seen no_members in
     let picked = only_chosen inside.seen all.holds.there in
     record {
@@ -89,12 +90,12 @@ unfolding Fits
 no_writes {A} o writes none = subst (WritesSoFar {A = A} o []) (sym none) (record { seen = no_items; is = refl; fit = tt; listed = no_more; stored = All-nil IsStorableWrite })
 
 pub more_writes : {A : Type 0} (o : Origin) (trees : List (Value A)) (i : ℕ) (one : Value A) (old new : List Write) (made : Write) → i < length trees → one ≡ get_or trees i one → WritesSoFar o (take i trees) old
-    → StandsFor (value_view one) (IsPlain o max_nesting (place.Object object.Write) (SpellsWrite o.root) IsStorableWrite made) → new ≡ old ++ made ∷ [] → WritesSoFar o (take (i + 1) trees) new
+    → StandsFor (value_view one) (IsBuiltOf o max_nesting (place.Object object.Write) (SpellsWrite o.root) IsStorableWrite made) → new ≡ old ++ made ∷ [] → WritesSoFar o (take (i + 1) trees) new
 more_writes o = next o max_nesting series.Writes (Each (SpellsWrite o.root)) (All IsStorableWrite) (SpellsWrite o.root) IsStorableWrite (each_push (SpellsWrite o.root))
     (λ old made all one. All-append IsStorableWrite old (made ∷ []) all (All-cons IsStorableWrite made [] one (All-nil IsStorableWrite)))
 
 pub all_writes : {A : Type 0} (o : Origin) (tree : text.Json) (all trees : List (Value A)) (i : ℕ) (writes : List Write) → tree ≡ text.array (items_view all) → trees ≡ all → length trees ≤ i → i ≤ length trees → WritesSoFar o (take i trees) writes
-    → StandsFor tree (IsPlain o max_nesting (place.Series series.Writes) (λ d. SpellsEach (SpellsWrite o.root) (Some d)) (All IsStorableWrite) writes)
+    → StandsFor tree (IsBuiltOf o max_nesting (place.Series series.Writes) (λ d. SpellsEach (SpellsWrite o.root) (Some d)) (All IsStorableWrite) writes)
 all_writes {A} o tree all trees i writes is same below above so_far =
     listed o max_nesting series.Writes (Each (SpellsWrite o.root)) (All IsStorableWrite) (λ d. SpellsEach (SpellsWrite o.root) (Some d)) (λ ds. refl) (λ ds those each. (ds, refl, each)) tree all writes is
     (subst (λ (ts : List (Value A)). WritesSoFar o ts writes) (whole trees i below above ∙ same) so_far)

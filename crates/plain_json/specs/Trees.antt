@@ -1,16 +1,25 @@
--- What a tree over borrowed text stands for.
-use Rattle.std.specs.Prelude.{◌≡◌, ℕ, ◌≤◌, Some}
-use Rattle.json.specs.Json.{Json}
+-- What a tree over borrowed text holds and stands for.
+use Rattle.std.specs.Prelude.{◌≡◌, ◌⊎◌, ℕ, ◌≤◌, List, false, Some}
+use Rattle.json.specs.Find.{is_null}
+use Rattle.json.specs.Json.{Json, object, member, no_members}
 use Rattle.serde_json.specs.Data.{Data}
 use Rattle.serde_json.specs.Read.{of_json}
 use Rattle.value_model.specs.Data.{Entries, entries_depth}
-use Rattle.value_model.specs.Storable.{AreStorable, IsStorableKey}
-use Rattle.json_model.specs.declared.place.Object.TheVariants as object
+use Rattle.value_model.specs.Storable.{AreStorable}
 use Rattle.json_model.specs.declared.place.Place.{Place}
-use Rattle.json_model.specs.declared.place.Place.TheVariants as place
 use Rattle.json_model.specs.Fits.{Fits}
-use Rattle.json_model.specs.Grammar.{SpellsFields}
 use Rattle.json_model.specs.Origin.{Origin}
+
+-- an object of just this member, which isn't left out
+pub record HoldsOnly (tree : Json) (name : List ℕ) (inner : Json) : Type 0 where
+  pub is : tree ≡ object (member name inner no_members)
+  pub there : is_null inner ≡ false
+
+-- an object of just these two, in whichever order, neither of which is left out
+pub record HoldsBoth (tree : Json) (first second : List ℕ) (one other : Json) : Type 0 where
+  pub is : (tree ≡ object (member first one (member second other no_members))) ⊎ (tree ≡ object (member second other (member first one no_members)))
+  pub one_there : is_null one ≡ false
+  pub other_there : is_null other ≡ false
 
 -- it stands for a tree of which this holds: numbers have values, and of members with one name the last counts
 pub record StandsFor (tree : Json) (Fact : Data → Type 0) : Type 0 where
@@ -19,7 +28,7 @@ pub record StandsFor (tree : Json) (Fact : Data → Type 0) : Type 0 where
   pub holds : Fact seen
 
 -- the tree is of the form that is to stand at the place, and spells this, which the journal can hold
-pub record IsPlain {X : Type 0} (o : Origin) (limit : ℕ) (at : Place) (Spells : Data → X → Type 0) (Stored : X → Type 0) (x : X) (d : Data) : Type 0 where
+pub record IsBuiltOf {X : Type 0} (o : Origin) (limit : ℕ) (at : Place) (Spells : Data → X → Type 0) (Stored : X → Type 0) (x : X) (d : Data) : Type 0 where
   pub fits : Fits o limit at d
   pub spelled : Spells d x
   pub stored : Stored x

@@ -1,17 +1,12 @@
 //! Trees that borrow from their text, and a look into them.
 
-ghost use Rattle.std.specs.Prelude.{◌≡◌, ◌<◌, Some, IfSome, length};
-ghost use Rattle.std.specs.Cmp.Lexicographic.{slice_cmp};
-ghost use Rattle.std.specs.Ordering.{nat_cmp};
-ghost use Rattle.std.specs.declared.cmp.Ordering.TheVariants.{Less};
-ghost use Rattle.json.specs.Json.{object, member, no_members};
+ghost use Rattle.std.specs.Prelude.{◌≡◌, ◌<◌, [], Some, IfSome, length};
+ghost use Rattle.json.specs.Json.{object, member, no_members, value};
+ghost use Rattle.json.specs.Lex.{tokens};
 ghost use Rattle.json.specs.Tree.{json_tokens};
 ghost use Rattle.json.specs.Value.{value_view};
-ghost use Rattle.serde_json.specs.Data.{Data};
-ghost use Rattle.serde_json.specs.Read.{of_json, read};
 ghost use Rattle.json_model.specs.Built.{IfBuilt};
-ghost use Rattle.json_model.specs.Forms.{HasOnly, HasBoth};
-ghost use Rattle.plain_json.specs.Trees.{StandsFor};
+ghost use Rattle.plain_json.specs.Trees.{HoldsOnly, HoldsBoth};
 
 use document_keys::NoMemory;
 use json::{Error, Reader, Scratch, Value as Tree};
@@ -24,14 +19,12 @@ const MAX_DEPTH: usize = 127;
 ///
 /// # Errors
 /// `NoMemory`
-#[tactic(auto, using(crate::proofs::Parsed::whole))]
 pub fn parse<'a>(
     alloc: Global,
     text: &'a str,
     scratch: &'a mut Scratch,
 ) -> Result<Option<Tree<'a>>, NoMemory>
-    ensures { IfBuilt result (λ tree. (d : Data) → of_json (value_view tree) ≡ Some d
-        → read text.now ≡ Some d) }
+    ensures { IfBuilt result (λ tree. value 127 (tokens text.now) ≡ Some (value_view tree, [])) }
 {
     let mut reader = Reader::new(text, scratch)?;
     match Tree::read(alloc, &mut reader, MAX_DEPTH) {
@@ -99,10 +92,9 @@ fn both_members<'t, 'a>(tree: &'t Tree<'a>) -> Option<(Member<'t, 'a>, Member<'t
 }
 
 /// What stands under the name in an object of just that member, which isn't left out. Of none nothing is said.
-#[tactic(auto, using(crate::proofs::Members::only))]
 pub fn only_under<'t, 'a>(tree: &'t Tree<'a>, name: &str) -> Option<&'t Tree<'a>>
-    ensures is { IfSome result (λ inner. (d : Data) → of_json (value_view inner.now) ≡ Some d
-        → StandsFor (value_view tree.now) (HasOnly name.now d)) }
+    ensures is { IfSome result (λ inner.
+        HoldsOnly (value_view tree.now) name.now (value_view inner.now)) }
     ensures smaller { IfSome result (λ inner. length (json_tokens (value_view inner.now))
         < length (json_tokens (value_view tree.now))) }
 {
@@ -118,16 +110,13 @@ pub fn only_under<'t, 'a>(tree: &'t Tree<'a>, name: &str) -> Option<&'t Tree<'a>
 
 /// What stands under the two names, in whichever order, in an object of just these members, neither of which is left out. Of none
 /// nothing is said.
-#[tactic(auto, using(crate::proofs::Members::in_order, crate::proofs::Members::turned))]
 pub fn both_under<'t, 'a>(
     tree: &'t Tree<'a>,
     first: &str,
     second: &str,
 ) -> Option<(&'t Tree<'a>, &'t Tree<'a>)>
-    requires { slice_cmp nat_cmp first.now second.now ≡ Less }
-    ensures { IfSome result (λ both. (d e : Data) → of_json (value_view both.0.now) ≡ Some d
-        → of_json (value_view both.1.now) ≡ Some e
-        → StandsFor (value_view tree.now) (HasBoth first.now second.now d e)) }
+    ensures { IfSome result (λ both. HoldsBoth (value_view tree.now) first.now second.now
+        (value_view both.0.now) (value_view both.1.now)) }
 {
     let (one, other) = both_members(tree)?;
     if one.tree.is_null() {

@@ -10,7 +10,7 @@ ghost use Rattle.json_model.specs.declared.place.Object.TheVariants as objects;
 ghost use Rattle.json_model.specs.declared.place.Series.TheVariants as serieses;
 ghost use Rattle.json_model.specs.Built.{IfBuilt};
 ghost use Rattle.json_model.specs.Grammar.{SpellsValue, SpellsKind, SpellsList, SpellsFields};
-ghost use Rattle.plain_json.specs.Trees.{AreStoredFields, IsPlain, StandsFor};
+ghost use Rattle.plain_json.specs.Trees.{AreStoredFields, IsBuiltOf, StandsFor};
 
 use crate::scalars::plain_scalar;
 use crate::tree::{only_member, only_under};
@@ -30,7 +30,7 @@ fn plain_value(
     tree: &Tree<'_>,
 ) -> Result<Option<Value>, NoMemory>
     ensures { IfBuilt result (λ v. StandsFor (value_view tree.now)
-        (IsPlain setting.now limit (places.Object objects.Value) SpellsValue IsStorable v)) }
+        (IsBuiltOf setting.now limit (places.Object objects.Value) SpellsValue IsStorable v)) }
 {
     let Some(only) = only_member(tree) else {
         return Ok(None);
@@ -53,7 +53,7 @@ fn plain_kind(
     tree: &Tree<'_>,
 ) -> Result<Option<Value>, NoMemory>
     ensures { IfBuilt result (λ v. StandsFor (value_view tree.now)
-        (IsPlain setting.now limit place (SpellsKind place) IsStorable v)) }
+        (IsBuiltOf setting.now limit place (SpellsKind place) IsStorable v)) }
 {
     match place {
         Place::Leaf(leaf) => plain_scalar(alloc, leaf, tree),
@@ -72,7 +72,7 @@ fn plain_array(
     limit: u64,
     tree: &Tree<'_>,
 ) -> Result<Option<Value>, NoMemory>
-    ensures { IfBuilt result (λ v. StandsFor (value_view tree.now) (IsPlain setting.now limit
+    ensures { IfBuilt result (λ v. StandsFor (value_view tree.now) (IsBuiltOf setting.now limit
         (places.Object objects.Array) (SpellsKind (places.Object objects.Array)) IsStorable v)) }
 {
     let Some(list) = only_under(tree, "values") else {
@@ -95,7 +95,7 @@ fn plain_values(
     limit: u64,
     tree: &Tree<'_>,
 ) -> Result<Option<Vec<Value>>, NoMemory>
-    ensures { IfBuilt result (λ vs. StandsFor (value_view tree.now) (IsPlain setting.now limit
+    ensures { IfBuilt result (λ vs. StandsFor (value_view tree.now) (IsBuiltOf setting.now limit
         (places.Series serieses.Values) (λ d. SpellsList (Some d))
         (λ values. AreStorableItems (items_of values)) vs.items)) }
 {
@@ -121,7 +121,7 @@ fn plain_map(
     limit: u64,
     tree: &Tree<'_>,
 ) -> Result<Option<Value>, NoMemory>
-    ensures { IfBuilt result (λ v. StandsFor (value_view tree.now) (IsPlain setting.now limit
+    ensures { IfBuilt result (λ v. StandsFor (value_view tree.now) (IsBuiltOf setting.now limit
         (places.Object objects.Map) (SpellsKind (places.Object objects.Map)) IsStorable v)) }
 {
     let Some(object) = only_under(tree, "fields") else {
@@ -149,7 +149,7 @@ pub fn plain_fields(
     limit: u64,
     tree: &Tree<'_>,
 ) -> Result<Option<Fields>, NoMemory>
-    ensures { IfBuilt result (λ fields. StandsFor (value_view tree.now) (IsPlain setting.now limit
+    ensures { IfBuilt result (λ fields. StandsFor (value_view tree.now) (IsBuiltOf setting.now limit
         (places.Object objects.Fields) SpellsFields (AreStoredFields limit) fields)) }
 {
     let Tree::Object(members) = tree else {

@@ -13,7 +13,7 @@ ghost use Rattle.json_model.specs.Forms.{SpellsEach};
 ghost use Rattle.json_model.specs.Grammar.{SpellsName};
 ghost use Rattle.json_rpc.specs.Grammar.{SpellsWrite};
 ghost use Rattle.json_rpc.specs.Storable.{IsStorableWrite};
-ghost use Rattle.plain_json.specs.Trees.{IsPlain, StandsFor};
+ghost use Rattle.plain_json.specs.Trees.{IsBuiltOf, StandsFor};
 ghost use Rattle.plain_json.specs.Updates.{IsStoredUpdate, SpellsUpdated};
 
 use crate::tree::{both_under, only_under};
@@ -67,7 +67,7 @@ fn plain_document(
     tree: &Tree<'_>,
 ) -> Result<Option<Updated>, NoMemory>
     ensures { IfBuilt result (λ document. StandsFor (value_view tree.now)
-        (IsPlain setting.now max_nesting (places.Object objects.Update)
+        (IsBuiltOf setting.now max_nesting (places.Object objects.Update)
         (SpellsUpdated setting.now.root) IsStoredUpdate document)) }
 {
     let Some((fields, name)) = both_under(tree, "fields", "name") else {
@@ -91,7 +91,7 @@ fn plain_write(
     tree: &Tree<'_>,
 ) -> Result<Option<Write>, NoMemory>
     ensures { IfBuilt result (λ write. StandsFor (value_view tree.now)
-        (IsPlain setting.now max_nesting (places.Object objects.Write)
+        (IsBuiltOf setting.now max_nesting (places.Object objects.Write)
         (SpellsWrite setting.now.root) IsStorableWrite write)) }
 {
     let Some(update) = only_under(tree, "update") else {
@@ -121,7 +121,7 @@ pub fn plain_writes(
     tree: &Tree<'_>,
 ) -> Result<Option<Vec<Write>>, NoMemory>
     ensures { IfBuilt result (λ writes. StandsFor (value_view tree.now)
-        (IsPlain setting.now max_nesting (places.Series serieses.Writes)
+        (IsBuiltOf setting.now max_nesting (places.Series serieses.Writes)
         (λ d. SpellsEach (SpellsWrite setting.now.root) (Some d)) (All IsStorableWrite)
         writes.items)) }
 {
