@@ -1,7 +1,6 @@
 -- what is printed of the lines that were handed out
 use Rattle.std.proofs.Common.{◌≡◌, ℕ, ℤ, ◌+◌, ◌<◌, ◌^◌, suc, zero, List, [], ◌∷◌, ◌++◌, length, take, get_or, Option, Some, None, IfSome, append-nil, refl, sym, ap, subst, ◌∙◌, arith}
 use Rattle.std.specs.List.{AllZip, slice_get}
-use Rattle.std.specs.Prelude.{slice_index}
 use Rattle.std.proofs.Math.Seq.{take-length}
 use Rattle.std.proofs.lemmas.Grind.{flat_map-append}
 use Rattle.std.proofs.lemmas.List.{take_more}
@@ -53,12 +52,13 @@ splits R (a ∷ xs) x (l ∷ lines) all =
     record { front = l ∷ rest.front; last = rest.last; whole = ap (λ (ls : List _). l ∷ ls) rest.whole; first = (all.0, rest.first); one = rest.one }
 
 -- the text of one line is that of them all, where they are one
-pub one_text : (client : Kept) (outs : List Out) (text : List ℕ) → length outs ≡ 1 → ((line : Line) → IsShown client (slice_index outs 0) line → text ≡ line_of (tree_of client.root line)) → (lines : List Line) → AreShown client outs lines → text ≡ text_of client.root lines
-one_text client (out ∷ []) text one is (line ∷ []) all = is line all.0 ∙ sym (append-nil (line_of (tree_of client.root line)))
-one_text client (out ∷ []) text one is [] all = absurd all
-one_text client (out ∷ []) text one is (line ∷ (other ∷ lines)) all = absurd all.1
-one_text client [] text one is lines all = cc
-one_text client (out ∷ (other ∷ outs)) text one is lines all = cc
+pub one_text : (client : Kept) (outs : List Out) (one : Out) (text : List ℕ) → length outs ≡ 1 → one ≡ get_or outs 0 one → ((line : Line) → IsShown client one line → text ≡ line_of (tree_of client.root line))
+    → (lines : List Line) → AreShown client outs lines → text ≡ text_of client.root lines
+one_text client (out ∷ []) one text size is printed (line ∷ []) all = printed line (subst (λ (o : Out). IsShown client o line) (sym is) all.0) ∙ sym (append-nil (line_of (tree_of client.root line)))
+one_text client (out ∷ []) one text size is printed [] all = absurd all
+one_text client (out ∷ []) one text size is printed (line ∷ (other ∷ lines)) all = absurd all.1
+one_text client [] one text size is printed lines all = cc
+one_text client (out ∷ (other ∷ outs)) one text size is printed lines all = cc
 
 pub no_text : (client : Kept) (text : List ℕ) (lines : List Line) → text ≡ [] → AreShown client [] lines → text ≡ text_of client.root lines
 no_text client text [] none all = none

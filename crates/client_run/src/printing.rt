@@ -198,7 +198,6 @@ fn print_out(alloc: Global, client: &Client, out: &Out) -> Result<String, NoMemo
 }
 
 /// Lines that were handed out, one after another.
-#[tactic(auto, using(crate::proofs::Texts::one_text))]
 fn print_outs(alloc: Global, client: &Client, outs: &[Out]) -> Result<String, NoMemory>
     requires live { IsLive client.now }
     requires standing { IsStanding client.now }
