@@ -51,15 +51,6 @@ splits R (a ∷ xs) x (l ∷ lines) all =
     let rest = splits R xs x lines all.1 in
     record { front = l ∷ rest.front; last = rest.last; whole = ap (λ (ls : List _). l ∷ ls) rest.whole; first = (all.0, rest.first); one = rest.one }
 
--- the text of one line is that of them all, where they are one
-pub one_text : (client : Kept) (outs : List Out) (one : Out) (text : List ℕ) → length outs ≡ 1 → one ≡ get_or outs 0 one → ((line : Line) → IsShown client one line → text ≡ line_of (tree_of client.root line))
-    → (lines : List Line) → AreShown client outs lines → text ≡ text_of client.root lines
-one_text client (out ∷ []) one text size is printed (line ∷ []) all = printed line (subst (λ (o : Out). IsShown client o line) (sym is) all.0) ∙ sym (append-nil (line_of (tree_of client.root line)))
-one_text client (out ∷ []) one text size is printed [] all = absurd all
-one_text client (out ∷ []) one text size is printed (line ∷ (other ∷ lines)) all = absurd all.1
-one_text client [] one text size is printed lines all = cc
-one_text client (out ∷ (other ∷ outs)) one text size is printed lines all = cc
-
 pub no_text : (client : Kept) (text : List ℕ) (lines : List Line) → text ≡ [] → AreShown client [] lines → text ≡ text_of client.root lines
 no_text client text [] none all = none
 no_text client text (l ∷ lines) none all = absurd all
