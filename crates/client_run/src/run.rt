@@ -15,6 +15,7 @@ use crate::status::Status;
 use disk_journal::OpenFault;
 use document_keys::Database;
 use host_api::{Host, Line, Source, SourceFault};
+use json::Scratch;
 use line_reader::read_item;
 use std::alloc::Global;
 use std::mem;
@@ -44,6 +45,7 @@ fn serve<S: Source, H: Host>(
         (H.view host.old) (H.view host.new) }
 {
     let mut text = Vec::new(alloc);
+    let mut scratch = Scratch::new(alloc);
     for handled in 0..budget {
         let line = match source.line(alloc, &mut text) {
             Ok(line) => line,
@@ -53,7 +55,8 @@ fn serve<S: Source, H: Host>(
         if let Line::End = line {
             return Status::Done;
         }
-        let Ok(reading) = read_item(alloc, client.root(), line, text.as_slice()) else {
+        let Ok(reading) = read_item(alloc, client.root(), line, text.as_slice(), &mut scratch)
+        else {
             return Status::NoMemory;
         };
         match handle(alloc, host, client, handled + 1, reading) {

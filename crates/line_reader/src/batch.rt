@@ -71,6 +71,7 @@ pub(crate) fn read_batch_line(
     alloc: Global,
     root: &Database,
     text: &[u8],
+    scratch: &mut Scratch,
 ) -> Result<Option<RawEvent>, NoMemory>
     ensures is { IfBuilt result (IsLineOf root.now text.now) }
     ensures storable { IfBuilt result HoldsStorable }
@@ -85,8 +86,7 @@ pub(crate) fn read_batch_line(
         side: Side::Caller,
         root,
     };
-    let mut scratch = Scratch::new(alloc);
-    let Some(tree) = parse(alloc, text, &mut scratch)? else {
+    let Some(tree) = parse(alloc, text, scratch)? else {
         return Ok(None);
     };
     plain_batch(alloc, &setting, &tree)

@@ -10,6 +10,7 @@ use crate::refusal::{Refusal, refusal_of};
 use crate::tree::read_tree;
 use document_keys::{Database, NoMemory, Text};
 use host_api::Line;
+use json::Scratch;
 use serde_json::Value as Json;
 use std::alloc::Global;
 
@@ -26,11 +27,16 @@ fn read_json(alloc: Global, root: &Database, json: &Json) -> Result<Reading, NoM
 }
 
 /// What a line of these bytes is.
-fn read_line(alloc: Global, root: &Database, text: &[u8]) -> Result<Reading, NoMemory>
+fn read_line(
+    alloc: Global,
+    root: &Database,
+    text: &[u8],
+    scratch: &mut Scratch,
+) -> Result<Reading, NoMemory>
     ensures is { IfOk result (λ reading. Reads root.now (Bytes text.now) reading) }
     ensures spelled { IfOk result IsSpelledReading }
 {
-    if let Some(batch) = read_batch_line(alloc, root, text)? {
+    if let Some(batch) = read_batch_line(alloc, root, text, scratch)? {
         return batch.read(alloc);
     }
     let json = match Json::from_slice(alloc, text) {
@@ -49,6 +55,7 @@ fn read_line(alloc: Global, root: &Database, text: &[u8]) -> Result<Reading, NoM
 /// line is too long; it isn't JSON in UTF-8, or is JSON with faults, of which the first of the least kind is told; it has no
 /// writes, or too many; its query breaks a rule, of which the least is told. A message of either stream with faults is an event,
 /// which tells the member of the first of the least kind. What an event commits, or brings to a later commit, has a spelling.
+/// `scratch` is room for the parser, which may be kept from line to line: what stands in it is nothing to the next one.
 ///
 /// # Errors
 /// `NoMemory`
@@ -57,13 +64,14 @@ pub fn read_item(
     root: &Database,
     line: Line,
     text: &[u8],
+    scratch: &mut Scratch,
 ) -> Result<Reading, NoMemory>
     requires { line ≢ Line.End }
     ensures is { IfOk result (λ reading. Reads root.now (item_of line text.now) reading) }
     ensures spelled { IfOk result IsSpelledReading }
 {
     match line {
-        Line::Text => read_line(alloc, root, text),
+        Line::Text => read_line(alloc, root, text, scratch),
         Line::TooLong => Ok(Reading::Refused(Refusal::LineTooLong)),
         Line::End => unreachable!(),
     }
