@@ -65,7 +65,13 @@ fn plain_batch(
     }))
 }
 
-/// What a line spells that begins as that of a batch does, where the batch is of the form of `plain_writes`. Then the line has no
+/// Whether a line begins and ends as that of a plain batch does, spelled without blanks. Behind a mask, transforms or a condition
+/// on existence a line ends in another way, so that few are read twice.
+fn may_be_plain(text: &str) -> bool {
+    text.starts_with("{\"write\"") && (text.ends_with("}}}]}}") || text.ends_with("\"}}]}}"))
+}
+
+/// What a line spells that begins and ends as that of a batch does, where the batch is of the form of `plain_writes`. Then the line has no
 /// fault. Else none, which says nothing of the line.
 pub(crate) fn read_batch_line(
     alloc: Global,
@@ -79,7 +85,7 @@ pub(crate) fn read_batch_line(
     let Ok(text) = str::from_utf8(text) else {
         return Ok(None);
     };
-    if !text.starts_with("{\"write\"") {
+    if !may_be_plain(text) {
         return Ok(None);
     }
     let setting = Setting {
