@@ -71,8 +71,8 @@ fn may_be_plain(text: &str) -> bool {
     text.starts_with("{\"write\"") && (text.ends_with("}}}]}}") || text.ends_with("\"}}]}}"))
 }
 
-/// What a line spells that begins and ends as that of a batch does, where the batch is of the form of `plain_writes`. Then the line has no
-/// fault. Else none, which says nothing of the line.
+/// What a line spells that begins and ends as that of a batch does, where the batch is of the form of `plain_writes`. Then the
+/// line has no fault. Else none, which says nothing of the line.
 pub(crate) fn read_batch_line(
     alloc: Global,
     root: &Database,
