@@ -37,10 +37,10 @@ only tree inner name d holds seen = record {
 
 pub both : (tree one other : text.Json) (first second : List ℕ) (d e : Data) → slice_cmp nat_cmp first second ≡ Less → HoldsBoth tree first second one other → of_json one ≡ Some d → of_json other ≡ Some e → StandsFor tree (HasBoth first second d e)
 both tree one other first second d e before holds seen_one seen_other = record {
-    seen = object (member first d (member second e no_members));
-    is = by holds.is;
-    holds = record { is = refl; one = kept one d holds.one_there seen_one; other = kept other e holds.other_there seen_other };
-  }
+  seen = object (member first d (member second e no_members));
+  is = by holds.is;
+  holds = record { is = refl; one = kept one d holds.one_there seen_one; other = kept other e holds.other_there seen_other };
+}
   where
     by : (tree ≡ text.object (text.member first one (text.member second other text.no_members))) ⊎ (tree ≡ text.object (text.member second other (text.member first one text.no_members)))
         → of_json tree ≡ Some (object (member first d (member second e no_members)))
