@@ -1,7 +1,6 @@
 -- Fields that are put one after another, in whichever order their names stand in the text.
 use Rattle.std.proofs.Common.{◌≡◌, ℕ, suc, ◌+◌, ◌-◌, ◌*◌, ◌<◌, ◌≤◌, List, [], ◌∷◌, ◌++◌, length, take, get_or, Option, Some, codes, false, Ordering, Less, Equal, Greater, Bor, refl, sym, ap, subst, inl, inr, ◌∙◌, append-nil, append_assoc, arith}
 use Rattle.std.proofs.lemmas.List.{take_more}
-use Rattle.std.proofs.Math.Seq.{take-length}
 use Rattle.std.specs.Cmp.Lexicographic.{slice_cmp}
 use Rattle.std.specs.List.{All, AllPairs}
 use Rattle.std.specs.Map.{keys_of}
@@ -31,6 +30,7 @@ use Rattle.json_model.proofs.ReadBack.{put_end}
 use Rattle.json_model.proofs.Sound.{not_out}
 use Rattle.json_model.proofs.Stored.{map_stored}
 use Rattle.plain_json.specs.Trees.{HoldsOnly, StandsFor, IsBuiltOf, AreStoredFields}
+use Rattle.plain_json.proofs.Lists.{whole}
 use Rattle.plain_json.proofs.Members.{only}
 
 abbrev Member : Type 0 → Type 0
@@ -107,9 +107,6 @@ more_fields {A} o limit trees i one old new v below is so_far named stands put_i
     } in
     let taken : take (i + 1) trees ≡ take i trees ++ one ∷ [] = take_more trees i one below ∙ ap (λ t. take i trees ++ t ∷ []) (sym is) in
     subst (λ (ts : List (Member A)). FieldsSoFar o limit ts new) (sym taken) (subst (FieldsSoFar o limit (take i trees ++ one ∷ [])) (sym put_is) all)
-
-whole : {A : Type 0} (trees : List (Member A)) (i : ℕ) → length trees ≤ i → i ≤ length trees → take i trees ≡ trees
-whole trees i below above = let e : i ≡ length trees = omega arith in ap (λ n. take n trees) e ∙ take-length trees
 
 pub all_fields : {A : Type 0} (o : Origin) (limit : ℕ) (tree : text.Json) (all trees : List (Member A)) (i : ℕ) (fields : Entries) → tree ≡ text.object (members_view all) → trees ≡ all → length trees ≤ i → i ≤ length trees
     → FieldsSoFar o limit (take i trees) fields → AreStorable fields → StandsFor tree (IsBuiltOf o limit (place.Object object.Fields) SpellsFields (AreStoredFields limit) fields)

@@ -78,7 +78,7 @@ next {X} {A} o limit kind Listed Stored Spells Kept list store trees i one old n
     let taken : take (i + 1) trees ≡ take i trees ++ one ∷ [] = take_more trees i one below ∙ ap (λ t. take i trees ++ t ∷ []) (sym is) in
     subst (λ (ts : List (Value A)). SoFar o limit kind Listed Stored ts new) (sym taken) (subst (SoFar o limit kind Listed Stored (take i trees ++ one ∷ [])) (sym pushed_is) whole)
 
-pub whole : {A : Type 0} (trees : List (Value A)) (i : ℕ) → length trees ≤ i → i ≤ length trees → take i trees ≡ trees
+pub whole : {A : Type 0} (trees : List A) (i : ℕ) → length trees ≤ i → i ≤ length trees → take i trees ≡ trees
 whole trees i below above = let e : i ≡ length trees = omega arith in ap (λ n. take n trees) e ∙ take-length trees
 
 pub listed : {X A : Type 0} (o : Origin) (limit : ℕ) (kind : Series) (Listed : json.Items → List X → Type 0) (Stored : List X → Type 0) (Spells : json.Data → List X → Type 0)
