@@ -1,5 +1,5 @@
 -- Objects of one member, and of two.
-use Rattle.std.proofs.Common.{◌≡◌, ℕ, ◌<◌, List, [], ◌∷◌, ◌⊎◌, length, false, Option, Some, Less, Greater, inl, inr, refl, sym, ap, subst, ◌∙◌, arith}
+use Rattle.std.proofs.Common.{◌≡◌, ℕ, ◌<◌, List, [], ◌∷◌, ◌⊎◌, length, false, Some, Less, Greater, inl, inr, refl, ap, subst, ◌∙◌, arith}
 use Rattle.std.specs.Ordering.{nat_cmp, ordering_reverse}
 use Rattle.std.specs.Cmp.Lexicographic.{slice_cmp}
 use Rattle.std.proofs.lemmas.List.{length-append}
@@ -8,7 +8,7 @@ use Rattle.json.specs.Find as find
 use Rattle.json.specs.Json as text
 use Rattle.json.specs.Token.{Token}
 use Rattle.json.specs.Tree.{json_tokens}
-use Rattle.serde_json.specs.Data.{Data, null, boolean, number, string, array, object, no_members, member}
+use Rattle.serde_json.specs.Data.{Data, boolean, number, string, array, object, no_members, member}
 use Rattle.serde_json.specs.Read.{of_json, of_items, of_members, number_of}
 use Rattle.json_model.specs.Forms.{HasOnly, HasBoth}
 use Rattle.json_model.specs.Members.{is_null}

@@ -6,7 +6,7 @@ use Rattle.document_keys.specs.Names.{Root, IsKey, name_text}
 use Rattle.json.specs.Json as text
 use Rattle.json.specs.Value.{value_view, items_view}
 use Rattle.json.specs.declared.value.Value.{Value}
-use Rattle.serde_json.specs.Data.{Data, Items, string, array, object as an_object, no_items, no_members, member}
+use Rattle.serde_json.specs.Data.{Data, string, no_items, no_members, member}
 use Rattle.serde_json.specs.Read.{of_json}
 use Rattle.value_model.specs.Data.{Entries}
 use Rattle.value_model.specs.Storable.{IsStorableKey}

@@ -1,7 +1,6 @@
-use Rattle.std.proofs.Common.{rules, ap, subst, ◌∙◌}
+use Rattle.std.proofs.Common.{rules, ap, ◌∙◌}
 use Rattle.std.specs.Str.{IsUtf8}
 use Rattle.std.proofs.lemmas.List.Elements.{All-nil}
-use Rattle.document_keys.specs.Paths.{IsFieldName}
 use Rattle.json.specs.Value.{value_view}
 use Rattle.json.proofs.Trees.{view-Array, view-Object}
 use Rattle.value_model.specs.Storable.{AreStorable}

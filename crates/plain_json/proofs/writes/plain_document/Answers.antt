@@ -1,4 +1,4 @@
-use Rattle.std.proofs.Common.{rules, refl}
+use Rattle.std.proofs.Common.{refl}
 use Rattle.plain_json.proofs.Updates.{document}
 use Rattle.plain_json.proofs.writes.plain_document.Goals as goal
 
