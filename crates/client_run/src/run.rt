@@ -15,8 +15,8 @@ use crate::status::Status;
 use disk_journal::OpenFault;
 use document_keys::Database;
 use host_api::{Host, Line, Source, SourceFault};
-use json::Scratch;
 use line_reader::read_item;
+use plain_json::Room;
 use std::alloc::Global;
 use std::mem;
 use sync_engine::Client;
@@ -45,7 +45,7 @@ fn serve<S: Source, H: Host>(
         (H.view host.old) (H.view host.new) }
 {
     let mut text = Vec::new(alloc);
-    let mut scratch = Scratch::new(alloc);
+    let mut room = Room::new(alloc);
     for handled in 0..budget {
         let line = match source.line(alloc, &mut text) {
             Ok(line) => line,
@@ -55,8 +55,7 @@ fn serve<S: Source, H: Host>(
         if let Line::End = line {
             return Status::Done;
         }
-        let Ok(reading) = read_item(alloc, client.root(), line, text.as_slice(), &mut scratch)
-        else {
+        let Ok(reading) = read_item(alloc, client.root(), line, text.as_slice(), &mut room) else {
             return Status::NoMemory;
         };
         match handle(alloc, host, client, handled + 1, reading) {

@@ -16,10 +16,9 @@ ghost use Rattle.line_reader.specs.Spelled.{HoldsStorable};
 
 use crate::raw_event::RawEvent;
 use document_keys::{Database, NoMemory};
-use json::{Scratch, Value as Tree};
 use json_model::{Setting, Side};
 use mutations::Writes;
-use plain_json::{both_under, only_under, parse, plain_writes};
+use plain_json::{Room, Tree, both_under, only_under, parse, plain_writes};
 use std::alloc::Global;
 use std::str;
 use value_model::Timestamp;
@@ -67,8 +66,8 @@ fn plain_batch(
 
 /// Whether a line begins and ends as that of a plain batch does, spelled without blanks. Behind a mask, transforms or a condition
 /// on existence a line ends in another way, so that few are read twice.
-fn may_be_plain(text: &str) -> bool {
-    text.starts_with("{\"write\"") && (text.ends_with("}}}]}}") || text.ends_with("\"}}]}}"))
+fn may_be_plain(text: &[u8]) -> bool {
+    text.starts_with(b"{\"write\"") && (text.ends_with(b"}}}]}}") || text.ends_with(b"\"}}]}}"))
 }
 
 /// What a line spells that begins and ends as that of a batch does, where the batch is of the form of `plain_writes`. Then the
@@ -77,22 +76,22 @@ pub(crate) fn read_batch_line(
     alloc: Global,
     root: &Database,
     text: &[u8],
-    scratch: &mut Scratch,
+    room: &mut Room,
 ) -> Result<Option<RawEvent>, NoMemory>
     ensures is { IfBuilt result (IsLineOf root.now text.now) }
     ensures storable { IfBuilt result HoldsStorable }
 {
-    let Ok(text) = str::from_utf8(text) else {
-        return Ok(None);
-    };
     if !may_be_plain(text) {
         return Ok(None);
     }
+    let Ok(text) = str::from_utf8(text) else {
+        return Ok(None);
+    };
     let setting = Setting {
         side: Side::Caller,
         root,
     };
-    let Some(tree) = parse(alloc, text, scratch)? else {
+    let Some(tree) = parse(alloc, text, room)? else {
         return Ok(None);
     };
     plain_batch(alloc, &setting, &tree)

@@ -10,7 +10,7 @@ use crate::refusal::{Refusal, refusal_of};
 use crate::tree::read_tree;
 use document_keys::{Database, NoMemory, Text};
 use host_api::Line;
-use json::Scratch;
+use plain_json::Room;
 use serde_json::Value as Json;
 use std::alloc::Global;
 
@@ -31,12 +31,12 @@ fn read_line(
     alloc: Global,
     root: &Database,
     text: &[u8],
-    scratch: &mut Scratch,
+    room: &mut Room,
 ) -> Result<Reading, NoMemory>
     ensures is { IfOk result (λ reading. Reads root.now (Bytes text.now) reading) }
     ensures spelled { IfOk result IsSpelledReading }
 {
-    if let Some(batch) = read_batch_line(alloc, root, text, scratch)? {
+    if let Some(batch) = read_batch_line(alloc, root, text, room)? {
         return batch.read(alloc);
     }
     let json = match Json::from_slice(alloc, text) {
@@ -55,7 +55,7 @@ fn read_line(
 /// line is too long; it isn't JSON in UTF-8, or is JSON with faults, of which the first of the least kind is told; it has no
 /// writes, or too many; its query breaks a rule, of which the least is told. A message of either stream with faults is an event,
 /// which tells the member of the first of the least kind. What an event commits, or brings to a later commit, has a spelling.
-/// `scratch` is room for the parser, which may be kept from line to line: what stands in it is nothing to the next one.
+/// `room` is what trees are read into, and may be kept from line to line: what stands in it is nothing to the next one.
 ///
 /// # Errors
 /// `NoMemory`
@@ -64,14 +64,14 @@ pub fn read_item(
     root: &Database,
     line: Line,
     text: &[u8],
-    scratch: &mut Scratch,
+    room: &mut Room,
 ) -> Result<Reading, NoMemory>
     requires { line ≢ Line.End }
     ensures is { IfOk result (λ reading. Reads root.now (item_of line text.now) reading) }
     ensures spelled { IfOk result IsSpelledReading }
 {
     match line {
-        Line::Text => read_line(alloc, root, text, scratch),
+        Line::Text => read_line(alloc, root, text, room),
         Line::TooLong => Ok(Reading::Refused(Refusal::LineTooLong)),
         Line::End => unreachable!(),
     }

@@ -2,10 +2,9 @@
 
 use crate::faults::root;
 use document_keys::Database;
-use json::Scratch;
 use json_model::{Setting, Side};
 use mutations::Write;
-use plain_json::{parse, plain_writes};
+use plain_json::{Room, parse, plain_writes};
 use std::alloc::Global;
 use std::process::Abort;
 use std::test::Fail;
@@ -46,9 +45,13 @@ static LISTS: [(&str, Option<usize>); 11] = [
     (r#"[] []"#, None),
 ];
 
-fn count_built(alloc: Global, root: &Database, text: &str) -> Result<Option<usize>, Fail> {
-    let mut scratch = Scratch::new(alloc);
-    let Some(tree) = parse(alloc, text, &mut scratch)? else {
+fn count_built(
+    alloc: Global,
+    room: &mut Room,
+    root: &Database,
+    text: &str,
+) -> Result<Option<usize>, Fail> {
+    let Some(tree) = parse(alloc, text, room)? else {
         return Ok(None);
     };
     let setting = Setting {
@@ -59,16 +62,34 @@ fn count_built(alloc: Global, root: &Database, text: &str) -> Result<Option<usiz
     Ok(writes.map(|writes| writes.len()))
 }
 
-fn check_lists(rt: &(impl Abort + AllocGlobal), root: &Database) -> Result<(), Fail> {
+fn check_lists(
+    rt: &(impl Abort + AllocGlobal),
+    room: &mut Room,
+    root: &Database,
+) -> Result<(), Fail> {
     for (text, count) in LISTS {
-        let built = count_built(rt.alloc(), root, text)?;
+        let built = count_built(rt.alloc(), room, root, text)?;
         assert!(rt; built == count, "{text}");
     }
     Ok(())
 }
 
+// a list whose tree takes more of the room than is kept for the next one
+fn has_long_tree(alloc: Global, room: &mut Room) -> Result<bool, Fail> {
+    let mut text = String::from_str(alloc, "[")?;
+    for _ in 0..50_000 {
+        text.push_str("null,")?;
+    }
+    text.push_str("null]")?;
+    let tree = parse(alloc, text.as_str(), room)?;
+    Ok(tree.is_some())
+}
+
 #[test]
 fn writes_in_one_pass(rt: HostRuntime) -> Result<(), Fail> {
     let root = root(rt.alloc())?;
-    check_lists(&rt, &root)
+    let mut room = Room::new(rt.alloc());
+    check_lists(&rt, &mut room, &root)?;
+    assert!(rt; has_long_tree(rt.alloc(), &mut room)?);
+    check_lists(&rt, &mut room, &root)
 }

@@ -8,11 +8,13 @@
 //! a tree over borrowed text stands for.
 #![tactic(auto)]
 
+mod room;
 mod scalars;
 mod tree;
 mod values;
 mod writes;
 
+pub use room::{Room, Tree};
 pub use tree::{both_under, only_under, parse};
 pub use values::plain_fields;
 pub use writes::plain_writes;

@@ -8,8 +8,8 @@ ghost use Rattle.json_model.specs.Scalars.{IsReadScalar};
 ghost use Rattle.std.specs.Prelude.{IfSome};
 ghost use Rattle.plain_json.specs.Trees.{StandsFor};
 
+use crate::room::Tree;
 use document_keys::{NoMemory, Text};
-use json::Value as Tree;
 use json_model::{Leaf, read_bytes, read_integer, read_reference, show_text};
 use std::alloc::Global;
 use value_model::{Bytes, Kind, Timestamp, Value};

@@ -8,26 +8,29 @@ ghost use Rattle.json.specs.Value.{value_view};
 ghost use Rattle.json_model.specs.Built.{IfBuilt};
 ghost use Rattle.plain_json.specs.Trees.{HoldsOnly, HoldsBoth};
 
+use crate::room::{Room, Tree};
 use document_keys::NoMemory;
-use json::{Error, Reader, Scratch, Value as Tree};
+use json::{Error, Reader, Value};
 use std::alloc::Global;
 
 /// How many arrays and objects may nest in a text, as in a line that is read into a tree of its own.
 const MAX_DEPTH: usize = 127;
 
-/// The tree of a text, where that is JSON in which at most 127 arrays and objects nest. Of none nothing is said.
+/// The tree of a text, where that is JSON in which at most 127 arrays and objects nest. Of none nothing is said. What stood in the
+/// room before is nothing to it.
 ///
 /// # Errors
 /// `NoMemory`
 pub fn parse<'a>(
     alloc: Global,
     text: &'a str,
-    scratch: &'a mut Scratch,
+    room: &'a mut Room,
 ) -> Result<Option<Tree<'a>>, NoMemory>
     ensures { IfBuilt result (λ tree. value 127 (tokens text.now) ≡ Some (value_view tree, [])) }
 {
-    let mut reader = Reader::new(text, scratch)?;
-    match Tree::read(alloc, &mut reader, MAX_DEPTH) {
+    room.clear(alloc);
+    let mut reader = Reader::new(text, &mut room.texts)?;
+    match Value::read(&room.nodes, &mut reader, MAX_DEPTH) {
         Ok(tree) => {
             if reader.next().is_some() {
                 return Ok(None);

@@ -12,10 +12,10 @@ ghost use Rattle.json_model.specs.Built.{IfBuilt};
 ghost use Rattle.json_model.specs.Grammar.{SpellsValue, SpellsKind, SpellsList, SpellsFields};
 ghost use Rattle.plain_json.specs.Trees.{AreStoredFields, IsBuiltOf, StandsFor};
 
+use crate::room::Tree;
 use crate::scalars::plain_scalar;
 use crate::tree::{only_member, only_under};
 use document_keys::{NoMemory, Text, check_field_name};
-use json::Value as Tree;
 use json_model::{Object, Place, Setting, show_text, value_member};
 use std::alloc::Global;
 use value_model::{Fields, Value};

@@ -16,10 +16,10 @@ ghost use Rattle.json_rpc.specs.Storable.{IsStorableWrite};
 ghost use Rattle.plain_json.specs.Trees.{IsBuiltOf, StandsFor};
 ghost use Rattle.plain_json.specs.Updates.{IsStoredUpdate, SpellsUpdated};
 
+use crate::room::Tree;
 use crate::tree::{both_under, only_under};
 use crate::values::plain_fields;
 use document_keys::{DocumentKey, NameFault, NoMemory};
-use json::Value as Tree;
 use json_model::{MAX_NESTING, Setting, show_key};
 use mutations::{Precondition, Transforms, Write};
 use std::alloc::Global;

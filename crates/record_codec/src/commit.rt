@@ -11,6 +11,9 @@ use record_parts::ReadError;
 use std::alloc::Global;
 use value_model::Timestamp;
 
+/// So many bytes are taken for a commit at once: most have no more, and need no room beside it.
+const USUAL_COMMIT: usize = 1000;
+
 /// One step of the durable state.
 #[derive(Debug, Drop)]
 pub enum Commit {
@@ -55,7 +58,7 @@ pub enum Commit {
 pub fn encode(alloc: Global, commit: &Commit) -> Result<Vec<u8>, NoMemory>
     ensures { IfOk result (λ bytes. bytes.items ≡ spelling commit.now) }
 {
-    let mut bytes = Vec::new(alloc);
+    let mut bytes = Vec::with_capacity(alloc, USUAL_COMMIT)?;
     put_commit(&mut bytes, commit)?;
     Ok(bytes)
 }

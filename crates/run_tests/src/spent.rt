@@ -10,8 +10,8 @@ use crate::stops::last_call;
 use client_events::Event;
 use document_keys::Database;
 use host_api::{Host, Line};
-use json::Scratch;
 use line_reader::{Reading, read_item};
+use plain_json::Room;
 use std::alloc::Global;
 use std::process::Abort;
 use std::test::Fail;
@@ -21,8 +21,8 @@ use sync_engine::{Client, ClientFault};
 fn event_of(alloc: Global, root: &Database, line: &str) -> Result<Event, Fail>
     ensures { IfOk result IsSpelledEvent }
 {
-    let mut scratch = Scratch::new(alloc);
-    match read_item(alloc, root, Line::Text, line.as_bytes(), &mut scratch)? {
+    let mut room = Room::new(alloc);
+    match read_item(alloc, root, Line::Text, line.as_bytes(), &mut room)? {
         Reading::Line(event) => Ok(event),
         Reading::Refused(_) => Err("the line is an event".into()),
     }
