@@ -9,8 +9,8 @@ mod usage;
 mod words;
 
 use crate::usage::print_usage;
-use crate::words::{folder_of, words_of};
-use client_run::{Status, run_client};
+use crate::words::words_of;
+use client_run::{Status, folder_of, run_client};
 use host_api::{FileHost, StdSource};
 use std::env::Env;
 use std::fs::Files;

@@ -29,3 +29,9 @@ pub record AsksRun (words : List (List ℕ)) (root : Root) : Type 0 where
 -- the words ask for no run
 abbrev pub AsksNothing : List (List ℕ) → Type 0
 AsksNothing words = (root : Root) → ¬ AsksRun words root
+
+-- the folder: the second word, or nothing where there is none
+abbrev pub folder_in : List (List ℕ) → List ℕ
+folder_in [] = []
+folder_in (command ∷ []) = []
+folder_in (command ∷ (folder ∷ rest)) = folder

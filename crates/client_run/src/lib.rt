@@ -20,3 +20,4 @@ pub use client::run_client;
 pub use laws::{a_history_is_one, a_turn_reports_within, runs_chain, runs_write_in_order};
 pub use run::run_within;
 pub use status::Status;
+pub use words::folder_of;

@@ -1,10 +1,10 @@
 ghost use Rattle.std.specs.Prelude.{◌≡◌, ◌≢◌, ◌↔◌, [], ◌∷◌, length, map, codes, IsTrue, IfOk, MatchOption};
 ghost use Rattle.std.specs.String.{string_bytes};
 ghost use Rattle.document_keys.specs.Names.{Root, IsRoot, root_text};
-ghost use Rattle.client_run.specs.Words.{AsksRun, IsFolder, default_root};
+ghost use Rattle.client_run.specs.Words.{AsksRun, IsFolder, default_root, folder_in};
 
 use document_keys::{Database, NameFault, NoMemory, Segment};
-use std::alloc::Global;
+use std::alloc::{AllocError, Global};
 
 /// Whether the word is a folder: not empty, and without `-` at its front.
 fn is_folder(word: &str) -> bool
@@ -100,4 +100,17 @@ pub fn asked_database(alloc: Global, words: &[String]) -> Result<Option<Database
         return Ok(None);
     }
     named_database(alloc, database)
+}
+
+/// The folder that the words name: the second one, or else nothing.
+///
+/// # Errors
+/// `AllocError` where no memory was found for it.
+pub fn folder_of(alloc: Global, words: &[String]) -> Result<String, AllocError>
+    ensures { IfOk result (λ folder. string_bytes folder ≡ folder_in (map string_bytes words.now)) }
+{
+    match words {
+        [_, folder, ..] => String::from_str(alloc, folder.as_str()),
+        _ => Ok(String::new(alloc)),
+    }
 }

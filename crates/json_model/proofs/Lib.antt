@@ -27,7 +27,6 @@ pub mod Fitting
 pub mod Operands
 pub mod Once
 pub mod Deep
-pub mod OnePass
 pub mod ReadBack
 pub mod Spelling
 pub mod Answered

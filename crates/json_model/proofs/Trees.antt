@@ -18,12 +18,6 @@ pub array_at : (d : Tree) (ds : Items) → Some ds ≡ as_array d → d ≡ arra
 array_at (array es) ds is = let e : es ≡ ds = cc in ap array e
 array_at _ ds is = cc
 
-pub object_depth : (d : Tree) (ms : Members) → Some ms ≡ as_object d → depth d ≡ suc (members_depth ms)
-object_depth d ms is = ap depth (object_at d ms is)
-
-pub array_depth : (d : Tree) (ds : Items) → Some ds ≡ as_array d → depth d ≡ suc (items_depth ds)
-array_depth d ds is = ap depth (array_at d ds is)
-
 -- one of the members is inside
 pub among_depth : (ms : Members) (k : List ℕ) (d : Tree) → Among k d ms → depth d ≤ members_depth ms
 among_depth no_members k d at = absurd at

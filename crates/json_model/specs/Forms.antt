@@ -1,9 +1,9 @@
 -- Forms that the trees of messages share: how objects and lists spell what they stand for.
-use Rattle.std.specs.Prelude.{◌≡◌, ℕ, List, [], ◌∷◌, false, Option, Some, None}
-use Rattle.serde_json.specs.Data.{Data as Json, array, object as an_object, Items, no_items, item, Members, no_members, member}
+use Rattle.std.specs.Prelude.{◌≡◌, ℕ, List, [], ◌∷◌, Option, Some, None}
+use Rattle.serde_json.specs.Data.{Data as Json, array, Items, no_items, item, Members, no_members, member}
 use Rattle.serde_json.specs.Find.{as_object, as_array}
 use Rattle.json_model.specs.declared.place.Object.{Object}
-use Rattle.json_model.specs.Members.{is_null, chosen}
+use Rattle.json_model.specs.Members.{chosen}
 
 -- a member that is there, and spells what it is to
 pub record IsGiven (found : Option Json) (Spells : Json → Type 0) : Type 0 where
@@ -25,17 +25,6 @@ pub record ByChoice (kind : Object) (d : Json) (Spells : Members → List ℕ �
   pub inner : Json
   pub only : chosen kind members ≡ (name, inner) ∷ []
   pub spells : Spells members name inner
-
--- an object of just this member, which isn't left out
-pub record HasOnly (name : List ℕ) (inner d : Json) : Type 0 where
-  pub is : d ≡ an_object (member name inner no_members)
-  pub there : is_null inner ≡ false
-
--- an object of just these two, neither of which is left out
-pub record HasBoth (first second : List ℕ) (before behind d : Json) : Type 0 where
-  pub is : d ≡ an_object (member first before (member second behind no_members))
-  pub one : is_null before ≡ false
-  pub other : is_null behind ≡ false
 
 -- the items of a list spell these, one each, in their order
 pub data Each {X : Type 0} (Spells : Json → X → Type 0) : Items → List X → Type 0 where

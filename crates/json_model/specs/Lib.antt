@@ -1,5 +1,4 @@
 pub mod Ascending
-pub mod Built
 pub mod Bytes
 pub mod Clean
 pub mod Constants

@@ -2,10 +2,9 @@
 //! values are printed. `specs/Printed.antt` has the tree of a document too.
 //!
 //! A `Place` says what is to stand at a place of a tree: an `Object` or a `Series` that is looked into, or a `Leaf`. The tables
-//! say which members an object has (`table.rt`). `find_fault` walks a tree by them and answers its first fault of the least kind,
-//! `check` the same as a `Result`. What has no fault is taken apart by `clean_object`, `clean_list`, `clean_member`,
-//! `clean_choice` and the readers of leaves, which are total. A new message is some rows of tables and a builder over these.
-//! Fields of the plain form are built without a walk: what `plain_fields` builds has no fault (`plain.rt`).
+//! say which members an object has (`table.rt`). `check` walks a tree by them and answers its first fault of the least kind
+//! (`walk.rt`). What has no fault is taken apart by `clean_object`, `clean_list`, `clean_member`, `clean_choice` and the readers
+//! of leaves, which are total. A new message is some rows of tables and a builder over these.
 #![tactic(auto)]
 
 mod bytes;
@@ -21,7 +20,6 @@ mod names;
 mod numbers;
 mod objects;
 mod place;
-mod plain;
 mod printing;
 mod reading;
 mod required;
@@ -45,17 +43,14 @@ pub use laws::{
     a_tree_spells_once, faults_are_one, fits_without_faults, no_fault_spells,
     printed_fields_read_back, read_ascends,
 };
-pub use members::{given, only_choice, refined};
-pub use names::read_reference;
+pub use members::{given, refined};
+pub use names::{read_names, read_reference};
 pub use numbers::{read_integer, read_whole};
 pub use objects::{put_given, put_member, text_tree, unless_empty};
 pub use place::{Constants, Leaf, Object, Place, Series};
-pub use plain::{both_under, only_under, plain_fields};
 pub use printing::{print_fields, print_value, reference_text};
 pub use reading::{MAX_NESTING, clean_fields, clean_value, clean_values, read_fields, read_name};
-pub use scalars::read_time;
 pub use setting::Setting;
 pub use side::Side;
-pub use table::{member_place, value_member};
-pub use texts::{show_key, show_text};
-pub use walk::find_fault;
+pub use table::value_member;
+pub use texts::{show_key, show_path, show_text};

@@ -92,7 +92,7 @@ fn only_name(object: Object, members: &Map<String, Json>) -> &str
 
 /// The alternative that is given, with its name, where exactly one is and it is known.
 #[tactic(auto, using(crate::proofs::Choices::kind_known))]
-pub fn only_choice(object: Object, members: &Map<String, Json>) -> Option<(&str, &Json)>
+pub(crate) fn only_choice(object: Object, members: &Map<String, Json>) -> Option<(&str, &Json)>
     ensures { MatchOption result
         (is_one_known object (chosen_of object (members_view members.now.entries)) ≡ false)
         (λ kind. (chosen_of object (members_view members.now.entries) ≡ (kind.0.now, view kind.1.now) ∷ []) × (is_unknown_of (member_place_of object kind.0.now) ≡ false)) }

@@ -187,8 +187,12 @@ fn has_many_names(alloc: Global, text: &str) -> Result<bool, NoMemory>
 }
 
 /// The path of a field of a document that the text spells, whatever the number of its names.
+///
+/// # Errors
+/// `BadName`: `BadPath` where the text isn't of the form of a path or a name doesn't have 1 to 1,500 bytes, `ReservedField` where a
+/// name is of the form `__.*__`; or `NoMemory`.
 #[tactic(auto, using(crate::proofs::OneLeaf::document_name))]
-fn read_names(alloc: Global, text: &str) -> Result<FieldPath, JsonFault>
+pub fn read_names(alloc: Global, text: &str) -> Result<FieldPath, JsonFault>
     ensures path { IfOk result (λ path. SpellsPath text.now path × All IsFieldName path) }
     ensures fault { IfErr result (λ fault. IsNameFault (HasFieldPathFault text.now) text.now fault) }
 {

@@ -38,7 +38,7 @@ fn boolean_value(json: &Json) -> Option<Value>
 }
 
 /// The time that the tree spells.
-pub fn read_time(json: &Json) -> Option<Timestamp>
+pub(crate) fn read_time(json: &Json) -> Option<Timestamp>
     ensures { MatchOption result ((time : Moment) → SpellsTime (view json.now) time → ⊥)
         (λ time. SpellsTime (view json.now) time × IsMoment time) }
 {

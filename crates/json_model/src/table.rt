@@ -476,7 +476,7 @@ fn lone_member(object: Object, name: &str) -> Place
 }
 
 /// The place of the member of that name.
-pub fn member_place(object: Object, name: &str) -> Place
+pub(crate) fn member_place(object: Object, name: &str) -> Place
     ensures { result ≡ table.member_place object name.now }
 {
     match object {

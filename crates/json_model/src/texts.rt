@@ -32,7 +32,7 @@ pub fn show_key(key: &DocumentKey)
 }
 
 /// A path has names, which are texts.
-pub(crate) fn show_path(path: &FieldPath)
+pub fn show_path(path: &FieldPath)
     ensures some { 0 < length path.now }
     ensures utf8 { All IsUtf8 path.now }
 {

@@ -119,7 +119,7 @@ fn depth_fault(limit: u64, levels: u64) -> Option<JsonFault>
 /// # Errors
 /// `NoMemory` alone.
 #[cycle(find)]
-pub fn find_fault(
+pub(crate) fn find_fault(
     alloc: Global,
     setting: &Setting<'_>,
     limit: u64,

@@ -8,4 +8,3 @@ pub mod Parts
 pub mod ReadBack
 pub mod Digits
 pub mod Answered
-pub mod OnePass

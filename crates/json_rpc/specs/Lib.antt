@@ -1,4 +1,3 @@
-pub mod Beside
 pub mod Faults
 pub mod Grammar
 pub mod Laws

@@ -95,7 +95,7 @@ fn clean_shared_fields(
 
 /// An update of a document, with what stands beside it.
 #[tactic(auto, unfolding(json_model::specs::Places::write_rows))]
-pub(crate) fn clean_beside(
+fn clean_beside(
     alloc: Global,
     setting: &Setting<'_>,
     members: &Map<String, Json>,

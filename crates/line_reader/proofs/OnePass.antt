@@ -5,19 +5,16 @@ use Rattle.std.specs.Prelude.{Some, IsUtf8}
 use Rattle.document_keys.specs.Names.{Root}
 use Rattle.json.specs.Json as text
 use Rattle.json.specs.Lex.{tokens}
-use Rattle.serde_json.specs.Data.{Data, string, no_members, member}
+use Rattle.serde_json.specs.Data.{Data, no_members, member}
 use Rattle.serde_json.specs.Find.{as_object}
-use Rattle.serde_json.specs.Read.{of_json}
-use Rattle.value_model.specs.Time.{time_of}
 use Rattle.value_model.specs.declared.timestamp.Timestamp.{Timestamp}
 use Rattle.json_model.specs.declared.place.Leaf.TheVariants as leaf
 use Rattle.json_model.specs.declared.place.Object.TheVariants as object
 use Rattle.json_model.specs.declared.place.Place.TheVariants as place
 use Rattle.json_model.specs.declared.place.Series.TheVariants as series
-use Rattle.json_model.specs.Built.{IfBuilt}
 use Rattle.json_model.specs.Faults.{max_nesting}
 use Rattle.json_model.specs.Fits.{Fits, MembersFit}
-use Rattle.json_model.specs.Forms.{HasOnly, HasBoth, SpellsEach}
+use Rattle.json_model.specs.Forms.{SpellsEach}
 use Rattle.json_model.specs.Grammar.{SpellsTime}
 use Rattle.json_model.specs.Origin.{Origin}
 use Rattle.json_model.specs.Places.{line_rows, write_line_rows}
@@ -26,7 +23,8 @@ use Rattle.json_model.proofs.Sound.{not_out}
 use Rattle.json_rpc.specs.Grammar.{SpellsWrite}
 use Rattle.json_rpc.specs.Storable.{IsStorableWrite}
 use Rattle.mutations.specs.declared.write.Write.{Write}
-use Rattle.plain_json.specs.Trees.{HoldsOnly, HoldsBoth, StandsFor, IsBuiltOf}
+use Rattle.plain_json.specs.Built.{IfBuilt}
+use Rattle.plain_json.specs.Trees.{HoldsOnly, HoldsBoth, HasOnly, HasBoth, StandsFor, IsBuiltOf}
 use Rattle.plain_json.proofs.Members.{only, both}
 use Rattle.plain_json.proofs.Parsed.{whole}
 use Rattle.line_reader.specs.Faults.{caller}
@@ -47,7 +45,7 @@ batch_fits o limit at writes line time both spelled fits =
     (flat_object_fits o limit object.WriteLine (member (codes "at") at (member (codes "writes") writes no_members)) refl refl refl
     (rw both.one refl, inr (not_out (place.Leaf leaf.Time) at both.one, (tt, time_fits o limit at time spelled)), last))
 
-pub line_fits : (o : Origin) (limit : ℕ) (at writes line d : Data) (time : Timestamp) → HasOnly (codes "write") line d → HasBoth (codes "at") (codes "writes") at writes line → SpellsTime at time
+line_fits : (o : Origin) (limit : ℕ) (at writes line d : Data) (time : Timestamp) → HasOnly (codes "write") line d → HasBoth (codes "at") (codes "writes") at writes line → SpellsTime at time
     → Fits o limit (place.Series series.Writes) writes → Fits o limit (place.Object object.Line) d
 unfolding Fits line_rows
 line_fits o limit at writes line d time only both spelled fits =
@@ -55,7 +53,7 @@ line_fits o limit at writes line d time only both spelled fits =
     (flat_object_fits o limit object.Line (member (codes "write") line no_members) (rw only.there refl) refl refl
     (refl, inr (not_out (place.Object object.WriteLine) line only.there, (tt, batch_fits o limit at writes line time both spelled fits)), refl))
 
-pub line_spelled : (root : Root) (at writes line d : Data) (time : Timestamp) (batch : List Write) → HasOnly (codes "write") line d → HasBoth (codes "at") (codes "writes") at writes line → SpellsTime at time
+line_spelled : (root : Root) (at writes line d : Data) (time : Timestamp) (batch : List Write) → HasOnly (codes "write") line d → HasBoth (codes "at") (codes "writes") at writes line → SpellsTime at time
     → SpellsEach (SpellsWrite root) (Some writes) batch → Spells root d (raw.Write time batch)
 unfolding line_rows
 line_spelled root at writes line d time batch only both spelled each = record {
@@ -77,10 +75,7 @@ line_spelled root at writes line d time batch only both spelled each = record {
   );
 }
 
--- ---- the same of a tree that borrows from the line
-
-pub time_stands : (tree : text.Json) (content : List ℕ) (time : Timestamp) → tree ≡ text.string content → Some time ≡ time_of content → StandsFor tree (λ d. SpellsTime d time)
-time_stands tree content time is spelled = record { seen = string content; is = ap of_json is; holds = (content, (refl, sym spelled)) }
+-- ---- a tree that borrows from the line
 
 pub batch_stands : (o : Origin) (tree line at writes : text.Json) (time : Timestamp) (batch : List Write) → HoldsOnly tree (codes "write") line
     → HoldsBoth line (codes "at") (codes "writes") at writes → StandsFor at (λ d. SpellsTime d time)

@@ -1,14 +1,11 @@
 //! The line of a batch in the plain form, built in one pass of a tree that borrows from the line.
 
-ghost use Rattle.std.specs.Prelude.{IfSome};
 ghost use Rattle.json.specs.Value.{value_view};
-ghost use Rattle.value_model.specs.Time.{IsMoment};
 ghost use Rattle.json_model.specs.declared.place.Object.TheVariants as objects;
 ghost use Rattle.json_model.specs.declared.place.Place.TheVariants as places;
-ghost use Rattle.json_model.specs.Built.{IfBuilt};
 ghost use Rattle.json_model.specs.Faults.{max_nesting};
 ghost use Rattle.json_model.specs.Fits.{Fits};
-ghost use Rattle.json_model.specs.Grammar.{SpellsTime};
+ghost use Rattle.plain_json.specs.Built.{IfBuilt};
 ghost use Rattle.plain_json.specs.Trees.{StandsFor};
 ghost use Rattle.line_reader.specs.Grammar.{Spells};
 ghost use Rattle.line_reader.specs.Reading.{IsLineOf};
@@ -18,22 +15,9 @@ use crate::raw_event::RawEvent;
 use document_keys::{Database, NoMemory};
 use json_model::{Setting, Side};
 use mutations::Writes;
-use plain_json::{Room, Tree, both_under, only_under, parse, plain_writes};
+use plain_json::{Room, Tree, both_under, only_under, parse, plain_time, plain_writes};
 use std::alloc::Global;
 use std::str;
-use value_model::Timestamp;
-
-/// The time that the tree spells.
-fn plain_time(tree: &Tree<'_>) -> Option<Timestamp>
-    ensures is { IfSome result (λ at. StandsFor (value_view tree.now) (λ d. SpellsTime d at)) }
-    ensures moment { IfSome result IsMoment }
-{
-    let Tree::String(text) = tree else {
-        return None;
-    };
-    let at = Timestamp::read(text)?;
-    Some(at)
-}
 
 /// The batch that the tree of a line spells, with its time.
 fn plain_batch(
@@ -64,10 +48,10 @@ fn plain_batch(
     }))
 }
 
-/// Whether a line begins and ends as that of a plain batch does, spelled without blanks. Behind a mask, transforms or a condition
-/// on existence a line ends in another way, so that few are read twice.
+/// Whether a line begins and ends as that of a plain batch does, spelled without blanks. Behind transforms or a delete a line ends
+/// in another way, so that few are read twice.
 fn may_be_plain(text: &[u8]) -> bool {
-    text.starts_with(b"{\"write\"") && (text.ends_with(b"}}}]}}") || text.ends_with(b"\"}}]}}"))
+    text.starts_with(b"{\"write\"") && text.ends_with(b"}}]}}")
 }
 
 /// What a line spells that begins and ends as that of a batch does, where the batch is of the form of `plain_writes`. Then the

@@ -9,10 +9,8 @@ ghost use Rattle.json_model.specs.declared.place.Constants.TheVariants as consta
 ghost use Rattle.json_model.specs.declared.place.Leaf.TheVariants as leaves;
 ghost use Rattle.json_model.specs.declared.place.Object.TheVariants as objects;
 ghost use Rattle.json_model.specs.declared.place.Place.TheVariants as places;
-ghost use Rattle.json_model.specs.Built.{IfBuilt};
 ghost use Rattle.json_model.specs.Clean.{IsClean, AreClean};
-ghost use Rattle.json_model.specs.Faults.{IsFault, max_nesting};
-ghost use Rattle.json_model.specs.Fits.{Fits};
+ghost use Rattle.json_model.specs.Faults.{IsFault};
 ghost use Rattle.json_model.specs.Forms.{IsGiven, SpellsEach};
 ghost use Rattle.json_model.specs.Grammar.{SpellsTime};
 ghost use Rattle.json_model.specs.Members.{given};
@@ -30,12 +28,11 @@ use crate::refusal::member_of;
 use document_keys::{Database, NoMemory, Text};
 use json_messages::{clean_status, read_listen_response, read_write_response};
 use json_model::{
-    Constants, JsonFault, MAX_NESTING, Object, Place, Setting, Side, both_under, check,
-    clean_choice, clean_constant, clean_listener_id, clean_member, clean_name, clean_object,
-    clean_time, only_under, read_time,
+    Constants, JsonFault, MAX_NESTING, Object, Place, Setting, Side, check, clean_choice,
+    clean_constant, clean_listener_id, clean_member, clean_name, clean_object, clean_time,
 };
 use json_queries::clean_query;
-use json_rpc::{clean_writes, plain_writes};
+use json_rpc::clean_writes;
 use mutations::Writes;
 use queries::RawQuery;
 use serde_json::{Map, Value as Json};
@@ -314,37 +311,6 @@ fn build_event(alloc: Global, setting: &Setting<'_>, json: &Json) -> Result<RawE
     build_named(alloc, setting, name, inner)
 }
 
-/// What the line of a batch holds, built in one pass: a time and writes, in the form of `plain_writes`. Then the line has no
-/// fault. Else none, which says nothing of the line.
-#[tactic(auto, using(crate::proofs::OnePass::line_spelled))]
-fn plain_line(
-    alloc: Global,
-    setting: &Setting<'_>,
-    json: &Json,
-) -> Result<Option<RawEvent>, NoMemory>
-    ensures fits { IfBuilt result (λ _.
-        Fits setting.now max_nesting (places.Object objects.Line) (view json.now)) }
-    ensures event { IfBuilt result (λ event. Spells setting.now.root (view json.now) event) }
-    ensures storable { IfBuilt result HoldsStorable }
-{
-    let Some(line) = only_under(json, "write") else {
-        return Ok(None);
-    };
-    let Some((at, writes)) = both_under(line, "at", "writes") else {
-        return Ok(None);
-    };
-    let Some(at) = read_time(at) else {
-        return Ok(None);
-    };
-    let Some(writes) = plain_writes(alloc, setting, writes)? else {
-        return Ok(None);
-    };
-    Ok(Some(RawEvent::Write {
-        at,
-        writes: Writes::from_vec(writes),
-    }))
-}
-
 /// What the tree of a line spells, with however many writes and whatever query. An unsupported member's value isn't read, and a
 /// message of the backend's has its own faults, which are none of the line.
 ///
@@ -361,9 +327,6 @@ pub(crate) fn read_tree(alloc: Global, root: &Database, json: &Json) -> Result<R
         side: Side::Caller,
         root,
     };
-    if let Some(event) = plain_line(alloc, &setting, json)? {
-        return Ok(event);
-    }
     let place = Place::Object(Object::Line);
     if let Err(fault) = check(alloc, &setting, MAX_NESTING, place, "", json) {
         return Err(fault);

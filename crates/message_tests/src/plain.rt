@@ -10,7 +10,7 @@ use std::process::Abort;
 use std::test::Fail;
 
 // how many writes are built of a text; of none, its tree is of another form
-static LISTS: [(&str, Option<usize>); 11] = [
+static LISTS: [(&str, Option<usize>); 18] = [
     (r#"[]"#, Some(0)),
     (
         r#"[{"update":{"name":"projects/demo/databases/(default)/documents/rooms/a","fields":{}}}]"#,
@@ -30,8 +30,33 @@ static LISTS: [(&str, Option<usize>); 11] = [
     ),
     (
         r#"[{"update":{"name":"projects/demo/databases/(default)/documents/rooms/a","fields":{}},"updateMask":{"fieldPaths":[]}}]"#,
+        Some(1),
+    ),
+    (
+        r#"[{"currentDocument":{"exists":true},"update":{"name":"projects/demo/databases/(default)/documents/rooms/a","fields":{}},"updateMask":{"fieldPaths":["a","b.`c d`"]}},{"updateMask":{"fieldPaths":["a"]},"update":{"name":"projects/demo/databases/(default)/documents/rooms/a","fields":{}},"currentDocument":{"updateTime":"2024-01-01T00:00:00Z"}}]"#,
+        Some(2),
+    ),
+    (
+        r#"[{"update":{"name":"projects/demo/databases/(default)/documents/rooms/a","fields":{}},"updateMask":{}}]"#,
         None,
     ),
+    (
+        r#"[{"update":{"name":"projects/demo/databases/(default)/documents/rooms/a","fields":{}},"updateMask":{"fieldPaths":["__a__"]}}]"#,
+        None,
+    ),
+    (
+        r#"[{"update":{"name":"projects/demo/databases/(default)/documents/rooms/a","fields":{}},"updateMask":{"fieldPaths":["a"]},"updateMask":{"fieldPaths":["b"]}}]"#,
+        None,
+    ),
+    (
+        r#"[{"update":{"name":"projects/demo/databases/(default)/documents/rooms/a","fields":{}},"currentDocument":{"exists":null}}]"#,
+        None,
+    ),
+    (
+        r#"[{"update":{"name":"projects/demo/databases/(default)/documents/rooms/a","fields":{}},"updateTransforms":[]}]"#,
+        None,
+    ),
+    (r#"[{"updateMask":{"fieldPaths":["a"]}}]"#, None),
     (
         r#"[{"delete":"projects/demo/databases/(default)/documents/rooms/a"}]"#,
         None,

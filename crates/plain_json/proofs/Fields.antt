@@ -24,12 +24,12 @@ use Rattle.json_model.specs.Fits.{Fits, MembersFit}
 use Rattle.json_model.specs.Grammar.{SpellsValue, SpellsKind, SpellsFields, SpellsMembers, no_member, a_member}
 use Rattle.json_model.specs.Members.{is_null}
 use Rattle.json_model.specs.Origin.{Origin}
-use Rattle.json_model.proofs.OnePass.{no_member_fits, fields_fit, fields_within, value_there, map_fits, map_kind}
 use Rattle.json_model.proofs.ReadAscending.{chained}
 use Rattle.json_model.proofs.ReadBack.{put_end}
 use Rattle.json_model.proofs.Sound.{not_out}
 use Rattle.json_model.proofs.Stored.{map_stored}
 use Rattle.plain_json.specs.Trees.{HoldsOnly, StandsFor, IsBuiltOf, AreStoredFields}
+use Rattle.plain_json.proofs.Formed.{no_member_fits, fields_fit, fields_within, value_there, map_fits, map_kind}
 use Rattle.plain_json.proofs.Lists.{whole}
 use Rattle.plain_json.proofs.Members.{only}
 
@@ -78,7 +78,7 @@ fit_put o limit (json.member l e ms) name d all named some fits = by (slice_cmp 
     by Equal is later = (refl, inr (not_out (place.Object object.Value) d some, (subst IsFieldName (texts_compute.exact name l is) named, fits)), all.2)
     by Greater is later = (all.0, all.1, later)
 
-seen_push : {A : Type 0} (trees : List (Member A)) (one : Member A) (old new : json.Members) (d : json.Data) → of_members (members_view trees) old ≡ Some new → of_json (value_view one.1) ≡ Some d
+pub seen_push : {A : Type 0} (trees : List (Member A)) (one : Member A) (old new : json.Members) (d : json.Data) → of_members (members_view trees) old ≡ Some new → of_json (value_view one.1) ≡ Some d
     → of_members (members_view (trees ++ one ∷ [])) old ≡ Some (json.put one.0.now d new)
 seen_push [] one old new d all is = let e : old ≡ new = cc in rw is (ap (λ ms. Some (json.put one.0.now d ms)) e)
 seen_push (t ∷ trees) one old new d all is =

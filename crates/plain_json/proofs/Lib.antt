@@ -1,6 +1,11 @@
 pub mod Parsed
 pub mod Members
+pub mod Formed
+pub mod Fitted
 pub mod Single
 pub mod Lists
 pub mod Fields
+pub mod Masked
+pub mod Asked
 pub mod Updates
+pub mod Gathered

@@ -1,6 +1,8 @@
 -- Lists that are built item by item, and the arrays that hold them.
 use Rattle.std.proofs.Common.{◌≡◌, ℕ, suc, ◌+◌, ◌-◌, ◌*◌, ◌<◌, ◌≤◌, ◌^◌, Vec, Global, option_map, List, [], ◌∷◌, ◌++◌, length, take, get_or, Some, codes, false, refl, sym, ap, subst, ◌∙◌, arith}
 use Rattle.std.proofs.lemmas.List.{take_more}
+use Rattle.std.proofs.lemmas.List.Elements.{All-nil, All-cons, All-append}
+use Rattle.std.specs.List.{All}
 use Rattle.std.proofs.Math.Seq.{take-length}
 use Rattle.json.specs.Json as text
 use Rattle.json.specs.Tree.{json_tokens, items_tokens}
@@ -16,15 +18,15 @@ use Rattle.json_model.specs.declared.place.Place.TheVariants as place
 use Rattle.json_model.specs.declared.place.Series.{Series}
 use Rattle.json_model.specs.declared.place.Series.TheVariants as series
 use Rattle.json_model.specs.Fits.{Fits, ItemsFit}
-use Rattle.json_model.specs.Forms.{Each, no_more, one_more}
+use Rattle.json_model.specs.Forms.{Each, no_more, one_more, SpellsEach}
 use Rattle.json_model.specs.Grammar.{SpellsValue, SpellsKind, SpellsList, a_list, SpellsItems, no_item, an_item}
 use Rattle.json_model.specs.Members.{lacks_only}
 use Rattle.json_model.specs.Origin.{Origin}
 use Rattle.json_model.specs.Places.{item_place}
-use Rattle.json_model.proofs.OnePass.{list_fits, array_fits, array_kind}
 use Rattle.json_model.proofs.ReadAscending.{chained, mapped}
 use Rattle.json_model.proofs.Stored.{items_push, array_stored}
 use Rattle.plain_json.specs.Trees.{HoldsOnly, StandsFor, IsBuiltOf}
+use Rattle.plain_json.proofs.Formed.{list_fits, array_fits, array_kind}
 use Rattle.plain_json.proofs.Members.{only}
 
 -- the items with one behind them
@@ -32,7 +34,7 @@ abbrev pushed : json.Items → json.Data → json.Items
 pushed json.no_items d = json.item d json.no_items
 pushed (json.item e ds) d = json.item e (pushed ds d)
 
-seen_push : {A : Type 0} (trees : List (Value A)) (one : Value A) (ds : json.Items) (d : json.Data) → of_items (items_view trees) ≡ Some ds → of_json (value_view one) ≡ Some d → of_items (items_view (trees ++ one ∷ [])) ≡ Some (pushed ds d)
+pub seen_push : {A : Type 0} (trees : List (Value A)) (one : Value A) (ds : json.Items) (d : json.Data) → of_items (items_view trees) ≡ Some ds → of_json (value_view one) ≡ Some d → of_items (items_view (trees ++ one ∷ [])) ≡ Some (pushed ds d)
 seen_push [] one ds d all is = let e : json.no_items ≡ ds = cc in rw is (ap (λ l. Some (pushed l d)) e)
 seen_push (t ∷ trees) one ds d all is =
     let first = chained (λ x. option_map (json.item x) (of_items (items_view trees))) (of_json (value_view t)) ds all in
@@ -87,6 +89,36 @@ listed o limit kind Listed Stored Spells enough spell tree trees xs is all = rec
   is = rw (is, all.is) refl;
   holds = record { fits = list_fits o limit kind (json.array all.seen) all.seen (enough all.seen) refl all.fit; spelled = spell all.seen xs all.listed; stored = all.stored };
 }
+
+-- ---- lists of which each item has its form wherever it stands
+
+-- what is read of such a list so far
+pub record EachSoFar {X : Type 0} {A : Type 0} (Spells : json.Data → X → Type 0) (Kept : X → Type 0) (trees : List (Value A)) (xs : List X) : Type 0 where
+  pub seen : json.Items
+  pub is : of_items (items_view trees) ≡ Some seen
+  pub each : Each Spells seen xs
+  pub stored : All Kept xs
+
+pub none_each : {X A : Type 0} (Spells : json.Data → X → Type 0) (Kept : X → Type 0) (xs : List X) → xs ≡ [] → EachSoFar {A = A} Spells Kept [] xs
+none_each {X} {A} Spells Kept xs none = subst (EachSoFar {A = A} Spells Kept []) (sym none) (record { seen = json.no_items; is = refl; each = no_more; stored = All-nil Kept })
+
+pub more_each : {X A : Type 0} (Spells : json.Data → X → Type 0) (Kept : X → Type 0) (trees : List (Value A)) (i : ℕ) (one : Value A) (old new : List X) (x : X) → i < length trees → one ≡ get_or trees i one
+    → EachSoFar Spells Kept (take i trees) old → StandsFor (value_view one) (λ d. Spells d x) → Kept x → new ≡ old ++ x ∷ [] → EachSoFar Spells Kept (take (i + 1) trees) new
+more_each {X} {A} Spells Kept trees i one old new x below is so_far stands kept pushed_is =
+    let whole : EachSoFar Spells Kept (take i trees ++ one ∷ []) (old ++ x ∷ []) = record {
+      seen = pushed so_far.seen stands.seen;
+      is = seen_push (take i trees) one so_far.seen stands.seen so_far.is stands.is;
+      each = each_push Spells so_far.seen old stands.seen x so_far.each stands.holds;
+      stored = All-append Kept old (x ∷ []) so_far.stored (All-cons Kept x [] kept (All-nil Kept));
+    } in
+    let taken : take (i + 1) trees ≡ take i trees ++ one ∷ [] = take_more trees i one below ∙ ap (λ t. take i trees ++ t ∷ []) (sym is) in
+    subst (λ (ts : List (Value A)). EachSoFar Spells Kept ts new) (sym taken) (subst (EachSoFar Spells Kept (take i trees ++ one ∷ [])) (sym pushed_is) whole)
+
+pub all_each : {X A : Type 0} (Spells : json.Data → X → Type 0) (Kept : X → Type 0) (tree : text.Json) (all trees : List (Value A)) (i : ℕ) (xs : List X) → tree ≡ text.array (items_view all) → trees ≡ all → length trees ≤ i → i ≤ length trees
+    → EachSoFar Spells Kept (take i trees) xs → StandsFor tree (λ d. SpellsEach Spells (Some d) xs)
+all_each {X} {A} Spells Kept tree all trees i xs is same below above so_far =
+    let done : EachSoFar Spells Kept all xs = subst (λ (ts : List (Value A)). EachSoFar Spells Kept ts xs) (whole trees i below above ∙ same) so_far in
+    record { seen = json.array done.seen; is = rw (is, done.is) refl; holds = (done.seen, refl, done.each) }
 
 -- ---- values
 

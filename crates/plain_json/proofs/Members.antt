@@ -10,10 +10,9 @@ use Rattle.json.specs.Token.{Token}
 use Rattle.json.specs.Tree.{json_tokens}
 use Rattle.serde_json.specs.Data.{Data, boolean, number, string, array, object, no_members, member}
 use Rattle.serde_json.specs.Read.{of_json, of_items, of_members, number_of}
-use Rattle.json_model.specs.Forms.{HasOnly, HasBoth}
 use Rattle.json_model.specs.Members.{is_null}
 use Rattle.json_model.proofs.ReadAscending.{mapped}
-use Rattle.plain_json.specs.Trees.{HoldsOnly, HoldsBoth, StandsFor}
+use Rattle.plain_json.specs.Trees.{HoldsOnly, HoldsBoth, HasOnly, HasBoth, StandsFor}
 
 -- what isn't null in the text isn't null
 kept : (tree : text.Json) (d : Data) → find.is_null tree ≡ false → of_json tree ≡ Some d → is_null d ≡ false

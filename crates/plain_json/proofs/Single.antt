@@ -10,15 +10,15 @@ use Rattle.json_model.specs.declared.place.Leaf.TheVariants as leaf
 use Rattle.json_model.specs.declared.place.Object.TheVariants as object
 use Rattle.json_model.specs.declared.place.Place.{Place}
 use Rattle.json_model.specs.declared.place.Place.TheVariants as place
-use Rattle.json_model.specs.Built.{IfBuilt}
 use Rattle.json_model.specs.Grammar.{SpellsScalar, SpellsValue, SpellsKind, as_scalar, as_array as by_array, as_map as by_map}
 use Rattle.json_model.specs.Members.{is_left_out}
 use Rattle.json_model.specs.Numbers.{SpellsInteger, SpellsWhole, as_number, as_text}
 use Rattle.json_model.specs.Origin.{Origin}
 use Rattle.json_model.specs.Places.{value_member}
 use Rattle.json_model.specs.Scalars.{IsReadScalar}
-use Rattle.json_model.proofs.OnePass.{scalar_fits, value_fits, value_spelled}
+use Rattle.plain_json.specs.Built.{IfBuilt}
 use Rattle.plain_json.specs.Trees.{StandsFor, IsBuiltOf}
+use Rattle.plain_json.proofs.Formed.{scalar_fits, value_fits, value_spelled}
 
 -- ---- what stands under a kind isn't left out
 

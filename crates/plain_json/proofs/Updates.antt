@@ -6,7 +6,7 @@ use Rattle.document_keys.specs.Names.{Root, IsKey, name_text}
 use Rattle.json.specs.Json as text
 use Rattle.json.specs.Value.{value_view, items_view}
 use Rattle.json.specs.declared.value.Value.{Value}
-use Rattle.serde_json.specs.Data.{Data, string, no_items, no_members, member}
+use Rattle.serde_json.specs.Data.{Data, string, no_items}
 use Rattle.serde_json.specs.Read.{of_json}
 use Rattle.value_model.specs.Data.{Entries}
 use Rattle.value_model.specs.Storable.{IsStorableKey}
@@ -17,20 +17,15 @@ use Rattle.json_model.specs.Faults.{max_nesting}
 use Rattle.json_model.specs.Fits.{Fits}
 use Rattle.json_model.specs.Forms.{Each, no_more, SpellsEach}
 use Rattle.json_model.specs.Grammar.{SpellsFields, SpellsName}
-use Rattle.json_model.specs.Members.{is_null, chosen}
 use Rattle.json_model.specs.Origin.{Origin}
-use Rattle.json_model.specs.Places.{write_rows, is_write_choice}
 use Rattle.json_rpc.specs.Grammar.{SpellsWrite}
 use Rattle.json_rpc.specs.Storable.{IsStorableWrite}
-use Rattle.json_rpc.proofs.OnePass.{update_fits, document_spelled, write_fits, write_spelled}
-use Rattle.json_rpc.proofs.Stored.{write_storable}
-use Rattle.mutations.specs.declared.write.Precondition.TheVariants.{Free}
 use Rattle.mutations.specs.declared.write.Write.{Write}
-use Rattle.mutations.specs.declared.write.Write.TheVariants.{Update}
-use Rattle.plain_json.specs.Trees.{HoldsOnly, HoldsBoth, StandsFor, IsBuiltOf, AreStoredFields}
+use Rattle.plain_json.specs.Trees.{HoldsBoth, StandsFor, IsBuiltOf, AreStoredFields}
 use Rattle.plain_json.specs.Updates.{SpellsUpdated, IsStoredUpdate}
-use Rattle.plain_json.specs.declared.writes.Updated.{Updated}
-use Rattle.plain_json.proofs.Members.{only, both}
+use Rattle.plain_json.specs.declared.documents.Updated.{Updated}
+use Rattle.plain_json.proofs.Fitted.{update_fits, document_spelled}
+use Rattle.plain_json.proofs.Members.{both}
 use Rattle.plain_json.proofs.Lists.{SoFar, next, whole, listed, each_push}
 
 pub named : (root : Root) (tree : text.Json) (name : List ℕ) (key : List (List ℕ)) → tree ≡ text.string name → IsKey key → name ≡ name_text root key → StandsFor tree (λ d. SpellsName root d key)
@@ -48,35 +43,6 @@ document o tree fields name key es updated held names stored inside key_is field
         fits = update_fits o max_nesting inside.seen names.seen all.seen key all.holds inside.holds.fits names.holds;
         spelled = rw (key_is, fields_are) (document_spelled o.root all.seen inside.seen names.seen key es all.holds inside.holds.spelled names.holds);
         stored = record { names = rw key_is stored; holds = rw fields_are inside.holds.stored.storable; deep = rw fields_are inside.holds.stored.deep };
-      };
-    }
-
-only_chosen : (d : Data) → is_null d ≡ false → chosen object.Write (member (codes "update") d no_members) ≡ (codes "update", d) ∷ []
-unfolding write_rows is_write_choice
-only_chosen d some = rw some refl
-
-pub write : (o : Origin) (tree inner : text.Json) (updated : Updated) (made : Write) → HoldsOnly tree (codes "update") inner
-    → StandsFor inner (IsBuiltOf o max_nesting (place.Object object.Update) (SpellsUpdated o.root) IsStoredUpdate updated) → made ≡ Update updated.key updated.fields None [] Free
-    → StandsFor tree (IsBuiltOf o max_nesting (place.Object object.Write) (SpellsWrite o.root) IsStorableWrite made)
-unfolding write_rows
-write o tree inner updated made held inside is =
-    let all = only tree inner (codes "update") inside.seen held inside.is in
-    let ms = member (codes "update") inside.seen no_members in
-    let picked = only_chosen inside.seen all.holds.there in
-    record {
-      seen = all.seen;
-      is = all.is;
-      holds = record {
-        fits = write_fits o inside.seen all.seen ms all.holds.is picked (inl refl, tt) inside.holds.fits;
-        spelled = rw is (write_spelled o.root inside.seen all.seen ms (Update updated.key updated.fields None [] Free) all.holds.is picked (refl, record { document = inside.holds.spelled; masks = refl; changes = refl; asks = refl }));
-        stored = rw is (write_storable _ (record {
-          names = inside.holds.stored.names;
-          holds = inside.holds.stored.holds;
-          deep = inside.holds.stored.deep;
-          masks = tt;
-          changes = record { count = omega arith; each = All-nil _ };
-          asks = tt;
-        }));
       };
     }
 

@@ -1,2 +1,5 @@
+pub mod Built
 pub mod Trees
+pub mod Beside
 pub mod Updates
+pub mod Parts

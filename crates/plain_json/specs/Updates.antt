@@ -6,7 +6,7 @@ use Rattle.value_model.specs.Data.{entries_depth}
 use Rattle.value_model.specs.Storable.{AreStorable, IsStorableKey}
 use Rattle.json_model.specs.Faults.{max_nesting}
 use Rattle.json_rpc.specs.Grammar.{SpellsDocument}
-use Rattle.plain_json.specs.declared.writes.Updated.{Updated}
+use Rattle.plain_json.specs.declared.documents.Updated.{Updated}
 
 -- the tree spells it
 abbrev pub SpellsUpdated : Root → Data → Updated → Type 0

@@ -3,9 +3,9 @@
 ghost use Rattle.json.specs.Value.{value_view};
 ghost use Rattle.serde_json.specs.Data.{string};
 ghost use Rattle.json_model.specs.declared.place.Leaf.TheVariants as leaves;
-ghost use Rattle.json_model.specs.Built.{IfBuilt};
 ghost use Rattle.json_model.specs.Scalars.{IsReadScalar};
 ghost use Rattle.std.specs.Prelude.{IfSome};
+ghost use Rattle.plain_json.specs.Built.{IfBuilt};
 ghost use Rattle.plain_json.specs.Trees.{StandsFor};
 
 use crate::room::Tree;

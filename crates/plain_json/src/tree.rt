@@ -5,7 +5,7 @@ ghost use Rattle.json.specs.Json.{object, member, no_members, value};
 ghost use Rattle.json.specs.Lex.{tokens};
 ghost use Rattle.json.specs.Tree.{json_tokens};
 ghost use Rattle.json.specs.Value.{value_view};
-ghost use Rattle.json_model.specs.Built.{IfBuilt};
+ghost use Rattle.plain_json.specs.Built.{IfBuilt};
 ghost use Rattle.plain_json.specs.Trees.{HoldsOnly, HoldsBoth};
 
 use crate::room::{Room, Tree};

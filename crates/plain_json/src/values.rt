@@ -8,8 +8,8 @@ ghost use Rattle.value_model.specs.Storable.{IsStorable, AreStorableItems};
 ghost use Rattle.json_model.specs.declared.place.Place.TheVariants as places;
 ghost use Rattle.json_model.specs.declared.place.Object.TheVariants as objects;
 ghost use Rattle.json_model.specs.declared.place.Series.TheVariants as serieses;
-ghost use Rattle.json_model.specs.Built.{IfBuilt};
 ghost use Rattle.json_model.specs.Grammar.{SpellsValue, SpellsKind, SpellsList, SpellsFields};
+ghost use Rattle.plain_json.specs.Built.{IfBuilt};
 ghost use Rattle.plain_json.specs.Trees.{AreStoredFields, IsBuiltOf, StandsFor};
 
 use crate::room::Tree;

@@ -1,90 +1,58 @@
-//! Updates of documents with just a name and fields.
+//! Updates, and what stands beside them.
 
 ghost use Rattle.json.specs.Value.{value_view};
 ghost use Rattle.std.specs.Prelude.{Some};
 ghost use Rattle.std.specs.List.{All};
-ghost use Rattle.value_model.specs.Storable.{IsStorableKey};
 ghost use Rattle.json_model.specs.declared.place.Object.TheVariants as objects;
 ghost use Rattle.json_model.specs.declared.place.Place.TheVariants as places;
 ghost use Rattle.json_model.specs.declared.place.Series.TheVariants as serieses;
-ghost use Rattle.json_model.specs.Built.{IfBuilt};
 ghost use Rattle.json_model.specs.Faults.{max_nesting};
 ghost use Rattle.json_model.specs.Forms.{SpellsEach};
-ghost use Rattle.json_model.specs.Grammar.{SpellsName};
 ghost use Rattle.json_rpc.specs.Grammar.{SpellsWrite};
 ghost use Rattle.json_rpc.specs.Storable.{IsStorableWrite};
+ghost use Rattle.plain_json.specs.Built.{IfBuilt};
+ghost use Rattle.plain_json.specs.Parts.{HasParts};
 ghost use Rattle.plain_json.specs.Trees.{IsBuiltOf, StandsFor};
-ghost use Rattle.plain_json.specs.Updates.{IsStoredUpdate, SpellsUpdated};
 
+use crate::documents::Updated;
+use crate::parts::{Parts, plain_part};
 use crate::room::Tree;
-use crate::tree::{both_under, only_under};
-use crate::values::plain_fields;
-use document_keys::{DocumentKey, NameFault, NoMemory};
-use json_model::{MAX_NESTING, Setting, show_key};
+use document_keys::NoMemory;
+use json_model::Setting;
 use mutations::{Precondition, Transforms, Write};
 use std::alloc::Global;
-use value_model::SharedFields;
 
 /// How many writes are built in one pass: as many as a batch may have. Room for them is taken before they are looked at.
 const MOST_WRITES: usize = 500;
 
-/// The key of the document that the tree names.
-#[tactic(auto, using(crate::proofs::Updates::named))]
-fn plain_key(
+/// The parts of a write, each under its name.
+fn plain_parts(
     alloc: Global,
     setting: &Setting<'_>,
     tree: &Tree<'_>,
-) -> Result<Option<DocumentKey>, NoMemory>
-    ensures key { IfBuilt result (λ key. StandsFor (value_view tree.now)
-        (λ d. SpellsName setting.now.root d key)) }
-    ensures storable { IfBuilt result IsStorableKey }
+) -> Result<Option<Parts>, NoMemory>
+    ensures { IfBuilt result (λ parts. StandsFor (value_view tree.now) (HasParts setting.now parts)) }
 {
-    let Tree::String(name) = tree else {
+    let Tree::Object(members) = tree else {
         return Ok(None);
     };
-    match DocumentKey::read(alloc, setting.root, name) {
-        Ok(key) => {
-            show_key(&key);
-            Ok(Some(key))
+    let mut parts = Parts {
+        update: None,
+        mask: None,
+        condition: Precondition::Free,
+    };
+    for member in members {
+        let Some(part) = plain_part(alloc, setting, member.0, &member.1)? else {
+            return Ok(None);
+        };
+        if !parts.put(part) {
+            return Ok(None);
         }
-        Err(NameFault::NoMemory) => Err(NoMemory),
-        Err(_) => Ok(None),
     }
+    Ok(Some(parts))
 }
 
-/// What an update holds.
-#[derive(Drop)]
-pub(crate) struct Updated {
-    pub(crate) key: DocumentKey,
-    pub(crate) fields: SharedFields,
-}
-
-/// The document that an update holds, with just its name and fields of the plain form.
-#[tactic(auto, using(crate::proofs::Updates::document))]
-fn plain_document(
-    alloc: Global,
-    setting: &Setting<'_>,
-    tree: &Tree<'_>,
-) -> Result<Option<Updated>, NoMemory>
-    ensures { IfBuilt result (λ document. StandsFor (value_view tree.now)
-        (IsBuiltOf setting.now max_nesting (places.Object objects.Update)
-        (SpellsUpdated setting.now.root) IsStoredUpdate document)) }
-{
-    let Some((fields, name)) = both_under(tree, "fields", "name") else {
-        return Ok(None);
-    };
-    let Some(key) = plain_key(alloc, setting, name)? else {
-        return Ok(None);
-    };
-    let Some(fields) = plain_fields(alloc, setting, MAX_NESTING, fields)? else {
-        return Ok(None);
-    };
-    let fields = SharedFields::new(alloc, fields)?;
-    Ok(Some(Updated { key, fields }))
-}
-
-/// The write that an update spells, beside which nothing stands.
-#[tactic(auto, using(crate::proofs::Updates::write))]
+/// The write that an update spells.
 fn plain_write(
     alloc: Global,
     setting: &Setting<'_>,
@@ -94,24 +62,29 @@ fn plain_write(
         (IsBuiltOf setting.now max_nesting (places.Object objects.Write)
         (SpellsWrite setting.now.root) IsStorableWrite write)) }
 {
-    let Some(update) = only_under(tree, "update") else {
+    let Some(parts) = plain_parts(alloc, setting, tree)? else {
         return Ok(None);
     };
-    let Some(document) = plain_document(alloc, setting, update)? else {
+    let Parts {
+        update,
+        mask,
+        condition,
+    } = parts;
+    let Some(Updated { key, fields }) = update else {
         return Ok(None);
     };
-    let Updated { key, fields } = document;
     Ok(Some(Write::Update {
         key,
         fields,
-        mask: None,
+        mask,
         transforms: Transforms::from_vec(Vec::new(alloc)),
-        condition: Precondition::Free,
+        condition,
     }))
 }
 
 /// The writes that a list of at most 500 spells, where each is an update of a document that has just its name and fields of the
-/// form of `plain_fields`, and nothing stands beside it. Then the list has no fault. Else none, which says nothing of the list.
+/// form of `plain_fields`, and nothing stands beside it but a mask, whose list is given, and a precondition. Then the list has no
+/// fault. Else none, which says nothing of the list.
 ///
 /// # Errors
 /// `NoMemory`
