@@ -10,7 +10,7 @@ use std::process::Abort;
 use std::test::Fail;
 
 // how many writes are built of a text; of none, its tree is of another form
-static LISTS: [(&str, Option<usize>); 18] = [
+static LISTS: [(&str, Option<usize>); 22] = [
     (r#"[]"#, Some(0)),
     (
         r#"[{"update":{"name":"projects/demo/databases/(default)/documents/rooms/a","fields":{}}}]"#,
@@ -58,7 +58,23 @@ static LISTS: [(&str, Option<usize>); 18] = [
     ),
     (r#"[{"updateMask":{"fieldPaths":["a"]}}]"#, None),
     (
-        r#"[{"delete":"projects/demo/databases/(default)/documents/rooms/a"}]"#,
+        r#"[{"delete":"projects/demo/databases/(default)/documents/rooms/a"},{"update":{"name":"projects/demo/databases/(default)/documents/rooms/a","fields":{}}}]"#,
+        Some(2),
+    ),
+    (
+        r#"[{"delete":"projects/demo/databases/(default)/documents/rooms/a","currentDocument":{"exists":true}},{"currentDocument":{"updateTime":"2024-01-01T00:00:00Z"},"delete":"projects/demo/databases/(default)/documents/rooms/b"}]"#,
+        Some(2),
+    ),
+    (
+        r#"[{"delete":"projects/demo/databases/(default)/documents/rooms"}]"#,
+        None,
+    ),
+    (
+        r#"[{"delete":"projects/demo/databases/(default)/documents/rooms/a","updateMask":{"fieldPaths":["a"]}}]"#,
+        None,
+    ),
+    (
+        r#"[{"delete":"projects/demo/databases/(default)/documents/rooms/a","currentDocument":{}}]"#,
         None,
     ),
     (

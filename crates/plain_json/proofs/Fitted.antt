@@ -23,7 +23,7 @@ use Rattle.plain_json.specs.Beside.{FitBeside}
 use Rattle.plain_json.specs.Trees.{HasBoth}
 
 -- the name of a document fits
-name_fits : (o : Origin) (limit : ℕ) (d : Json) (key : List (List ℕ)) → SpellsName o.root d key → Fits o limit (place.Leaf leaf.Name) d
+pub name_fits : (o : Origin) (limit : ℕ) (d : Json) (key : List (List ℕ)) → SpellsName o.root d key → Fits o limit (place.Leaf leaf.Name) d
 unfolding Fits
 name_fits o limit d key spelled = subst (Fits o limit (place.Leaf leaf.Name)) (sym spelled.is) (_, (refl, (key, (spelled.names, refl))))
 

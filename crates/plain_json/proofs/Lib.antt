@@ -9,3 +9,4 @@ pub mod Masked
 pub mod Asked
 pub mod Updates
 pub mod Gathered
+pub mod Removed

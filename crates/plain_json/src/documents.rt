@@ -20,7 +20,7 @@ use value_model::SharedFields;
 
 /// The key of the document that the tree names.
 #[tactic(auto, using(crate::proofs::Updates::named))]
-fn plain_key(
+pub(crate) fn plain_key(
     alloc: Global,
     setting: &Setting<'_>,
     tree: &Tree<'_>,

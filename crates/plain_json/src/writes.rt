@@ -1,4 +1,4 @@
-//! Updates, and what stands beside them.
+//! Writes, and the lists of them.
 
 ghost use Rattle.json.specs.Value.{value_view};
 ghost use Rattle.std.specs.Prelude.{Some};
@@ -14,6 +14,7 @@ ghost use Rattle.plain_json.specs.Built.{IfBuilt};
 ghost use Rattle.plain_json.specs.Parts.{HasParts};
 ghost use Rattle.plain_json.specs.Trees.{IsBuiltOf, StandsFor};
 
+use crate::deletes::plain_delete;
 use crate::documents::Updated;
 use crate::parts::{Parts, plain_part};
 use crate::room::Tree;
@@ -53,7 +54,7 @@ fn plain_parts(
 }
 
 /// The write that an update spells.
-fn plain_write(
+fn update_write(
     alloc: Global,
     setting: &Setting<'_>,
     tree: &Tree<'_>,
@@ -82,9 +83,25 @@ fn plain_write(
     }))
 }
 
-/// The writes that a list of at most 500 spells, where each is an update of a document that has just its name and fields of the
-/// form of `plain_fields`, and nothing stands beside it but a mask, whose list is given, and a precondition. Then the list has no
-/// fault. Else none, which says nothing of the list.
+/// The write that the tree spells.
+fn plain_write(
+    alloc: Global,
+    setting: &Setting<'_>,
+    tree: &Tree<'_>,
+) -> Result<Option<Write>, NoMemory>
+    ensures { IfBuilt result (λ write. StandsFor (value_view tree.now)
+        (IsBuiltOf setting.now max_nesting (places.Object objects.Write)
+        (SpellsWrite setting.now.root) IsStorableWrite write)) }
+{
+    let Some(write) = plain_delete(alloc, setting, tree)? else {
+        return update_write(alloc, setting, tree);
+    };
+    Ok(Some(write))
+}
+
+/// The writes that a list of at most 500 spells, where each is a delete that nothing but a precondition stands beside, or an update
+/// of a document that has just its name and fields of the form of `plain_fields`, and nothing stands beside it but a mask, whose
+/// list is given, and a precondition. Then the list has no fault. Else none, which says nothing of the list.
 ///
 /// # Errors
 /// `NoMemory`

@@ -1,7 +1,7 @@
 use Rattle.std.proofs.Common.{ap, ◌∙◌}
 use Rattle.mutations.specs.declared.write.Write.TheVariants.{Update}
 use Rattle.plain_json.proofs.Gathered.{write}
-use Rattle.plain_json.proofs.writes.plain_write.Goals as goal
+use Rattle.plain_json.proofs.writes.update_write.Goals as goal
 
 pub returns : goal.returns
 returns c =
