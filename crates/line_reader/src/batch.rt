@@ -48,13 +48,10 @@ fn plain_batch(
     }))
 }
 
-/// Whether a line begins and ends as that of a plain batch does, spelled without blanks: behind an update or a precondition, or
-/// behind the name that a delete has. Behind transforms a line ends in another way, so that few are read twice.
+/// Whether a line begins and ends as that of a batch does, spelled without blanks. Nearly all such batches are plain, so that few
+/// lines are read twice.
 fn may_be_plain(text: &[u8]) -> bool {
-    if !text.starts_with(b"{\"write\"") {
-        return false;
-    }
-    text.ends_with(b"}}]}}") || text.ends_with(b"\"}]}}")
+    text.starts_with(b"{\"write\"") && text.ends_with(b"}]}}")
 }
 
 /// What a line spells that begins and ends as that of a batch does, where the batch is of the form of `plain_writes`. Then the

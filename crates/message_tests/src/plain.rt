@@ -10,7 +10,7 @@ use std::process::Abort;
 use std::test::Fail;
 
 // how many writes are built of a text; of none, its tree is of another form
-static LISTS: [(&str, Option<usize>); 22] = [
+static LISTS: [(&str, Option<usize>); 33] = [
     (r#"[]"#, Some(0)),
     (
         r#"[{"update":{"name":"projects/demo/databases/(default)/documents/rooms/a","fields":{}}}]"#,
@@ -54,6 +54,50 @@ static LISTS: [(&str, Option<usize>); 22] = [
     ),
     (
         r#"[{"update":{"name":"projects/demo/databases/(default)/documents/rooms/a","fields":{}},"updateTransforms":[]}]"#,
+        Some(1),
+    ),
+    (
+        r#"[{"updateTransforms":[{"fieldPath":"a.b","setToServerValue":"REQUEST_TIME"},{"increment":{"integerValue":"-1"},"fieldPath":"c"}],"update":{"name":"projects/demo/databases/(default)/documents/rooms/a","fields":{}}},{"update":{"name":"projects/demo/databases/(default)/documents/rooms/a","fields":{}},"updateTransforms":[{"fieldPath":"a","maximum":{"integerValue":"9223372036854775807"}},{"fieldPath":"a","minimum":{"integerValue":"0"}}]}]"#,
+        Some(2),
+    ),
+    (
+        r#"[{"update":{"name":"projects/demo/databases/(default)/documents/rooms/a","fields":{}},"updateTransforms":[{"fieldPath":"a","appendMissingElements":{"values":[{"stringValue":"x"},{"arrayValue":{"values":[]}}]}},{"removeAllFromArray":{"values":[]},"fieldPath":"b"}]}]"#,
+        Some(1),
+    ),
+    (
+        r#"[{"update":{"name":"projects/demo/databases/(default)/documents/rooms/a","fields":{}},"updateTransforms":[{"fieldPath":"a.a.a.a.a.a.a.a.a.a.a.a.a.a.a.a.a.a.a.a","appendMissingElements":{"values":[{"nullValue":null}]}}]}]"#,
+        Some(1),
+    ),
+    (
+        r#"[{"update":{"name":"projects/demo/databases/(default)/documents/rooms/a","fields":{}},"updateTransforms":[{"fieldPath":"a.a.a.a.a.a.a.a.a.a.a.a.a.a.a.a.a.a.a.a","appendMissingElements":{"values":[{"arrayValue":{"values":[]}}]}}]}]"#,
+        None,
+    ),
+    (
+        r#"[{"update":{"name":"projects/demo/databases/(default)/documents/rooms/a","fields":{}},"updateTransforms":[{"fieldPath":"a.a.a.a.a.a.a.a.a.a.a.a.a.a.a.a.a.a.a.a.a","appendMissingElements":{"values":[]}}]}]"#,
+        None,
+    ),
+    (
+        r#"[{"update":{"name":"projects/demo/databases/(default)/documents/rooms/a","fields":{}},"updateTransforms":[{"fieldPath":"a.a.a.a.a.a.a.a.a.a.a.a.a.a.a.a.a.a.a.a.a","setToServerValue":"REQUEST_TIME"}]}]"#,
+        Some(1),
+    ),
+    (
+        r#"[{"update":{"name":"projects/demo/databases/(default)/documents/rooms/a","fields":{}},"updateTransforms":[{"fieldPath":"a","setToServerValue":"SERVER_VALUE_UNSPECIFIED"}]}]"#,
+        None,
+    ),
+    (
+        r#"[{"update":{"name":"projects/demo/databases/(default)/documents/rooms/a","fields":{}},"updateTransforms":[{"fieldPath":"a","increment":{"doubleValue":1}}]}]"#,
+        None,
+    ),
+    (
+        r#"[{"update":{"name":"projects/demo/databases/(default)/documents/rooms/a","fields":{}},"updateTransforms":[{"fieldPath":"a","multiply":{"integerValue":"2"}}]}]"#,
+        None,
+    ),
+    (
+        r#"[{"update":{"name":"projects/demo/databases/(default)/documents/rooms/a","fields":{}},"updateTransforms":[{"fieldPath":"a"}]}]"#,
+        None,
+    ),
+    (
+        r#"[{"update":{"name":"projects/demo/databases/(default)/documents/rooms/a","fields":{}},"updateTransforms":[],"updateTransforms":[]}]"#,
         None,
     ),
     (r#"[{"updateMask":{"fieldPaths":["a"]}}]"#, None),

@@ -1,5 +1,5 @@
 -- Preconditions, and the times in them.
-use Rattle.std.proofs.Common.{◌≡◌, ℕ, List, Bool, Some, codes, refl, sym, ap, subst, inr}
+use Rattle.std.proofs.Common.{◌≡◌, ℕ, List, Bool, Some, codes, refl, sym, ap, inr}
 use Rattle.json.specs.Json as text
 use Rattle.serde_json.specs.Data.{Data, boolean, string, object as an_object, member, no_members}
 use Rattle.serde_json.specs.Read.{of_json}
@@ -10,7 +10,6 @@ use Rattle.json_model.specs.declared.place.Place.TheVariants as place
 use Rattle.json_model.specs.Faults.{max_nesting}
 use Rattle.json_model.specs.Fits.{Fits}
 use Rattle.json_model.specs.Grammar.{SpellsTime}
-use Rattle.json_model.specs.Origin.{Origin}
 use Rattle.json_model.specs.Places.{condition_rows}
 use Rattle.json_model.proofs.Fitting.{flat_object_fits}
 use Rattle.json_rpc.specs.Grammar.{SpellsCondition}

@@ -8,28 +8,31 @@ use Rattle.document_keys.proofs.Order.{texts_compute}
 use Rattle.json.specs.Json as text
 use Rattle.json.specs.Value.{value_view, members_view}
 use Rattle.json.specs.declared.value.Value.{Value}
-use Rattle.serde_json.specs.Data.{Data, null, boolean, number, string, array, object as an_object, Members, member, no_members, put}
-use Rattle.serde_json.specs.Find.{as_object, get_member}
-use Rattle.serde_json.specs.Read.{of_json, of_members}
+use Rattle.serde_json.specs.Data.{Data, null, boolean, number, string, array, object as an_object, Members, member, no_members, Items, put}
+use Rattle.serde_json.specs.Find.{as_object, as_array}
+use Rattle.serde_json.specs.Read.{of_members}
 use Rattle.serde_json.proofs.Views.{get_member-put, get_member-put_other}
 use Rattle.json_model.specs.declared.place.Object.TheVariants as object
 use Rattle.json_model.specs.declared.place.Place.TheVariants as place
+use Rattle.json_model.specs.declared.place.Series.TheVariants as series
 use Rattle.json_model.specs.Faults.{max_nesting}
+use Rattle.json_model.specs.Forms.{SpellsEach}
 use Rattle.json_model.specs.Members.{is_null, unless_null, given, is_chosen, chosen}
 use Rattle.json_model.specs.Origin.{Origin}
 use Rattle.json_model.specs.Places.{write_rows, is_write_choice}
 use Rattle.json_model.specs.Storable.{IsStorablePath}
 use Rattle.json_model.proofs.Sound.{not_out}
-use Rattle.json_rpc.specs.Grammar.{SpellsMask, SpellsCondition, SpellsWrite}
-use Rattle.json_rpc.specs.Storable.{AreAllStorable, IsStorableCondition, IsStorableWrite}
+use Rattle.json_rpc.specs.Grammar.{SpellsMask, SpellsCondition, SpellsTransform, SpellsWrite}
+use Rattle.json_rpc.specs.Storable.{AreAllStorable, IsStorableCondition, IsStorableTransform, IsStorableWrite}
 use Rattle.json_rpc.proofs.Names.{apart}
 use Rattle.json_rpc.proofs.Stored.{write_storable}
+use Rattle.mutations.specs.declared.transform.Transform.{Transform}
 use Rattle.mutations.specs.declared.write.Precondition.{Precondition}
 use Rattle.mutations.specs.declared.write.Precondition.TheVariants.{Free}
 use Rattle.mutations.specs.declared.write.Write.{Write}
 use Rattle.mutations.specs.declared.write.Write.TheVariants.{Update}
 use Rattle.plain_json.specs.Beside.{FitsInWrite, FitBeside}
-use Rattle.plain_json.specs.Parts.{IsPart, Puts, HasUpdate, AreParts, HasParts}
+use Rattle.plain_json.specs.Parts.{IsPart, Puts, HasUpdate, AreParts, HasParts, transforms_of}
 use Rattle.plain_json.specs.Trees.{StandsFor, IsBuiltOf, IsBuiltAnywhere}
 use Rattle.plain_json.specs.Updates.{SpellsUpdated, IsStoredUpdate}
 use Rattle.plain_json.specs.declared.documents.Updated.{Updated}
@@ -49,6 +52,14 @@ there (number n) ms is = refl
 there (string s) ms is = refl
 there (array ds) ms is = refl
 there (an_object os) ms is = refl
+
+listed_there : (d : Data) (ds : Items) → as_array d ≡ Some ds → is_null d ≡ false
+listed_there null ds is = cc
+listed_there (boolean b) ds is = refl
+listed_there (number n) ds is = refl
+listed_there (string s) ds is = refl
+listed_there (array es) ds is = refl
+listed_there (an_object os) ds is = refl
 
 beside_put : (o : Origin) (name : List ℕ) (d : Data) (ms : Members) → (name ≡ codes "update") ⊎ FitsInWrite o name d → FitBeside o ms → FitBeside o (put name d ms)
 beside_put o name d no_members fits all = (fits, tt)
@@ -113,24 +124,29 @@ mask_never : (d : Data) → is_chosen object.Write (codes "updateMask") d ≡ fa
 unfolding is_write_choice
 mask_never d = refl
 
+transforms_never : (d : Data) → is_chosen object.Write (codes "updateTransforms") d ≡ false
+unfolding is_write_choice
+transforms_never d = refl
+
 condition_never : (d : Data) → is_chosen object.Write (codes "currentDocument") d ≡ false
 unfolding is_write_choice
 condition_never d = refl
 
 put_update : (o : Origin) (old : Parts) (updated : Updated) (d : Data) (ms : Members) → IsBuiltOf o max_nesting (place.Object object.Update) (SpellsUpdated o.root) IsStoredUpdate updated d → old.update ≡ None → AreParts o old ms
-    → AreParts o (record { update = Some updated; mask = old.mask; condition = old.condition }) (put (codes "update") d ms)
+    → AreParts o (record { update = Some updated; mask = old.mask; transforms = old.transforms; condition = old.condition }) (put (codes "update") d ms)
 put_update o old updated d ms built none all = record {
   beside = beside_put o (codes "update") d ms (inl refl) all.beside;
   update = (d, (chosen_put (codes "update") d ms (update_chosen d (there d _ built.spelled.is)) (rw none at all.update), built));
   masks = rw (given_beside (codes "updateMask") (codes "update") d ms (apart (codes "updateMask") (codes "update") refl)) all.masks;
   mask_stored = all.mask_stored;
-  changes = given_beside (codes "updateTransforms") (codes "update") d ms (apart (codes "updateTransforms") (codes "update") refl) ∙ all.changes;
+  changes = rw (given_beside (codes "updateTransforms") (codes "update") d ms (apart (codes "updateTransforms") (codes "update") refl)) all.changes;
+  changes_stored = all.changes_stored;
   asks = rw (given_beside (codes "currentDocument") (codes "update") d ms (apart (codes "currentDocument") (codes "update") refl)) all.asks;
   asks_stored = all.asks_stored;
 }
 
 put_mask : (o : Origin) (old : Parts) (mask : List (List (List ℕ))) (d : Data) (ms : Members) → IsBuiltOf o max_nesting (place.Object object.Mask) SpellsMask (AreAllStorable IsStorablePath) mask d → AreParts o old ms
-    → AreParts o (record { update = old.update; mask = Some mask; condition = old.condition }) (put (codes "updateMask") d ms)
+    → AreParts o (record { update = old.update; mask = Some mask; transforms = old.transforms; condition = old.condition }) (put (codes "updateMask") d ms)
 unfolding write_rows
 put_mask o old mask d ms built all =
     let some = there d _ built.spelled.is in
@@ -139,13 +155,31 @@ put_mask o old mask d ms built all =
       update = update_stays o old.update ms _ (chosen_beside (codes "updateMask") d ms mask_never) all.update;
       masks = rw (given_put (codes "updateMask") d ms some) built.spelled;
       mask_stored = built.stored;
-      changes = given_beside (codes "updateTransforms") (codes "updateMask") d ms (apart (codes "updateTransforms") (codes "updateMask") refl) ∙ all.changes;
+      changes = rw (given_beside (codes "updateTransforms") (codes "updateMask") d ms (apart (codes "updateTransforms") (codes "updateMask") refl)) all.changes;
+      changes_stored = all.changes_stored;
       asks = rw (given_beside (codes "currentDocument") (codes "updateMask") d ms (apart (codes "currentDocument") (codes "updateMask") refl)) all.asks;
       asks_stored = all.asks_stored;
     }
 
+put_transforms : (o : Origin) (old : Parts) (transforms : List Transform) (d : Data) (ms : Members)
+    → IsBuiltOf o max_nesting (place.Series series.Transforms) (λ tree. SpellsEach SpellsTransform (Some tree)) (AreAllStorable IsStorableTransform) transforms d → AreParts o old ms
+    → AreParts o (record { update = old.update; mask = old.mask; transforms = Some transforms; condition = old.condition }) (put (codes "updateTransforms") d ms)
+unfolding write_rows
+put_transforms o old transforms d ms built all =
+    let some = listed_there d _ built.spelled.1 in
+    record {
+      beside = beside_put o (codes "updateTransforms") d ms (inr (inr (not_out (place.Series series.Transforms) d some, built.fits))) all.beside;
+      update = update_stays o old.update ms _ (chosen_beside (codes "updateTransforms") d ms transforms_never) all.update;
+      masks = rw (given_beside (codes "updateMask") (codes "updateTransforms") d ms (apart (codes "updateMask") (codes "updateTransforms") refl)) all.masks;
+      mask_stored = all.mask_stored;
+      changes = rw (given_put (codes "updateTransforms") d ms some) built.spelled;
+      changes_stored = built.stored;
+      asks = rw (given_beside (codes "currentDocument") (codes "updateTransforms") d ms (apart (codes "currentDocument") (codes "updateTransforms") refl)) all.asks;
+      asks_stored = all.asks_stored;
+    }
+
 put_condition : (o : Origin) (old : Parts) (condition : Precondition) (d : Data) (ms : Members) → IsBuiltOf o max_nesting (place.Object object.Condition) (λ tree. SpellsCondition (Some tree)) IsStorableCondition condition d → AreParts o old ms
-    → AreParts o (record { update = old.update; mask = old.mask; condition = condition }) (put (codes "currentDocument") d ms)
+    → AreParts o (record { update = old.update; mask = old.mask; transforms = old.transforms; condition = condition }) (put (codes "currentDocument") d ms)
 unfolding write_rows
 put_condition o old condition d ms built all =
     let some = there d _ built.spelled.is in
@@ -154,7 +188,8 @@ put_condition o old condition d ms built all =
       update = update_stays o old.update ms _ (chosen_beside (codes "currentDocument") d ms condition_never) all.update;
       masks = rw (given_beside (codes "updateMask") (codes "currentDocument") d ms (apart (codes "updateMask") (codes "currentDocument") refl)) all.masks;
       mask_stored = all.mask_stored;
-      changes = given_beside (codes "updateTransforms") (codes "currentDocument") d ms (apart (codes "updateTransforms") (codes "currentDocument") refl) ∙ all.changes;
+      changes = rw (given_beside (codes "updateTransforms") (codes "currentDocument") d ms (apart (codes "updateTransforms") (codes "currentDocument") refl)) all.changes;
+      changes_stored = all.changes_stored;
       asks = rw (given_put (codes "currentDocument") d ms some) built.spelled;
       asks_stored = built.stored;
     }
@@ -165,6 +200,7 @@ moved o made new name key d ms named is all = subst (λ (n : List ℕ). AreParts
 put_part : (o : Origin) (old new : Parts) (name : List ℕ) (one : Part) (d : Data) (ms : Members) → IsPart o name one d → Puts one old new → AreParts o old ms → AreParts o new (put name d ms)
 put_part o old new name (part.Update updated) d ms (named, built) (none, is) all = moved o _ new name (codes "update") d ms named is (put_update o old updated d ms built none all)
 put_part o old new name (part.Mask mask) d ms (named, built) (none, is) all = moved o _ new name (codes "updateMask") d ms named is (put_mask o old mask d ms built all)
+put_part o old new name (part.Transforms transforms) d ms (named, built) (none, is) all = moved o _ new name (codes "updateTransforms") d ms named is (put_transforms o old transforms d ms built all)
 put_part o old new name (part.Condition condition) d ms (named, built) (none, is) all = moved o _ new name (codes "currentDocument") d ms named is (put_condition o old condition d ms built all)
 
 -- ---- one part, whatever stands beside it
@@ -186,11 +222,20 @@ pub record PartsSoFar {A : Type 0} (o : Origin) (trees : List (Member A)) (made 
   pub is : of_members (members_view trees) no_members ≡ Some seen
   pub parts : AreParts o made seen
 
-pub no_parts : {A : Type 0} (o : Origin) (parts : Parts) → parts ≡ record { update = None; mask = None; condition = Free } → PartsSoFar {A = A} o [] parts
+pub no_parts : {A : Type 0} (o : Origin) (parts : Parts) → parts ≡ record { update = None; mask = None; transforms = None; condition = Free } → PartsSoFar {A = A} o [] parts
 no_parts {A} o parts none = subst (PartsSoFar {A = A} o []) (sym none) (record {
   seen = no_members;
   is = refl;
-  parts = record { beside = tt; update = refl; masks = refl; mask_stored = tt; changes = refl; asks = refl; asks_stored = tt };
+  parts = record {
+    beside = tt;
+    update = refl;
+    masks = refl;
+    mask_stored = tt;
+    changes = refl;
+    changes_stored = record { count = omega arith; each = All-nil _ };
+    asks = refl;
+    asks_stored = tt;
+  };
 })
 
 pub more_parts : {A : Type 0} (o : Origin) (trees : List (Member A)) (i : ℕ) (one : Member A) (old new : Parts) (made : Part) → i < length trees → one ≡ get_or trees i one → PartsSoFar o (take i trees) old
@@ -212,7 +257,7 @@ all_parts {A} o tree all trees i parts is same below above so_far =
 
 -- ---- the update that they make
 
-pub write : (o : Origin) (tree : text.Json) (parts : Parts) (updated : Updated) (made : Write) → StandsFor tree (HasParts o parts) → parts.update ≡ Some updated → made ≡ Update updated.key updated.fields parts.mask [] parts.condition
+pub write : (o : Origin) (tree : text.Json) (parts : Parts) (updated : Updated) (made : Write) → StandsFor tree (HasParts o parts) → parts.update ≡ Some updated → made ≡ Update updated.key updated.fields parts.mask (transforms_of parts.transforms) parts.condition
     → StandsFor tree (IsBuiltOf o max_nesting (place.Object object.Write) (SpellsWrite o.root) IsStorableWrite made)
 write o tree parts updated made stands found is =
     let has = stands.holds in
@@ -223,14 +268,14 @@ write o tree parts updated made stands found is =
       is = stands.is;
       holds = record {
         fits = write_fits o update.0 stands.seen has.members has.is update.1.0 has.parts.beside built.fits;
-        spelled = rw is (write_spelled o.root update.0 stands.seen has.members (Update updated.key updated.fields parts.mask [] parts.condition) has.is update.1.0
-            (refl, record { document = built.spelled; masks = has.parts.masks; changes = rw has.parts.changes refl; asks = has.parts.asks }));
+        spelled = rw is (write_spelled o.root update.0 stands.seen has.members (Update updated.key updated.fields parts.mask (transforms_of parts.transforms) parts.condition) has.is update.1.0
+            (refl, record { document = built.spelled; masks = has.parts.masks; changes = has.parts.changes; asks = has.parts.asks }));
         stored = rw is (write_storable _ (record {
           names = built.stored.names;
           holds = built.stored.holds;
           deep = built.stored.deep;
           masks = has.parts.mask_stored;
-          changes = record { count = omega arith; each = All-nil _ };
+          changes = has.parts.changes_stored;
           asks = has.parts.asks_stored;
         }));
       };

@@ -10,3 +10,5 @@ pub mod Asked
 pub mod Updates
 pub mod Gathered
 pub mod Removed
+pub mod Changed
+pub mod Transformed

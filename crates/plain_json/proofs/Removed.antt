@@ -2,7 +2,7 @@
 use Rattle.std.proofs.Common.{◌≡◌, ℕ, List, [], codes, Some, refl, sym, ap, subst, inr}
 use Rattle.document_keys.specs.Names.{Root}
 use Rattle.json.specs.Json as text
-use Rattle.serde_json.specs.Data.{Data, Members, object as an_object, member, no_members}
+use Rattle.serde_json.specs.Data.{Data, Members, member, no_members}
 use Rattle.serde_json.specs.Find.{as_object}
 use Rattle.value_model.specs.Storable.{IsStorableKey}
 use Rattle.json_model.specs.declared.place.Object.{Object}

@@ -1,12 +1,12 @@
 -- Updates of documents with just a name and fields, and the lists of them.
-use Rattle.std.proofs.Common.{◌≡◌, ℕ, ◌+◌, ◌<◌, ◌≤◌, List, [], ◌∷◌, ◌++◌, length, take, get_or, Some, None, codes, false, refl, sym, ap, subst, inl, ◌∙◌, arith}
+use Rattle.std.proofs.Common.{◌≡◌, ℕ, ◌+◌, ◌<◌, ◌≤◌, List, [], ◌∷◌, ◌++◌, length, take, get_or, Some, codes, refl, sym, ap, subst, ◌∙◌}
 use Rattle.std.proofs.lemmas.List.Elements.{All-nil, All-cons, All-append}
 use Rattle.std.specs.List.{All}
 use Rattle.document_keys.specs.Names.{Root, IsKey, name_text}
 use Rattle.json.specs.Json as text
 use Rattle.json.specs.Value.{value_view, items_view}
 use Rattle.json.specs.declared.value.Value.{Value}
-use Rattle.serde_json.specs.Data.{Data, string, no_items}
+use Rattle.serde_json.specs.Data.{string, no_items}
 use Rattle.serde_json.specs.Read.{of_json}
 use Rattle.value_model.specs.Data.{Entries}
 use Rattle.value_model.specs.Storable.{IsStorableKey}

@@ -3,3 +3,4 @@ pub mod Trees
 pub mod Beside
 pub mod Updates
 pub mod Parts
+pub mod Changes

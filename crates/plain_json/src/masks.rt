@@ -24,7 +24,7 @@ const MAX_NAMES: u64 = 21;
 
 /// The path that the tree spells.
 #[tactic(auto, using(crate::proofs::Masked::path))]
-fn plain_path(alloc: Global, tree: &Tree<'_>) -> Result<Option<FieldPath>, NoMemory>
+pub(crate) fn plain_path(alloc: Global, tree: &Tree<'_>) -> Result<Option<FieldPath>, NoMemory>
     ensures path { IfBuilt result (λ path.
         StandsFor (value_view tree.now) (λ d. SpellsPathTree d path)) }
     ensures storable { IfBuilt result IsStorablePath }

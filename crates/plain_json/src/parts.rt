@@ -11,9 +11,10 @@ use crate::conditions::plain_condition;
 use crate::documents::{Updated, plain_document};
 use crate::masks::plain_mask;
 use crate::room::Tree;
+use crate::transforms::plain_transforms;
 use document_keys::NoMemory;
 use json_model::Setting;
-use mutations::{Mask, Precondition};
+use mutations::{Mask, Precondition, Transforms};
 use std::alloc::Global;
 
 /// What a member of an update holds.
@@ -21,6 +22,7 @@ use std::alloc::Global;
 pub(crate) enum Part {
     Update(Updated),
     Mask(Mask),
+    Transforms(Transforms),
     Condition(Precondition),
 }
 
@@ -50,6 +52,21 @@ fn mask_part(alloc: Global, tree: &Tree<'_>) -> Result<Option<Part>, NoMemory>
     Ok(Some(Part::Mask(mask)))
 }
 
+/// The transforms that stand under `updateTransforms`.
+fn transforms_part(
+    alloc: Global,
+    setting: &Setting<'_>,
+    tree: &Tree<'_>,
+) -> Result<Option<Part>, NoMemory>
+    ensures { IfBuilt result (λ part.
+        StandsFor (value_view tree.now) (IsPart setting.now (codes "updateTransforms") part)) }
+{
+    let Some(transforms) = plain_transforms(alloc, setting, tree)? else {
+        return Ok(None);
+    };
+    Ok(Some(Part::Transforms(transforms)))
+}
+
 /// The precondition that stands under `currentDocument`.
 fn condition_part(tree: &Tree<'_>) -> Option<Part>
     ensures { (o : Origin) → IfSome result (λ part.
@@ -72,6 +89,7 @@ pub(crate) fn plain_part(
     match name {
         "update" => plain_update(alloc, setting, tree),
         "updateMask" => mask_part(alloc, tree),
+        "updateTransforms" => transforms_part(alloc, setting, tree),
         "currentDocument" => Ok(condition_part(tree)),
         _ => Ok(None),
     }
@@ -82,6 +100,7 @@ pub(crate) fn plain_part(
 pub(crate) struct Parts {
     pub(crate) update: Option<Updated>,
     pub(crate) mask: Option<Mask>,
+    pub(crate) transforms: Option<Transforms>,
     pub(crate) condition: Precondition,
 }
 
@@ -102,6 +121,12 @@ impl Parts {
                     return false;
                 }
                 self.mask = Some(mask);
+            }
+            Part::Transforms(transforms) => {
+                if self.transforms.is_some() {
+                    return false;
+                }
+                self.transforms = Some(transforms);
             }
             Part::Condition(condition) => {
                 let Precondition::Free = self.condition else {

@@ -70,7 +70,7 @@ pub(crate) fn only_member<'t, 'a>(tree: &'t Tree<'a>) -> Option<Member<'t, 'a>>
 }
 
 /// The two members of an object of two, as they stand in the text.
-fn both_members<'t, 'a>(tree: &'t Tree<'a>) -> Option<(Member<'t, 'a>, Member<'t, 'a>)>
+pub(crate) fn both_members<'t, 'a>(tree: &'t Tree<'a>) -> Option<(Member<'t, 'a>, Member<'t, 'a>)>
     ensures { IfSome result (λ both. value_view tree.now ≡ object
         (member both.0.name.now (value_view both.0.tree.now)
         (member both.1.name.now (value_view both.1.tree.now) no_members))) }

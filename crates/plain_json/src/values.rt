@@ -89,7 +89,7 @@ fn plain_array(
 
 /// The values of a list.
 #[cycle(plain)]
-fn plain_values(
+pub(crate) fn plain_values(
     alloc: Global,
     setting: &Setting<'_>,
     limit: u64,

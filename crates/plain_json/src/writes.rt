@@ -1,7 +1,7 @@
 //! Writes, and the lists of them.
 
 ghost use Rattle.json.specs.Value.{value_view};
-ghost use Rattle.std.specs.Prelude.{Some};
+ghost use Rattle.std.specs.Prelude.{◌≡◌, Some};
 ghost use Rattle.std.specs.List.{All};
 ghost use Rattle.json_model.specs.declared.place.Object.TheVariants as objects;
 ghost use Rattle.json_model.specs.declared.place.Place.TheVariants as places;
@@ -11,7 +11,7 @@ ghost use Rattle.json_model.specs.Forms.{SpellsEach};
 ghost use Rattle.json_rpc.specs.Grammar.{SpellsWrite};
 ghost use Rattle.json_rpc.specs.Storable.{IsStorableWrite};
 ghost use Rattle.plain_json.specs.Built.{IfBuilt};
-ghost use Rattle.plain_json.specs.Parts.{HasParts};
+ghost use Rattle.plain_json.specs.Parts.{HasParts, transforms_of};
 ghost use Rattle.plain_json.specs.Trees.{IsBuiltOf, StandsFor};
 
 use crate::deletes::plain_delete;
@@ -40,6 +40,7 @@ fn plain_parts(
     let mut parts = Parts {
         update: None,
         mask: None,
+        transforms: None,
         condition: Precondition::Free,
     };
     for member in members {
@@ -51,6 +52,16 @@ fn plain_parts(
         }
     }
     Ok(Some(parts))
+}
+
+/// The transforms that are there.
+fn transforms_or_none(alloc: Global, transforms: Option<Transforms>) -> Transforms
+    ensures { result ≡ transforms_of transforms }
+{
+    match transforms {
+        Some(transforms) => transforms,
+        None => Transforms::from_vec(Vec::new(alloc)),
+    }
 }
 
 /// The write that an update spells.
@@ -69,6 +80,7 @@ fn update_write(
     let Parts {
         update,
         mask,
+        transforms,
         condition,
     } = parts;
     let Some(Updated { key, fields }) = update else {
@@ -78,7 +90,7 @@ fn update_write(
         key,
         fields,
         mask,
-        transforms: Transforms::from_vec(Vec::new(alloc)),
+        transforms: transforms_or_none(alloc, transforms),
         condition,
     }))
 }
@@ -99,9 +111,10 @@ fn plain_write(
     Ok(Some(write))
 }
 
-/// The writes that a list of at most 500 spells, where each is a delete that nothing but a precondition stands beside, or an update
-/// of a document that has just its name and fields of the form of `plain_fields`, and nothing stands beside it but a mask, whose
-/// list is given, and a precondition. Then the list has no fault. Else none, which says nothing of the list.
+/// The writes that a list of at most 500 spells, where each is a delete that nothing but a precondition stands beside, or an
+/// update of a document that has just its name and fields of the form of `plain_fields`, and nothing stands beside it but a mask,
+/// whose list is given, transforms, and a precondition. Each transform has just its path and its change, an operand is a whole
+/// number in a text, and the list of elements is given. Then the list has no fault. Else none, which says nothing of the list.
 ///
 /// # Errors
 /// `NoMemory`

@@ -1,4 +1,4 @@
-use Rattle.std.proofs.Common.{rules, ◌≡◌, ◌≤◌, length, ap, ◌∙◌, arith}
+use Rattle.std.proofs.Common.{rules, ◌≡◌, ◌≤◌, length, ap, ◌∙◌}
 use Rattle.json.specs.Json.{string}
 use Rattle.json.specs.Value.{value_view}
 use Rattle.json.specs.declared.value.Value.{String, the_lemmas}

@@ -1,4 +1,4 @@
-use Rattle.std.proofs.Common.{rules, ap, ◌∙◌}
+use Rattle.std.proofs.Common.{ap, ◌∙◌}
 use Rattle.json.specs.Value.{value_view}
 use Rattle.json.proofs.Trees.{view-Array}
 use Rattle.plain_json.proofs.Lists.{none_each, more_each, all_each}
